@@ -1,3 +1,4 @@
-pub mod Columns
+pub mod Climbing
+pub mod Leading
 pub mod Standing
 pub mod Adjacent

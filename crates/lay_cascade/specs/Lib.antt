@@ -2,4 +2,5 @@ pub mod NodeNames
 pub mod Siblings
 pub mod LastChildren
 pub mod Matching
+pub mod Rising
 pub mod Specificity

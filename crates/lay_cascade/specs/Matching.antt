@@ -1,14 +1,14 @@
 -- Which nodes a selector matches (CSS 2.2, 5.5 to 5.7).
 -- The first step asks for a node, and each step behind it for a node that stands to the one before as its joint says.
 -- A selector matches the node that its last step comes to.
-use Rattle.std.specs.Prelude.{ℕ, ◌≡◌, ◌<◌, Bool, true, false, List, [], ◌∷◌, reverse, length, slice_index, slice_index_or, Option, Some, None}
+use Rattle.std.specs.Prelude.{ℕ, ◌≡◌, ◌<◌, Bool, true, false, List, [], ◌∷◌, reverse, slice_index}
 use Rattle.lay_doc.specs.declared.node.Node.{Node}
 use Rattle.lay_doc.specs.Document.{parents_of}
 use Rattle.lay_doc.specs.Tree.{IsUnder}
 use Rattle.lay_sheet.specs.declared.selector.Joint.{Joint}
 use Rattle.lay_sheet.specs.declared.selector.Joint.TheVariants.{Same, Descendant, Child, Adjacent}
 use Rattle.lay_sheet.specs.declared.selector.Step.{Step}
-use Rattle.lay_cascade.specs.declared.names.Names.{Names}
+use Rattle.lay_names.specs.declared.names.Names.{Names}
 use Rattle.lay_cascade.specs.NodeNames.{fits_at}
 use Rattle.lay_cascade.specs.Siblings.{IsAdjacent}
 
@@ -29,17 +29,7 @@ pub data Matches (nodes : List Node) (names : List Names) : List Step → ℕ �
 abbrev pub IsMatched : List Node → List Names → List Step → ℕ → Type 0
 IsMatched nodes names selector k = Matches nodes names (reverse selector) k
 
--- a truth value for each of the first n nodes says whether this holds of it
-pub record Tells (n : ℕ) (holds : ℕ → Type 0) (column : List Bool) : Type 0 where
-  pub count : length column ≡ n
-  pub yes : (k : ℕ) → k < n → slice_index_or column k false ≡ true → holds k
-  pub no : (k : ℕ) → k < n → holds k → slice_index_or column k false ≡ true
-
--- whether a column tells of the node at this place, where there is one
-abbrev pub told_at : List Bool → Option ℕ → Bool
-told_at column None = false
-told_at column (Some m) = slice_index_or column m false
-
--- the node at k stands as a joint says to one that a column tells of
-abbrev pub StandsToOne : List Node → List Bool → Joint → ℕ → Type 0
-StandsToOne nodes column joint k = (m : ℕ) × (m < length nodes) × (slice_index_or column m false ≡ true) × Stands nodes joint m k
+-- a truth value says whether something holds
+pub record Says (b : Bool) (Holds : Type 0) : Type 0 where
+  pub yes : b ≡ true → Holds
+  pub no : b ≡ false → Holds → ⊥

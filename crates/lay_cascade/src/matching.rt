@@ -1,107 +1,36 @@
-//! Which nodes a selector matches.
+//! Whether a selector matches a node.
 
-ghost use Rattle.std.specs.Prelude.{◌≡◌, ◌<◌, ◌&&◌, ◌||◌, [], ◌∷◌, ℕ, Some, None, false, IfOk, List, length, nat_lt, slice_index, slice_index_or};
-ghost use Rattle.lay_sheet.specs.declared.selector.Step.{Step as StepValue};
-ghost use Rattle.lay_doc.specs.Document.{parents_of};
-ghost use Rattle.lay_doc.specs.Tree.{IsTree};
-ghost use Rattle.lay_cascade.specs.NodeNames.{fits_at};
-ghost use Rattle.lay_cascade.specs.Siblings.{AreAdjacent};
-ghost use Rattle.lay_cascade.specs.Matching.{Matches, IsMatched, Tells, StandsToOne, told_at};
+ghost use Rattle.std.specs.Prelude.{◌≡◌, ◌≢◌, ◌<◌, ◌∷◌, ◌↔◌, ℕ, [], Some, None, IfOk, OnOk, length, slice_index, slice_index_or};
+ghost use Rattle.lay_cascade.specs.Matching.{Stands, IsMatched, Says};
+ghost use Rattle.lay_cascade.specs.Rising.{IsNamed, AreWithin, IsRising, AreBefore, with_fitting};
 
-use crate::names::{Names, fits_at};
-use crate::siblings::adjacent_of;
-use lay_doc::{Doc, Node, parent_at};
-use lay_sheet::{Joint, Selector, Simple, Step};
+use crate::names::fits_at;
+use lay_doc::{Node, parent_at};
+use lay_names::Names;
+use lay_sheet::{Joint, Simple, Step};
 use lay_units::NoMemory;
 use std::alloc::Global;
 
-/// A document's nodes with their names, and the place of the sibling before each.
+/// A document's nodes with what they are called, and the place of the sibling before each that isn't a text.
 #[derive(Clone, Copy)]
-struct Named<'a> {
-    nodes: &'a [Node],
-    names: &'a [Names],
-    adjacent: &'a [Option<usize>],
+pub struct Named<'a> {
+    pub nodes: &'a [Node],
+    pub names: &'a [Names],
+    pub adjacent: &'a [Option<usize>],
 }
 
-/// Whether the parent of the node at a place is one that a column tells of.
-fn is_child(nodes: &[Node], column: &[bool], place: usize) -> bool
-    requires tree { IsTree (parents_of nodes.now) }
-    requires place { place < length nodes.now }
-    requires count { length column.now ≡ length nodes.now }
-    ensures { result ≡ (nat_lt 0 place && slice_index_or column.now (slice_index (parents_of nodes.now) place) false) }
-{
-    place > 0 && column[parent_at(nodes, place)]
-}
-
-/// Whether the parent of the node at a place is one that a column tells of, or stands in one.
-fn is_descendant(nodes: &[Node], column: &[bool], inside: &[bool], place: usize) -> bool
-    requires tree { IsTree (parents_of nodes.now) }
-    requires place { place < length nodes.now }
-    requires count { length column.now ≡ length nodes.now }
-    requires so_far { length inside.now ≡ place }
-    ensures { result ≡ (nat_lt 0 place && (slice_index_or column.now (slice_index (parents_of nodes.now) place) false
-        || slice_index_or inside.now (slice_index (parents_of nodes.now) place) false)) }
+/// The parent of the node at a place; the root has none.
+fn parent_of(nodes: &[Node], place: usize) -> Option<usize>
+    requires { place < length nodes.now }
+    ensures { (m : ℕ) → (result ≡ Some m) ↔ Stands nodes.now Joint.Child m place }
 {
     if place == 0 {
-        return false;
+        return None;
     }
-    let parent = parent_at(nodes, place);
-    column[parent] || inside[parent]
+    Some(parent_at(nodes, place))
 }
 
-/// Whether a column tells of the node at this place, where there is one.
-fn is_told(column: &[bool], place: Option<usize>) -> bool
-    requires { (m : ℕ) → place ≡ Some m → m < length column.now }
-    ensures { result ≡ told_at column.now place }
-{
-    match place {
-        None => false,
-        Some(m) => column[m],
-    }
-}
-
-/// The nodes that are children of those that a column tells of.
-fn children_of(alloc: Global, nodes: &[Node], column: &[bool]) -> Result<Vec<bool>, NoMemory>
-    requires tree { IsTree (parents_of nodes.now) }
-    requires count { length column.now ≡ length nodes.now }
-    ensures { IfOk result (λ v. Tells (length nodes.now) (StandsToOne nodes.now column.now Joint.Child) v.items) }
-{
-    let mut children = Vec::new(alloc);
-    for k in 0..nodes.len() {
-        children.push(is_child(nodes, column, k))?;
-    }
-    Ok(children)
-}
-
-/// The nodes that stand in those that a column tells of.
-fn descendants_of(alloc: Global, nodes: &[Node], column: &[bool]) -> Result<Vec<bool>, NoMemory>
-    requires tree { IsTree (parents_of nodes.now) }
-    requires count { length column.now ≡ length nodes.now }
-    ensures { IfOk result (λ v. Tells (length nodes.now) (StandsToOne nodes.now column.now Joint.Descendant) v.items) }
-{
-    let mut descendants = Vec::new(alloc);
-    for k in 0..nodes.len() {
-        let descendant = is_descendant(nodes, column, descendants.as_slice(), k);
-        descendants.push(descendant)?;
-    }
-    Ok(descendants)
-}
-
-/// The nodes behind those that a column tells of.
-fn followers_of(alloc: Global, named: Named<'_>, column: &[bool]) -> Result<Vec<bool>, NoMemory>
-    requires adjacent { AreAdjacent named.nodes.now named.adjacent.now }
-    requires count { length column.now ≡ length named.nodes.now }
-    ensures { IfOk result (λ v. Tells (length named.entry.nodes.now)
-        (StandsToOne named.entry.nodes.now column.now Joint.Adjacent) v.items) }
-{
-    let mut followers = Vec::new(alloc);
-    for k in 0..named.nodes.len() {
-        let before = adjacent_to(named.adjacent, k);
-        followers.push(is_told(column, before))?;
-    }
-    Ok(followers)
-}
-
+/// The sibling before the node at a place.
 fn adjacent_to(adjacent: &[Option<usize>], place: usize) -> Option<usize>
     requires { place < length adjacent.now }
     ensures { result ≡ slice_index_or adjacent.now place None }
@@ -109,140 +38,146 @@ fn adjacent_to(adjacent: &[Option<usize>], place: usize) -> Option<usize>
     adjacent[place]
 }
 
-/// The nodes that stand as a joint says to one that a column tells of.
-fn standing(
-    alloc: Global,
-    named: Named<'_>,
-    joint: Joint,
-    column: Vec<bool>,
-) -> Result<Vec<bool>, NoMemory>
-    requires tree { IsTree (parents_of named.nodes.now) }
-    requires adjacent { AreAdjacent named.nodes.now named.adjacent.now }
-    requires count { length column.items ≡ length named.nodes.now }
-    ensures { IfOk result (λ v. Tells (length named.entry.nodes.now) (StandsToOne named.entry.nodes.now column.items joint) v.items) }
+/// The one node to which the node at a place stands as a joint says. There may be many that it is a descendant of.
+fn before(named: Named<'_>, joint: Joint, place: usize) -> Option<usize>
+    requires named { IsNamed named.nodes.now named.names.now named.adjacent.now }
+    requires place { place < length named.nodes.now }
+    requires one { joint ≢ Joint.Descendant }
+    ensures { (m : ℕ) → (result ≡ Some m) ↔ Stands named.entry.nodes.now joint m place }
 {
     match joint {
-        Joint::Same => Ok(column),
-        Joint::Descendant => descendants_of(alloc, named.nodes, column.as_slice()),
-        Joint::Child => children_of(alloc, named.nodes, column.as_slice()),
-        Joint::Adjacent => followers_of(alloc, named, column.as_slice()),
+        Joint::Same => Some(place),
+        Joint::Child => parent_of(named.nodes, place),
+        Joint::Adjacent => adjacent_to(named.adjacent, place),
+        Joint::Descendant => None,
     }
 }
 
-/// Of the nodes that a column tells of those that fit a simple selector.
-fn fitting(
-    alloc: Global,
+/// Adds a node, where there is one that fits a simple selector.
+fn push_fitting(
     names: &[Names],
-    column: &[bool],
+    found: &mut Vec<usize>,
+    place: Option<usize>,
     simple: &Simple,
-) -> Result<Vec<bool>, NoMemory>
-    requires { length column.now ≡ length names.now }
-    ensures count { IfOk result (λ v. length v.items ≡ length names.now) }
-    ensures each { IfOk result (λ v. (k : ℕ) → k < length names.now
-        → slice_index_or v.items k false ≡ (slice_index_or column.now k false && fits_at names.now k simple.now)) }
+) -> Result<(), NoMemory>
+    requires { (m : ℕ) → place ≡ Some m → m < length names.now }
+    ensures { OnOk result (found.new.items ≡ with_fitting names.now found.old.items place simple.now) }
 {
-    let mut fitting = Vec::new(alloc);
-    for k in 0..names.len() {
-        fitting.push(column[k] && fits_at(names, k, simple))?;
+    match place {
+        Some(m) if fits_at(names, m, simple) => found.push(m)?,
+        _ => {}
     }
-    Ok(fitting)
+    Ok(())
 }
 
-/// The nodes that fit a simple selector.
-fn all_fitting(alloc: Global, names: &[Names], simple: &Simple) -> Result<Vec<bool>, NoMemory>
-    ensures count { IfOk result (λ v. length v.items ≡ length names.now) }
-    ensures each { IfOk result (λ v. (k : ℕ) → k < length names.now → slice_index_or v.items k false ≡ fits_at names.now k simple.now) }
+fn place_at(places: &[usize], k: usize) -> usize
+    requires { k < length places.now }
+    ensures { result ≡ slice_index places.now k }
 {
-    let mut fitting = Vec::new(alloc);
-    for k in 0..names.len() {
-        fitting.push(fits_at(names, k, simple))?;
-    }
-    Ok(fitting)
+    places[k]
 }
 
-/// The nodes that a first step matches.
-fn first_matched(alloc: Global, named: Named<'_>, step: &Step) -> Result<Vec<bool>, NoMemory>
-    requires { length named.names.now ≡ length named.nodes.now }
-    ensures { IfOk result (λ v. Tells (length named.entry.nodes.now)
-        (Matches named.entry.nodes.now named.entry.names.now (step.now ∷ [])) v.items) }
-{
-    let fitting = all_fitting(alloc, named.names, &step.simple)?;
-    Ok(fitting)
-}
-
-/// The nodes that steps match with one more behind them.
-fn next_matched(
+/// Of the nodes to which one of these stands as a joint says those that fit a simple selector.
+fn each_before(
     alloc: Global,
     named: Named<'_>,
-    column: Vec<bool>,
-    step: &Step,
-) -> Result<Vec<bool>, NoMemory>
-    requires tree { IsTree (parents_of named.nodes.now) }
-    requires adjacent { AreAdjacent named.nodes.now named.adjacent.now }
-    requires names { length named.names.now ≡ length named.nodes.now }
-    requires count { length column.items ≡ length named.nodes.now }
-    ensures { IfOk result (λ v. (before : List StepValue) → 0 < length before
-        → Tells (length named.entry.nodes.now) (Matches named.entry.nodes.now named.entry.names.now before) column.items
-        → Tells (length named.entry.nodes.now) (Matches named.entry.nodes.now named.entry.names.now (step.now ∷ before)) v.items) }
+    places: &[usize],
+    joint: Joint,
+    simple: &Simple,
+) -> Result<Vec<usize>, NoMemory>
+    requires named { IsNamed named.nodes.now named.names.now named.adjacent.now }
+    requires within { AreWithin (length named.nodes.now) places.now }
+    requires rising { IsRising named.nodes.now places.now }
+    requires one { joint ≢ Joint.Descendant }
+    ensures { IfOk result (λ v. AreBefore named.entry.nodes.now named.entry.names.now places.now joint simple.now v.items) }
 {
-    let related = standing(alloc, named, step.joint, column)?;
-    let matched = fitting(alloc, named.names, related.as_slice(), &step.simple)?;
-    Ok(matched)
-}
-
-/// No node, as a truth value for each.
-fn nobody(alloc: Global, named: Named<'_>) -> Result<Vec<bool>, NoMemory>
-    ensures { IfOk result (λ v. Tells (length named.entry.nodes.now) (Matches named.entry.nodes.now named.entry.names.now []) v.items) }
-{
-    let mut column = Vec::new(alloc);
-    for _k in 0..named.nodes.len() {
-        column.push(false)?;
+    let mut found = Vec::new(alloc);
+    for k in 0..places.len() {
+        let m = before(named, joint, place_at(places, k));
+        push_fitting(named.names, &mut found, m, simple)?;
     }
-    Ok(column)
+    Ok(found)
 }
 
-fn step_at(steps: &[Step], place: usize) -> &Step
-    requires { place < length steps.now }
-    ensures { result.now ≡ slice_index_or steps.now place result.now }
-{
-    &steps[place]
-}
-
-/// The nodes that a selector matches, as a truth value for each.
-fn matched(alloc: Global, named: Named<'_>, steps: &[Step]) -> Result<Vec<bool>, NoMemory>
-    requires tree { IsTree (parents_of named.nodes.now) }
-    requires adjacent { AreAdjacent named.nodes.now named.adjacent.now }
-    requires names { length named.names.now ≡ length named.nodes.now }
-    ensures { IfOk result (λ v. Tells (length named.entry.nodes.now)
-        (IsMatched named.entry.nodes.now named.entry.names.now steps.now) v.items) }
-{
-    if steps.is_empty() {
-        return nobody(alloc, named);
-    }
-    let mut column = first_matched(alloc, named, step_at(steps, 0))?;
-    for i in 1..steps.len() {
-        let next = next_matched(alloc, named, column, step_at(steps, i))?;
-        column = next;
-    }
-    Ok(column)
-}
-
-/// For each node of a document whether a selector matches it. There is one record of names a node.
-pub fn matches(
+/// Of the nodes that the node at a place stands in those that fit a simple selector, the nearest first.
+fn above(
     alloc: Global,
-    doc: &Doc,
-    names: &[Names],
-    selector: &Selector,
-) -> Result<Vec<bool>, NoMemory>
-    requires { length names.now ≡ length doc.now.nodes }
-    ensures { IfOk result (λ v. Tells (length doc.now.nodes) (IsMatched doc.now.nodes names.now selector.now) v.items) }
+    named: Named<'_>,
+    place: usize,
+    simple: &Simple,
+) -> Result<Vec<usize>, NoMemory>
+    requires named { IsNamed named.nodes.now named.names.now named.adjacent.now }
+    requires place { place < length named.nodes.now }
+    ensures { IfOk result (λ v. AreBefore named.entry.nodes.now named.entry.names.now (place ∷ []) Joint.Descendant simple.now v.items) }
 {
-    let nodes = doc.nodes();
-    let adjacent = adjacent_of(alloc, nodes)?;
-    let named = Named {
-        nodes,
-        names,
-        adjacent: adjacent.as_slice(),
+    let mut found = Vec::new(alloc);
+    let mut at = place;
+    while at > 0 {
+        at = parent_at(named.nodes, at);
+        push_fitting(named.names, &mut found, Some(at), simple)?;
+    }
+    Ok(found)
+}
+
+/// Of the nodes to which one of these stands as a joint says those that fit a simple selector. What the later of these stand
+/// in, the first stands in too.
+fn all_before(
+    alloc: Global,
+    named: Named<'_>,
+    places: &[usize],
+    joint: Joint,
+    simple: &Simple,
+) -> Result<Vec<usize>, NoMemory>
+    requires named { IsNamed named.nodes.now named.names.now named.adjacent.now }
+    requires within { AreWithin (length named.nodes.now) places.now }
+    requires rising { IsRising named.nodes.now places.now }
+    requires some { 0 < length places.now }
+    ensures { IfOk result (λ v. AreBefore named.entry.nodes.now named.entry.names.now places.now joint simple.now v.items) }
+{
+    match joint {
+        Joint::Descendant => above(alloc, named, place_at(places, 0), simple),
+        _ => each_before(alloc, named, places, joint, simple),
+    }
+}
+
+fn step_at(steps: &[Step], k: usize) -> &Step
+    requires { k < length steps.now }
+    ensures { result.now ≡ slice_index_or steps.now k result.now }
+{
+    &steps[k]
+}
+
+/// Whether a selector, by its steps, matches the node at a place. It is read from its last step on: the nodes that the
+/// steps before can come to are those that the steps behind lead on from.
+pub fn is_matched(
+    alloc: Global,
+    named: Named<'_>,
+    place: usize,
+    steps: &[Step],
+) -> Result<bool, NoMemory>
+    requires named { IsNamed named.nodes.now named.names.now named.adjacent.now }
+    requires place { place < length named.nodes.now }
+    ensures { IfOk result (λ b. Says b (IsMatched named.entry.nodes.now named.entry.names.now steps.now place)) }
+{
+    let Some(last) = steps.len().checked_sub(1) else {
+        return Ok(false);
     };
-    matched(alloc, named, selector.as_slice())
+    let mut places = Vec::new(alloc);
+    push_fitting(
+        named.names,
+        &mut places,
+        Some(place),
+        &step_at(steps, last).simple,
+    )?;
+    for done in 0..last {
+        if places.is_empty() {
+            return Ok(false);
+        }
+        let rest = last - done;
+        let joint = step_at(steps, rest).joint;
+        let simple = &step_at(steps, rest - 1).simple;
+        let next = all_before(alloc, named, places.as_slice(), joint, simple)?;
+        places = next;
+    }
+    Ok(!places.is_empty())
 }

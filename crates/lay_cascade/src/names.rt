@@ -1,51 +1,13 @@
-//! What nodes are called.
+//! What a simple selector asks of a node's names.
 
 ghost use Rattle.std.specs.Prelude.{◌≡◌, ◌<◌, length};
 ghost use Rattle.std.specs.List.{list_any};
 ghost use Rattle.std.specs.Str.{bytes_eq};
 ghost use Rattle.lay_cascade.specs.NodeNames.{fits, fits_at};
 
+use lay_names::Names;
 use lay_sheet::{Name, Simple};
 use lay_units::Text;
-use std::marker::Model;
-
-/// Texts, in order.
-#[derive(Drop)]
-pub struct TextList {
-    items: Vec<Text>,
-}
-
-impl Model for TextList {
-    ghost use Rattle.std.specs.Prelude.{List, ℕ};
-
-    ghost Value = { List (List ℕ) };
-
-    ghost view = { λ l. l.items.items };
-}
-
-impl TextList {
-    /// The list of these texts, which is taken over without a copy.
-    pub fn new(items: Vec<Text>) -> TextList
-        ensures { result ≡ items.items }
-    {
-        TextList { items }
-    }
-
-    /// The texts, in order.
-    pub fn as_slice(&self) -> &[Text]
-        ensures { result.now ≡ self.now }
-    {
-        self.items.as_slice()
-    }
-}
-
-/// What a node is called. Where it has no tag or no label, the text is empty.
-#[derive(Drop)]
-pub struct Names {
-    pub tag: Text,
-    pub label: Text,
-    pub classes: TextList,
-}
 
 fn is_named(text: &Text, name: &Name) -> bool
     ensures { result ≡ bytes_eq text.now name.now }

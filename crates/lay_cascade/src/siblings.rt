@@ -51,7 +51,7 @@ fn none_last(alloc: Global, nodes: &[Node]) -> Result<Vec<Option<usize>>, NoMemo
 }
 
 /// For each node the place of the nearest sibling before it that isn't a text.
-pub(crate) fn adjacent_of(alloc: Global, nodes: &[Node]) -> Result<Vec<Option<usize>>, NoMemory>
+pub fn adjacent_of(alloc: Global, nodes: &[Node]) -> Result<Vec<Option<usize>>, NoMemory>
     requires { IsTree (parents_of nodes.now) }
     ensures { IfOk result (λ v. AreAdjacent nodes.now v.items) }
 {

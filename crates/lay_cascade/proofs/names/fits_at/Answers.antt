@@ -2,7 +2,7 @@ use Rattle.std.proofs.Common.{◌≡◌, ◌∙◌, ap, rules, arith}
 use Rattle.std.specs.Prelude.{slice_index_or}
 use Rattle.std.proofs.lemmas.Grind.{common_steps}
 use Rattle.lay_cascade.specs.NodeNames.{fits}
-use Rattle.lay_cascade.proofs.Standing.{fits_read}
+use Rattle.lay_cascade.proofs.Climbing.{fits_read}
 use Rattle.lay_cascade.proofs.names.fits_at.Goals as goal
 
 pub returns : goal.returns

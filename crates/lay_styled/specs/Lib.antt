@@ -1,0 +1,7 @@
+pub mod Weights
+pub mod Winners
+pub mod Index
+pub mod Cascade
+pub mod Seen
+pub mod Taken
+pub mod Laws

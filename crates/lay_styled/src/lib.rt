@@ -1,0 +1,20 @@
+//! The cascade: what the nodes of a document declare by a style sheet and by themselves (CSS 2.2, 6.4).
+//!
+//! The contract of `styled` cites `IsCascaded` of `specs/Cascade.antt`: for each node and property the sheet's declaration of
+//! the greatest weight, which yields to the node's own unless it is important. The law `styled_declares` says the same of the
+//! greatest of all declarations that a node may have, its own among them, and `one_styled` that it is one document.
+#![tactic(auto)]
+
+mod candidates;
+mod entry;
+mod laws;
+mod nodes;
+mod selector_index;
+mod styled;
+mod weight;
+
+pub use candidates::Candidate;
+pub use entry::Entry;
+pub use laws::{one_styled, styled_declares};
+pub use styled::styled;
+pub use weight::Weight;

@@ -1,0 +1,163 @@
+//! What a node takes of a sheet.
+
+ghost use Rattle.std.specs.Prelude.{◌≡◌, ◌<◌, ◌++◌, ◌∷◌, [], false, Some, List, IfOk, OnOk, length, slice_index_or};
+ghost use Rattle.lay_doc.specs.Document.{is_text_at};
+ghost use Rattle.std.specs.List.{slice_get};
+ghost use Rattle.lay_sheet.specs.declared.selector.Step.{Step as StepValue};
+ghost use Rattle.lay_cascade.specs.Rising.{IsNamed};
+ghost use Rattle.lay_cascade.specs.Specificity.{specificity_of};
+ghost use Rattle.lay_styled.specs.declared.entry.Entry.{Entry as EntryValue};
+ghost use Rattle.lay_styled.specs.Index.{listed, of_classes, IsIndexed};
+ghost use Rattle.lay_styled.specs.Cascade.{AreWinners};
+ghost use Rattle.lay_styled.specs.Seen.{AreWinnersOf};
+
+use crate::candidates::{Candidate, no_winners, take_all};
+use crate::entry::Entry;
+use crate::selector_index::{SelectorIndex, rule_at, steps_at};
+use lay_cascade::{Named, Specificity, is_matched, specificity_of};
+use lay_names::Names;
+use lay_sheet::Rule;
+use lay_units::{NoMemory, Text};
+use std::alloc::Global;
+
+/// A document's nodes with their names, and a sheet with its selectors by names.
+#[derive(Clone, Copy)]
+pub(crate) struct Cascade<'a> {
+    pub named: Named<'a>,
+    pub rules: &'a [Rule],
+    pub index: &'a SelectorIndex,
+}
+
+/// The specificity of a rule set's selector at a place.
+fn specificity_at(rule: &Rule, s: usize) -> Specificity
+    requires { s < length rule.now.selectors }
+    ensures { (selector : List StepValue) → slice_get rule.now.selectors s ≡ Some selector → result ≡ specificity_of selector }
+{
+    specificity_of(&rule.selectors()[s])
+}
+
+/// Takes the declarations of a selector's rule set, where the selector matches the node at a place.
+fn take_entry(
+    alloc: Global,
+    cascade: Cascade<'_>,
+    k: usize,
+    entry: Entry,
+    winners: &mut Vec<Option<Candidate>>,
+) -> Result<(), NoMemory>
+    requires named { IsNamed cascade.named.nodes.now cascade.named.names.now cascade.named.adjacent.now }
+    requires place { k < length cascade.named.nodes.now }
+    requires no_text { is_text_at cascade.named.nodes.now k ≡ false }
+    requires count { length winners.old.items ≡ 46 }
+    ensures winners { OnOk result ((seen : List EntryValue) → AreWinnersOf cascade.entry.rules.now cascade.entry.named.nodes.now cascade.entry.named.names.now k seen winners.old.items
+        → AreWinnersOf cascade.entry.rules.now cascade.entry.named.nodes.now cascade.entry.named.names.now k (seen ++ entry ∷ []) winners.new.items) }
+    ensures count { OnOk result (length winners.new.items ≡ 46) }
+{
+    if entry.rule >= cascade.rules.len() {
+        return Ok(());
+    }
+    let rule = rule_at(cascade.rules, entry.rule);
+    if entry.selector >= rule.selectors().len() {
+        return Ok(());
+    }
+    let steps = steps_at(rule, entry.selector);
+    if is_matched(alloc, cascade.named, k, steps)? {
+        take_all(
+            winners,
+            specificity_at(rule, entry.selector),
+            entry.rule,
+            rule.decls(),
+        );
+    }
+    Ok(())
+}
+
+fn entry_at(entries: &[Entry], i: usize) -> Entry
+    requires { i < length entries.now }
+    ensures { result ≡ slice_index_or entries.now i result }
+{
+    entries[i]
+}
+
+/// The same for selectors one after the other.
+fn take_entries(
+    alloc: Global,
+    cascade: Cascade<'_>,
+    k: usize,
+    entries: &[Entry],
+    winners: &mut Vec<Option<Candidate>>,
+) -> Result<(), NoMemory>
+    requires named { IsNamed cascade.named.nodes.now cascade.named.names.now cascade.named.adjacent.now }
+    requires place { k < length cascade.named.nodes.now }
+    requires no_text { is_text_at cascade.named.nodes.now k ≡ false }
+    requires count { length winners.old.items ≡ 46 }
+    ensures winners { OnOk result ((seen : List EntryValue) → AreWinnersOf cascade.entry.rules.now cascade.entry.named.nodes.now cascade.entry.named.names.now k seen winners.old.items
+        → AreWinnersOf cascade.entry.rules.now cascade.entry.named.nodes.now cascade.entry.named.names.now k (seen ++ entries.now) winners.new.items) }
+    ensures count { OnOk result (length winners.new.items ≡ 46) }
+{
+    for i in 0..entries.len() {
+        take_entry(alloc, cascade, k, entry_at(entries, i), winners)?;
+    }
+    Ok(())
+}
+
+fn class_at(classes: &[Text], i: usize) -> &[u8]
+    requires { i < length classes.now }
+    ensures { result.now ≡ slice_index_or classes.now i result.now }
+{
+    classes[i].as_str().as_bytes()
+}
+
+/// The same for the selectors that the classes of a node are looked up for.
+fn take_classes(
+    alloc: Global,
+    cascade: Cascade<'_>,
+    k: usize,
+    classes: &[Text],
+    winners: &mut Vec<Option<Candidate>>,
+) -> Result<(), NoMemory>
+    requires named { IsNamed cascade.named.nodes.now cascade.named.names.now cascade.named.adjacent.now }
+    requires place { k < length cascade.named.nodes.now }
+    requires no_text { is_text_at cascade.named.nodes.now k ≡ false }
+    requires index { length cascade.index.now.by_name.items ≡ 4096 }
+    requires count { length winners.old.items ≡ 46 }
+    ensures winners { OnOk result ((seen : List EntryValue) → AreWinnersOf cascade.entry.rules.now cascade.entry.named.nodes.now cascade.entry.named.names.now k seen winners.old.items
+        → AreWinnersOf cascade.entry.rules.now cascade.entry.named.nodes.now cascade.entry.named.names.now k
+        (seen ++ of_classes cascade.entry.index.now.by_name.items cascade.entry.index.now.rest classes.now) winners.new.items) }
+    ensures count { OnOk result (length winners.new.items ≡ 46) }
+{
+    for i in 0..classes.len() {
+        let entries = cascade.index.named(class_at(classes, i));
+        take_entries(alloc, cascade, k, entries, winners)?;
+    }
+    Ok(())
+}
+
+fn names_at(names: &[Names], k: usize) -> &Names
+    requires { k < length names.now }
+    ensures { result.now ≡ slice_index_or names.now k result.now }
+{
+    &names[k]
+}
+
+/// The greatest declarations of the sheet for the node at a place, which is no text.
+pub(crate) fn winners_at(
+    alloc: Global,
+    cascade: Cascade<'_>,
+    k: usize,
+) -> Result<Vec<Option<Candidate>>, NoMemory>
+    requires named { IsNamed cascade.named.nodes.now cascade.named.names.now cascade.named.adjacent.now }
+    requires place { k < length cascade.named.nodes.now }
+    requires no_text { is_text_at cascade.named.nodes.now k ≡ false }
+    requires index { IsIndexed cascade.rules.now cascade.index.now.by_name.items cascade.index.now.rest }
+    ensures { IfOk result (λ v. AreWinners cascade.entry.rules.now cascade.entry.named.nodes.now cascade.entry.named.names.now k v.items) }
+{
+    let mut winners = no_winners(alloc)?;
+    let names = names_at(cascade.named.names, k);
+    let tagged = cascade.index.named(names.tag.as_str().as_bytes());
+    take_entries(alloc, cascade, k, tagged, &mut winners)?;
+    let labelled = cascade.index.named(names.label.as_str().as_bytes());
+    take_entries(alloc, cascade, k, labelled, &mut winners)?;
+    take_classes(alloc, cascade, k, names.classes.as_slice(), &mut winners)?;
+    take_entries(alloc, cascade, k, cascade.index.rest(), &mut winners)?;
+    Ok(winners)
+}
