@@ -90,7 +90,7 @@ takes_more w ws (suc k) (n ∷ ns) = ap (λ (r : List Node). n ∷ r) (takes_mor
 drop_one : (xs : List (Option Candidate)) (i : ℕ) (x : Option Candidate) → i < length xs → x ≡ slice_index_or xs i x → drop i xs ≡ x ∷ drop (i + 1) xs
 drop_one [] i x h is = absurd (omega (arith, h))
 drop_one (y ∷ ys) zero x h is = ap (λ z. z ∷ ys) (sym is)
-drop_one (y ∷ ys) (suc i) x h is = drop_one ys i x (omega (arith, h)) is
+drop_one (y ∷ ys) (suc i) x h is = let e : suc (i + 1) ≡ suc i + 1 = omega arith in drop_one ys i x (omega (arith, h)) is ∙ ap (λ z. x ∷ drop z (y ∷ ys)) e
 
 pub takes_nothing : (k : ℕ) (nodes : List Node) → changed_at k (takes []) nodes ≡ nodes
 takes_nothing k [] = refl
@@ -161,6 +161,12 @@ takes_nones i k [] = refl
 takes_nones i zero (n ∷ ns) = ap (λ ds. record n { decls = ds } ∷ ns) (settled_none i n.decls)
 takes_nones i (suc k) (n ∷ ns) = ap (λ (r : List Node). n ∷ r) (takes_nones i k ns)
 
+abbrev nobody : Option Candidate
+nobody = None
+
+none-some : (c : Candidate) → nobody ≡ Some c → ⊥
+none-some c e = absurd cc
+
 module _ (rules : List RuleValue) (nodes : List Node) (names : List Names) where
   pub cascaded_none : IsCascadedTo rules nodes names 0 nodes
   cascaded_none = record { winners = []; are = record { count = refl; each = λ k h. absurd (omega (arith, h)) }; is = refl }
@@ -195,11 +201,8 @@ module _ (rules : List RuleValue) (nodes : List Node) (names : List Names) where
   pub cascaded_text : (k : ℕ) (old : List Node) → k < length nodes → is_text_at nodes k ≡ true → IsCascadedTo rules nodes names k old → IsCascadedTo rules nodes names (k + 1) old
   cascaded_text k old h text was = cascaded_more k old old (replicate 46 None) h was nones (sym (takes_nones 46 k old))
     where
-      none-some : (c : Candidate) → None ≡ Some c → ⊥
-      none-some c e = absurd cc
-
-      at : (p : Property) → slice_index_or (replicate 46 None) (number_of p) None ≡ None
-      at p = get_or-replicate 46 (number_of p) None None (number_below p)
+      at : (p : Property) → slice_index_or (replicate 46 nobody) (number_of p) nobody ≡ nobody
+      at p = get_or-replicate 46 (number_of p) nobody nobody (number_below p)
 
       nones : AreWinners rules nodes names k (replicate 46 None)
       nones = record {
@@ -226,3 +229,10 @@ cascaded_all doc new rules names k count was width height = record {
   where
     same : new.nodes ≡ restyled was.winners doc.nodes → new ≡ record { width = doc.width; height = doc.height; nodes = restyled was.winners doc.nodes }
     same e = rw (← width, ← height, ← e) refl
+
+-- documents that differ in their nodes alone
+pub same_nodes : (d : Document) (ns : List Node) → ns ≡ d.nodes → d ≡ record d { nodes = ns }
+same_nodes d ns e = rw e refl
+
+pub with_nodes : (d e : Document) (ns : List Node) → d.width ≡ e.width → d.height ≡ e.height → d.nodes ≡ ns → d ≡ record e { nodes = ns }
+with_nodes d e ns w h n = rw (← w, ← h, ← n) refl
