@@ -1,6 +1,6 @@
 //! What the nodes of a document are called, in document order.
 
-ghost use Rattle.std.specs.Prelude.{◌≡◌, ◌<◌, ◌-◌, IfOk, length, take, replicate, slice_index_or};
+ghost use Rattle.std.specs.Prelude.{◌≡◌, ◌<◌, ◌-◌, IfOk, length, take, replicate, set, slice_index_or};
 ghost use Rattle.lay_doc.specs.Document.{IsDocument};
 ghost use Rattle.lay_input.specs.NamesByPlace.{no_names, names_by_place, IsNamedOne};
 
@@ -20,6 +20,13 @@ fn none_named(alloc: Global, count: usize) -> Result<Vec<Names>, NoMemory>
     Ok(named)
 }
 
+fn put_names(named: &mut Vec<Names>, place: usize, names: Names)
+    requires { place < length named.old.items }
+    ensures { named.new.items ≡ set named.old.items place names }
+{
+    named[place] = names;
+}
+
 /// Gives the names to the node with this id, where there is one.
 fn name_one(doc: &Doc, id: NodeId, names: Names, named: &mut Vec<Names>)
     requires valid { IsDocument doc.now }
@@ -27,10 +34,10 @@ fn name_one(doc: &Doc, id: NodeId, names: Names, named: &mut Vec<Names>)
     ensures count { length named.new.items ≡ length doc.now.nodes }
     ensures names { IsNamedOne doc.now.nodes id.0 names named.old.items named.new.items }
 {
-    let Some(place) = doc.find(id) else {
-        return;
-    };
-    named[place] = names;
+    match doc.find(id) {
+        Some(place) => put_names(named, place, names),
+        None => {}
+    }
 }
 
 fn id_at(listed: &[NodeId], i: usize) -> NodeId

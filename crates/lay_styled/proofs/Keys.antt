@@ -16,16 +16,16 @@ less_self (a ∷ xs) = same a a xs xs refl ∙ less_self xs
 
 -- what isn't greater than one isn't greater than a greater one
 pub less_chain : (xs ys zs : List ℕ) → is_less_key xs zs ≡ false → is_less_key xs ys ≡ true → is_less_key ys zs ≡ false
-less_chain [] ys zs no yes = absurd (false≢true yes)
-less_chain (a ∷ xs) [] zs no yes = absurd (false≢true yes)
-less_chain (a ∷ xs) (b ∷ ys) [] no yes = refl
-less_chain (a ∷ xs) (b ∷ ys) (c ∷ zs) no yes = of_cases (λ n t. less_chain xs ys zs n t) (cases_eq a b) (cases_eq b c)
+less_chain [] ys zs lower higher = absurd (false≢true higher)
+less_chain (a ∷ xs) [] zs lower higher = absurd (false≢true higher)
+less_chain (a ∷ xs) (b ∷ ys) [] lower higher = refl
+less_chain (a ∷ xs) (b ∷ ys) (c ∷ zs) lower higher = of_cases (λ n t. less_chain xs ys zs n t) (cases_eq a b) (cases_eq b c)
   where
     below : (a ≡ b → ⊥) → a < b
-    below ne = ltb-true a b (sym (other a b xs ys ne) ∙ yes)
+    below ne = ltb-true a b (sym (other a b xs ys ne) ∙ higher)
 
     not_below : (a ≡ c → ⊥) → c ≤ a
-    not_below ne = ltb-false a c (sym (other a c xs zs ne) ∙ no)
+    not_below ne = ltb-false a c (sym (other a c xs zs ne) ∙ lower)
 
     apart : (b ≡ c → ⊥) → c ≤ b → is_less_key (b ∷ ys) (c ∷ zs) ≡ false
     apart ne le = other b c ys zs ne ∙ le-ltb b c le
@@ -35,7 +35,7 @@ less_chain (a ∷ xs) (b ∷ ys) (c ∷ zs) no yes = of_cases (λ n t. less_chai
     of_third l ne (inr d) = let h = not_below d in apart ne (omega (arith, l, h))
 
     of_cases : (is_less_key xs zs ≡ false → is_less_key xs ys ≡ true → is_less_key ys zs ≡ false) → (a ≡ b) ⊎ (a ≡ b → ⊥) → (b ≡ c) ⊎ (b ≡ c → ⊥) → is_less_key (b ∷ ys) (c ∷ zs) ≡ false
-    of_cases on (inl e) (inl f) = same b c ys zs f ∙ on (sym (same a c xs zs (e ∙ f)) ∙ no) (sym (same a b xs ys e) ∙ yes)
+    of_cases on (inl e) (inl f) = same b c ys zs f ∙ on (sym (same a c xs zs (e ∙ f)) ∙ lower) (sym (same a b xs ys e) ∙ higher)
     of_cases on (inl e) (inr g) = let h = not_below (λ q. g (sym e ∙ q)) in apart g (omega (arith, h, e))
     of_cases on (inr d) (inl f) = let l = below d in let ne : a ≡ c → ⊥ = λ q. d (q ∙ sym f) in let h = not_below ne in absurd (omega (arith, l, f, h))
     of_cases on (inr d) (inr g) = of_third (below d) g (cases_eq a c)

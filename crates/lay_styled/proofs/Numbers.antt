@@ -14,6 +14,7 @@ pub property_at : ℕ → Property
 property_at i = slice_index_or all_properties i EmptyCells
 
 pub number_at : (i : ℕ) → i < 46 → number_of (property_at i) ≡ i
+unfolding property_at all_properties
 number_at i h = eqb-true (number_of (property_at i)) i (agree_below_at (λ j. number_of (property_at j) == j) (λ j. true) 46 i refl h)
 
 pub number_below : (p : Property) → number_of p < 46

@@ -105,7 +105,7 @@ drop_all (x ∷ xs) (suc i) h = drop_all xs i (omega (arith, h))
 
 pub takes_next : (winners : List (Option Candidate)) (i k : ℕ) (w : Option Candidate) (now new all : List Node) → i < length winners → w ≡ slice_index_or winners i w → new ≡ changed_at k (takes (w ∷ [])) now → changed_at k (takes (drop i winners)) now ≡ all →
     changed_at k (takes (drop (i + 1) winners)) new ≡ all
-takes_next winners i k w old now new all h is made was =
+takes_next winners i k w now new all h is made was =
     ap (changed_at k (takes (drop (i + 1) winners))) made ∙ takes_more w (drop (i + 1) winners) k now
     ∙ ap (λ z. changed_at k (takes z) now) (sym (drop_one winners i w h is)) ∙ was
 
@@ -206,7 +206,7 @@ module _ (rules : List RuleValue) (nodes : List Node) (names : List Names) where
 
       nones : AreWinners rules nodes names k (replicate 46 None)
       nones = record {
-        count = length-replicate 46 None;
+        count = length-replicate 46 nobody;
         each = λ p. record {
           some = λ c e. absurd (none-some c (sym (at p) ∙ e));
           none = λ c e w. false≢true (sym w.1.no_text ∙ text);

@@ -293,12 +293,15 @@ module _ (rules : List RuleValue) (nodes : List Node) (names : List Names) (k : 
       done = all_same (Both rule selector) After (with_decls (specificity_of selector) e.rule 0 rule.decls winners) to back
           (with_more Before (specificity_of selector) e.rule 0 rule.decls winners (record { count = was.count; each = was.each }))
 
+abbrev nobody : Option Candidate
+nobody = None
+
 no_selector : (e : Entry) → Contains [] e → ⊥
 no_selector e w = let h = w.1 in absurd (omega (arith, h))
 
 pub none_yet : (rules : List RuleValue) (nodes : List Node) (names : List Names) (k : ℕ) (winners : List (Option Candidate)) → winners ≡ replicate 46 None → AreWinnersOf rules nodes names k [] winners
 none_yet rules nodes names k winners is = record {
-  count = ap length is ∙ length-replicate 46 None;
+  count = ap length is ∙ length-replicate 46 nobody;
   each = λ p. record {
     some = λ c e. absurd (none-some c (sym (at p) ∙ e));
     none = λ c e w. no_selector w.0 w.1;
@@ -307,7 +310,7 @@ none_yet rules nodes names k winners is = record {
 }
   where
     at : (p : Property) → slice_index_or winners (number_of p) None ≡ None
-    at p = ap (λ z. slice_index_or z (number_of p) None) is ∙ get_or-replicate 46 (number_of p) None None (number_below p)
+    at p = ap (λ z. slice_index_or z (number_of p) None) is ∙ get_or-replicate 46 (number_of p) nobody nobody (number_below p)
 
 -- one more selector of a list, and the selectors of one more class
 pub more_entries : (rules : List RuleValue) (nodes : List Node) (names : List Names) (k : ℕ) (seen entries : List Entry) (i : ℕ) (e : Entry) (winners : List (Option Candidate)) → i < length entries → e ≡ slice_index_or entries i e →

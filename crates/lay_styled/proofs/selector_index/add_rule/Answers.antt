@@ -11,6 +11,6 @@ loop-s-preserved c =
 
 pub returns : goal.returns
 returns c =
-    let count = ap length c.selectors.ensures in
+    let count = ap length c.selectors-s-end.ensures in
     let all : length c.rule_at-rule.result.now.selectors ≤ c.loop-s.s = omega (arith, c.loop-s-test.false, c.loop-s.auto.s-end, count) in
     indexed_rule c.args.rules.now c.loop-s.index.by_name.items c.loop-s.index.rest c.args.r c.loop-s.s c.rule_at-rule.result.now c.rule_at-rule.ensures all c.loop-s.invariant
