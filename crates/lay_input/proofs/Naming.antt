@@ -2,7 +2,7 @@
 use Rattle.std.proofs.Common.{◌≡◌, ◌∙◌, ℕ, zero, suc, ◌+◌, ◌-◌, ◌<◌, ◌≤◌, ◌⊎◌, inl, inr, List, [], ◌∷◌, length, map, take, drop, replicate, refl, sym, ap, subst, arith, set, length-map, IsPermutation}
 use Rattle.std.specs.Prelude.{slice_index, slice_index_or, Option, Some, None, option_map, ◌==◌, ◌^◌, min, if◌then◌else◌}
 use Rattle.std.proofs.lemmas.Bool.{eq-eqb, ne_eqb, cases_eq}
-use Rattle.std.proofs.lemmas.List.{ext_get_or, get_or-set_same, get_or-set_other, length-set, get_or-replicate, length-replicate}
+use Rattle.std.proofs.lemmas.List.{ext_get_or, get_or-set_same, get_or-set_other, get_or-replicate, length-replicate, get_or-take, length-take, length-take-le}
 use Rattle.lay_style.specs.Places.{place_of}
 use Rattle.lay_style.proofs.Places.{place_here, place_later, place_none}
 use Rattle.lay_doc.specs.declared.node.Node.{Node}
@@ -77,11 +77,39 @@ named_more nodes listed names old new m i id last e h l is_id is_last was one co
     each k b (inl q) = one.this k b (sym q) ∙ sym (here k ∙ rw (eq-eqb id.0 (slice_index (ids_of nodes) k) q) refl)
     each k b (inr ne) = one.others k b (λ q. ne (sym q)) ∙ was.each k b ∙ sym (here k ∙ rw (ne_eqb id.0 (slice_index (ids_of nodes) k) ne) refl)
 
+pub named_next : (nodes : List Node) (listed : List NodeId) (names old new : List Names) (m i : ℕ) (id : NodeId) (last : Names) → m ≡ i + 1 → i < length (take (length listed) names) → id ≡ slice_index_or listed i id → last ≡ slice_index_or (take (length listed) names) i last →
+    AreNamed nodes (drop m listed) (drop m (take (length listed) names)) old → IsNamedOne nodes id.0 last old new → length new ≡ length nodes → AreNamed nodes (drop i listed) (drop i (take (length listed) names)) new
+named_next nodes listed names old new m i id last e h is_id is_last was one count =
+    let n = length-take (length listed) names in
+    named_more nodes listed (take (length listed) names) old new m i id last e (omega (arith, h, n)) h is_id is_last was one count
+
+-- the last of the first names
+pub read_last : (names left : List Names) (m i : ℕ) (last : Names) → m ≡ i + 1 → i < length names → left ≡ take m names → last ≡ slice_index_or left (length left - 1) last → last ≡ slice_index_or names i last
+read_last names left m i last e h is was =
+    let few : m ≤ length names = omega (arith, e, h) in
+    let count = ap length is ∙ length-take-le m names few in
+    let at : length left - 1 ≡ i = omega (arith, e, count) in
+    let l : i < m = omega (arith, e) in
+    was ∙ ap (λ z. slice_index_or left z last) at ∙ ap (λ z. slice_index_or z i last) is ∙ get_or-take m names i last l
+
+take_take : (names : List Names) (i m : ℕ) → i ≤ m → take i (take m names) ≡ take i names
+take_take names zero m h = refl
+take_take names (suc i) zero h = absurd (omega (arith, h))
+take_take [] (suc i) (suc m) h = refl
+take_take (n ∷ ns) (suc i) (suc m) h = ap (λ z. n ∷ z) (take_take ns i m (omega (arith, h)))
+
+pub take_less : (names left : List Names) (m i : ℕ) → m ≡ i + 1 → i < length names → left ≡ take m names → take (length left - 1) left ≡ take i names
+take_less names left m i e h is =
+    let few : m ≤ length names = omega (arith, e, h) in
+    let count = ap length is ∙ length-take-le m names few in
+    let at : length left - 1 ≡ i = omega (arith, e, count) in
+    ap (λ z. take z left) at ∙ ap (take i) is ∙ take_take names i m (omega (arith, e))
+
 named_nowhere : (listed : List NodeId) (id : ℕ) → named_of listed [] id ≡ no_names
 named_nowhere [] id = refl
 named_nowhere (x ∷ xs) id = refl
 
-drop_all : {X : Type 0} (xs : List X) (i : ℕ) → length xs ≤ i → drop i xs ≡ []
+pub drop_all : {X : Type 0} (xs : List X) (i : ℕ) → length xs ≤ i → drop i xs ≡ []
 drop_all [] zero h = refl
 drop_all [] (suc i) h = refl
 drop_all (x ∷ xs) zero h = absurd (omega (arith, h))

@@ -1,4 +1,4 @@
-use Rattle.std.proofs.Common.{◌≡◌, ◌∙◌, ◌<◌, Some, length, sym, subst, arith, rules}
+use Rattle.std.proofs.Common.{◌∙◌, ◌<◌, length, sym, subst, arith, rules}
 use Rattle.std.proofs.lemmas.Grind.{common_steps}
 use Rattle.lay_input.specs.NamesByPlace.{IsNamedOne}
 use Rattle.lay_input.proofs.Naming.{named_found, named_none}
