@@ -74,18 +74,30 @@ class Sheet:
         return text[:self.rng.randrange(len(text))] if text and self.hit(4) else text
 
 
+def names_of(draw):
+    """What a node is called."""
+    names = {}
+    if draw.hit(85):
+        names['tag'] = draw.choice(TAGS)
+    if draw.hit(25):
+        names['label'] = draw.choice(LABELS)
+    if draw.hit(60):
+        names['classes'] = [draw.choice(CLASSES) for _ in range(draw.choice((0, 1, 1, 2, 3)))]
+    return names
+
+
+def with_sheet(rng, run):
+    """A run document with a sheet, and with names of its nodes."""
+    draw = Sheet(rng)
+    return dict(run, sheet=draw.text(), nodes=[dict(node, **names_of(draw)) for node in run['nodes']])
+
+
 def node_of(draw, ident, parent):
     if parent and draw.hit(12):
         return {'id': ident, 'parent': parent, 'kind': 'text', 'text': draw.choice(('x', 'a b', ' '))}
-    node = {'id': ident, 'parent': parent, 'kind': 'element', 'style': {}}
+    node = {'id': ident, 'parent': parent, 'kind': 'element', 'style': {}, **names_of(draw)}
     if parent and draw.hit(8):
         node.update(kind='replaced', natural=[20, 10])
-    if draw.hit(85):
-        node['tag'] = draw.choice(TAGS)
-    if draw.hit(25):
-        node['label'] = draw.choice(LABELS)
-    if draw.hit(60):
-        node['classes'] = [draw.choice(CLASSES) for _ in range(draw.choice((0, 1, 1, 2, 3)))]
     if draw.hit(75):
         node['style']['display'] = 'block'
     for name in sorted(VALUES):

@@ -1,15 +1,14 @@
 -- Bytes have one styled reading.
-use Rattle.std.proofs.Common.{◌≡◌, ◌∙◌, ℕ, ◌<◌, List, length, refl, sym, ap, subst, arith, Option, Some, None, Result, Ok, Err}
+use Rattle.std.proofs.Common.{◌≡◌, ◌∙◌, ℕ, ◌<◌, List, length, refl, sym, ap, subst, arith, Some, None, Result, Ok, Err}
 use Rattle.lay_doc.specs.Document.{Document}
 use Rattle.lay_names.specs.declared.names.Names.{Names}
-use Rattle.lay_sheet.specs.Sheets.{RuleValue, IsSheet, selector_count}
+use Rattle.lay_sheet.specs.Sheets.{RuleValue, selector_count}
 use Rattle.lay_sheet.proofs.OneSheet.{one_sheet_lem}
 use Rattle.lay_styled.proofs.OneStyle.{one_styled_lem}
 use Rattle.lay_run.specs.Runs.{Run}
 use Rattle.lay_json.specs.declared.fault.InputFault.{InputFault}
 use Rattle.lay_json.specs.declared.fault.InputFault.TheVariants.{TooLong}
 use Rattle.lay_json.specs.declared.sheet_in.SheetIn.{SheetIn}
-use Rattle.lay_json.specs.Reading.{IsInput}
 use Rattle.lay_json.proofs.OneInput.{one_in, input_too_long}
 use Rattle.lay_input.specs.NamesByPlace.{names_by_place}
 use Rattle.lay_input.specs.StyledReading.{IsStyledRun, IsStyledBy, IsStyledReading, too_many, by_sheet, refused, plain, with_sheet}

@@ -1,6 +1,7 @@
 //! What the nodes of a document are called, in document order.
 
-ghost use Rattle.std.specs.Prelude.{◌≡◌, ◌<◌, ◌-◌, IfOk, length, take, replicate, slice_index_or};
+ghost use Rattle.std.specs.Prelude.{◌≡◌, ◌<◌, ◌-◌, IfOk, length, take, replicate, set, slice_index_or};
+ghost use Rattle.lay_doc.specs.Document.{IsDocument};
 ghost use Rattle.lay_input.specs.NamesByPlace.{no_names, names_by_place, IsNamedOne};
 
 use lay_doc::{Doc, NodeId};
@@ -19,14 +20,23 @@ fn none_named(alloc: Global, count: usize) -> Result<Vec<Names>, NoMemory>
     Ok(named)
 }
 
+fn put_names(named: &mut Vec<Names>, place: usize, names: Names)
+    requires { place < length named.old.items }
+    ensures { named.new.items ≡ set named.old.items place names }
+{
+    named[place] = names;
+}
+
 /// Gives the names to the node with this id, where there is one.
 fn name_one(doc: &Doc, id: NodeId, names: Names, named: &mut Vec<Names>)
-    requires { length named.old.items ≡ length doc.now.nodes }
+    requires valid { IsDocument doc.now }
+    requires count { length named.old.items ≡ length doc.now.nodes }
     ensures count { length named.new.items ≡ length doc.now.nodes }
     ensures names { IsNamedOne doc.now.nodes id.0 names named.old.items named.new.items }
 {
-    if let Some(place) = doc.find(id) {
-        named[place] = names;
+    match doc.find(id) {
+        Some(place) => put_names(named, place, names),
+        None => {}
     }
 }
 
@@ -58,7 +68,8 @@ pub(crate) fn by_place(
 ) -> Result<Vec<Names>, NoMemory>
     ensures { IfOk result (λ v. v.items ≡ names_by_place listed.now names doc.now.nodes) }
 {
-    let mut named = none_named(alloc, doc.len())?;
+    let nodes = doc.nodes();
+    let mut named = none_named(alloc, nodes.len())?;
     let mut rest = names.into_vec();
     rest.truncate(listed.len());
     let count = rest.len();

@@ -1,6 +1,5 @@
 -- Bytes say one run with one sheet.
-use Rattle.std.proofs.Common.{◌≡◌, ◌≢◌, ℕ, List, length, ◌<◌, ◌≤◌, refl, sym, ap, ◌∙◌, arith, Option, Some, None, Result, Ok, Err}
-use Rattle.std.proofs.lemmas.Grind.{common_steps}
+use Rattle.std.proofs.Common.{◌≡◌, ℕ, List, length, ◌<◌, ◌≤◌, refl, sym, ap, ◌∙◌, arith, Result, Ok, Err}
 use Rattle.serde_json.specs.Data.{Data}
 use Rattle.serde_json.specs.Read.{read}
 use Rattle.lay_run.specs.Runs.{Run}
@@ -10,7 +9,7 @@ use Rattle.lay_json.specs.declared.sheet_in.SheetIn.{SheetIn}
 use Rattle.lay_json.specs.Fields.{then_read, map_read}
 use Rattle.lay_json.specs.RunDocument.{run_of}
 use Rattle.lay_json.specs.SheetNames.{sheet_of, input_of}
-use Rattle.lay_json.specs.Reading.{IsJson, IsNoJson, IsReading, AreNames, IsInput, too_long, bad_json, json, names_too_long, names_bad_json, names_json, no_run, with_run}
+use Rattle.lay_json.specs.Reading.{IsJson, IsNoJson, AreNames, IsInput, too_long, bad_json, json, names_too_long, names_bad_json, names_json, no_run, with_run}
 use Rattle.lay_json.specs.Laws.{OneInput}
 use Rattle.lay_json.proofs.OneReading.{one-some, no_json, one_reading_lem}
 

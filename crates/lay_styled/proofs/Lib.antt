@@ -2,6 +2,6 @@ pub mod Keys
 pub mod Numbers
 pub mod Taking
 pub mod Looking
-pub mod Styling
+pub mod Restyling
 pub mod OneStyle
 pub mod Declaring

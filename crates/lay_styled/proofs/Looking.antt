@@ -1,7 +1,7 @@
 -- All selectors that match a node stand among those that are looked up for it.
-use Rattle.std.proofs.Common.{◌≡◌, ◌∙◌, ℕ, zero, suc, ◌+◌, ◌-◌, ◌<◌, ◌≤◌, ◌⊎◌, inl, inr, List, [], ◌∷◌, ◌++◌, Bool, true, false, length, take, reverse, replicate, refl, sym, ap, subst, arith, set, length-replicate}
-use Rattle.std.specs.Prelude.{slice_index_or, Option, Some, None, ◌||◌}
-use Rattle.std.specs.List.{slice_get, Contains, flat_map, list_any}
+use Rattle.std.proofs.Common.{◌≡◌, ◌∙◌, ℕ, suc, ◌+◌, ◌-◌, ◌*◌, ◌%◌, ◌<◌, ◌≤◌, ◌⊎◌, inl, inr, List, [], ◌∷◌, ◌++◌, true, length, take, reverse, refl, sym, ap, subst, arith, set}
+use Rattle.std.specs.Prelude.{slice_index_or, Option, Some, None}
+use Rattle.std.specs.List.{slice_get, Contains, list_any}
 use Rattle.std.specs.Str.{bytes_eq}
 use Rattle.std.specs.Cmp.Lexicographic.{same_text}
 use Rattle.std.proofs.lemmas.Bool.{false≢true, cases_eq, cases_lt, or_cases}
@@ -18,7 +18,7 @@ use Rattle.lay_sheet.specs.declared.selector.Step.{Step}
 use Rattle.lay_sheet.specs.Sheets.{RuleValue}
 use Rattle.lay_cascade.specs.NodeNames.{fits, fits_at}
 use Rattle.lay_cascade.specs.Matching.{Matches, IsMatched}
-use Rattle.lay_cascade.proofs.Climbing.{fits_within, fits_read}
+use Rattle.lay_cascade.proofs.Climbing.{fits_read}
 use Rattle.lay_cascade.proofs.Leading.{head_fits}
 use Rattle.lay_styled.specs.declared.entry.Entry.{Entry}
 use Rattle.lay_styled.specs.declared.candidates.Candidate.{Candidate}
@@ -161,11 +161,11 @@ module _ (nodes : List Node) (names : List Names) (k : ℕ) where
 module _ (by_name : List (List Entry)) (rest : List Entry) (e : Entry) where
   in_classes : (classes : List (List ℕ)) (name : List ℕ) → list_any (λ class. bytes_eq class name) classes ≡ true → Contains (listed by_name rest (Some name)) e → Contains (of_classes by_name rest classes) e
   in_classes [] name is w = absurd (false≢true is)
-  in_classes (c ∷ cs) name is w = of_cases (or_cases (bytes_eq c name) (list_any (λ class. bytes_eq class name) cs) is)
+  in_classes (c ∷ cs) name is w = of_cases (λ q. in_classes cs name q w) (or_cases (bytes_eq c name) (list_any (λ class. bytes_eq class name) cs) is)
     where
-      of_cases : (bytes_eq c name ≡ true) ⊎ (list_any (λ class. bytes_eq class name) cs ≡ true) → Contains (listed by_name rest (Some c) ++ of_classes by_name rest cs) e
-      of_cases (inl q) = let same = same_text c name (sym q) in Contains-append_left (listed by_name rest (Some c)) (of_classes by_name rest cs) e (subst (λ z. Contains (listed by_name rest (Some z)) e) (sym same) w)
-      of_cases (inr q) = Contains-append_right (listed by_name rest (Some c)) (of_classes by_name rest cs) e (in_classes cs name q w)
+      of_cases : (list_any (λ class. bytes_eq class name) cs ≡ true → Contains (of_classes by_name rest cs) e) → (bytes_eq c name ≡ true) ⊎ (list_any (λ class. bytes_eq class name) cs ≡ true) → Contains (listed by_name rest (Some c) ++ of_classes by_name rest cs) e
+      of_cases on (inl q) = let same = same_text c name (sym q) in Contains-append_left (listed by_name rest (Some c)) (of_classes by_name rest cs) e (subst (λ z. Contains (listed by_name rest (Some z)) e) (sym same) w)
+      of_cases on (inr q) = Contains-append_right (listed by_name rest (Some c)) (of_classes by_name rest cs) e (on q)
 
   -- what fits a node's names stands where they are looked up
   fitting_in : (n : Names) (simple : Simple) → fits n simple ≡ true → Contains (listed by_name rest (name_in simple)) e → Contains (looked_up by_name rest n) e
@@ -200,3 +200,22 @@ all_looked_up rules nodes names k n by_name rest winners indexed here is was = r
         let named : last_name by.selector ≡ name_in l.0.simple = rw l.1 refl in
         fitting_in by_name rest e n l.0.simple fit
         (subst (λ z. Contains (listed by_name rest z) e) named (indexed.each e by.rule by.selector by.is_rule by.is_selector (inl inside)))
+
+pub looked_up_is : (by_name : List (List Entry)) (rest : List Entry) (n : Names) (a b c d : List Entry) → a ≡ listed by_name rest (Some n.tag) → b ≡ listed by_name rest (Some n.label) → c ≡ of_classes by_name rest n.classes → d ≡ rest →
+    ((a ++ b) ++ c) ++ d ≡ looked_up by_name rest n
+looked_up_is by_name rest n a b c d p q r s = rw (p, q, r, s) refl
+
+-- a name has one of the lists
+list_below_from : (sum : ℕ) (name : List ℕ) → sum < 4096 → list_from sum name < 4096
+list_below_from sum [] h = h
+list_below_from sum (b ∷ bs) h = list_below_from ((sum * 31 + b) % 4096) bs (omega arith)
+
+list_below : (name : List ℕ) → list_of name < 4096
+list_below name = list_below_from 0 name (omega arith)
+
+pub indexed_next : (rules : List RuleValue) (by_name new_by : List (List Entry)) (rest new_rest : List Entry) (r s : ℕ) (rule : RuleValue) (selector : List Step) → slice_get rules r ≡ Some rule → slice_get rule.selectors s ≡ Some selector →
+    new_by ≡ by_name_with (last_name selector) (of_two r s) by_name → new_rest ≡ rest_with (last_name selector) (of_two r s) rest → IsIndexedTo rules by_name rest r s → IsIndexedTo rules new_by new_rest r (s + 1)
+indexed_next rules by_name new_by rest new_rest r s rule selector is_rule is_selector p q was =
+    subst (λ z. IsIndexedTo rules z new_rest r (s + 1)) (sym p)
+    (subst (λ z. IsIndexedTo rules (by_name_with (last_name selector) (of_two r s) by_name) z r (s + 1)) (sym q)
+    (indexed_more rules by_name rest r s (of_two r s) rule selector list_below refl refl is_rule is_selector was))

@@ -1,60 +1,20 @@
 -- The numbers of properties: each is below 46, and each number below 46 is that of a property.
-use Rattle.std.proofs.Common.{◌≡◌, ℕ, ◌<◌, true, refl, sym, arith}
-use Rattle.std.specs.Prelude.{◌==◌}
+use Rattle.std.proofs.Common.{◌≡◌, ℕ, ◌<◌, List, [], ◌∷◌, true, refl, arith}
+use Rattle.std.specs.Prelude.{◌==◌, slice_index_or}
 use Rattle.std.proofs.lemmas.Bool.{agree_below_at, eqb-true}
 use Rattle.lay_style.specs.declared.property.Property.{Property}
 use Rattle.lay_style.specs.declared.property.Property.TheVariants.{Display, Position, Float, Clear, Top, Right, Bottom, Left, ZIndex, Width, Height, MinWidth, MinHeight, MaxWidth, MaxHeight, MarginTop, MarginRight, MarginBottom, MarginLeft, PaddingTop, PaddingRight, PaddingBottom, PaddingLeft, BorderTopWidth, BorderRightWidth, BorderBottomWidth, BorderLeftWidth, BorderTopStyle, BorderRightStyle, BorderBottomStyle, BorderLeftStyle, Overflow, FontSize, LineHeight, TextIndent, TextAlign, WhiteSpace, LetterSpacing, WordSpacing, VerticalAlign, TableLayout, BorderCollapse, BorderSpacing, CaptionSide, Visibility, EmptyCells}
 use Rattle.lay_style.specs.PropertyNumbers.{number_of}
 
+all_properties : List Property
+all_properties =
+    Display ∷ Position ∷ Float ∷ Clear ∷ Top ∷ Right ∷ Bottom ∷ Left ∷ ZIndex ∷ Width ∷ Height ∷ MinWidth ∷ MinHeight ∷ MaxWidth ∷ MaxHeight ∷ MarginTop ∷ MarginRight ∷ MarginBottom ∷ MarginLeft ∷ PaddingTop ∷ PaddingRight ∷ PaddingBottom ∷ PaddingLeft ∷ BorderTopWidth ∷ BorderRightWidth ∷ BorderBottomWidth ∷ BorderLeftWidth ∷ BorderTopStyle ∷ BorderRightStyle ∷ BorderBottomStyle ∷ BorderLeftStyle ∷ Overflow ∷ FontSize ∷ LineHeight ∷ TextIndent ∷ TextAlign ∷ WhiteSpace ∷ LetterSpacing ∷ WordSpacing ∷ VerticalAlign ∷ TableLayout ∷ BorderCollapse ∷ BorderSpacing ∷ CaptionSide ∷ Visibility ∷ EmptyCells ∷ []
+
 pub property_at : ℕ → Property
-property_at 0 = Display
-property_at 1 = Position
-property_at 2 = Float
-property_at 3 = Clear
-property_at 4 = Top
-property_at 5 = Right
-property_at 6 = Bottom
-property_at 7 = Left
-property_at 8 = ZIndex
-property_at 9 = Width
-property_at 10 = Height
-property_at 11 = MinWidth
-property_at 12 = MinHeight
-property_at 13 = MaxWidth
-property_at 14 = MaxHeight
-property_at 15 = MarginTop
-property_at 16 = MarginRight
-property_at 17 = MarginBottom
-property_at 18 = MarginLeft
-property_at 19 = PaddingTop
-property_at 20 = PaddingRight
-property_at 21 = PaddingBottom
-property_at 22 = PaddingLeft
-property_at 23 = BorderTopWidth
-property_at 24 = BorderRightWidth
-property_at 25 = BorderBottomWidth
-property_at 26 = BorderLeftWidth
-property_at 27 = BorderTopStyle
-property_at 28 = BorderRightStyle
-property_at 29 = BorderBottomStyle
-property_at 30 = BorderLeftStyle
-property_at 31 = Overflow
-property_at 32 = FontSize
-property_at 33 = LineHeight
-property_at 34 = TextIndent
-property_at 35 = TextAlign
-property_at 36 = WhiteSpace
-property_at 37 = LetterSpacing
-property_at 38 = WordSpacing
-property_at 39 = VerticalAlign
-property_at 40 = TableLayout
-property_at 41 = BorderCollapse
-property_at 42 = BorderSpacing
-property_at 43 = CaptionSide
-property_at 44 = Visibility
-property_at n = EmptyCells
+property_at i = slice_index_or all_properties i EmptyCells
 
 pub number_at : (i : ℕ) → i < 46 → number_of (property_at i) ≡ i
+unfolding property_at all_properties
 number_at i h = eqb-true (number_of (property_at i)) i (agree_below_at (λ j. number_of (property_at j) == j) (λ j. true) 46 i refl h)
 
 pub number_below : (p : Property) → number_of p < 46

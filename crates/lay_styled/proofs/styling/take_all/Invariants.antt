@@ -2,7 +2,7 @@ use Rattle.std.proofs.Common.{◌≡◌, false, length, drop}
 use Rattle.lay_doc.specs.Document.{is_text_at}
 use Rattle.lay_doc.specs.Changes.{changed_at}
 use Rattle.lay_styled.specs.Taken.{takes}
-use Rattle.lay_styled.proofs.styled.take_all.Given as goal
+use Rattle.lay_styled.proofs.styling.take_all.Given as goal
 
 abbrev pub invariant-loop-i : goal.invariant-loop-i
 invariant-loop-i l = record {

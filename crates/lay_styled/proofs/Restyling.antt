@@ -1,26 +1,23 @@
 -- Nodes that take declarations one after the other.
-use Rattle.std.proofs.Common.{◌≡◌, ◌∙◌, ℕ, zero, suc, ◌+◌, ◌<◌, ◌≤◌, ◌⊎◌, inl, inr, List, [], ◌∷◌, ◌++◌, Bool, true, false, length, drop, replicate, refl, sym, ap, subst, arith, length-append}
-use Rattle.std.specs.Prelude.{slice_index, slice_index_or, Option, Some, None, is_some, is_none, option_map, not, ◌||◌, if◌then◌else◌}
+use Rattle.std.proofs.Common.{◌≡◌, ◌∙◌, ℕ, zero, suc, ◌+◌, ◌<◌, ◌≤◌, ◌⊎◌, inl, inr, List, [], ◌∷◌, ◌++◌, true, false, length, drop, replicate, refl, sym, ap, subst, arith, length-append}
+use Rattle.std.specs.Prelude.{slice_index, slice_index_or, Option, Some, None, is_some, is_none, option_map, not, ◌||◌}
 use Rattle.std.proofs.lemmas.Bool.{false≢true, cases_lt}
 use Rattle.std.proofs.lemmas.List.{get_or_append_left, get_or_push, length-replicate, get_or-replicate}
 use Rattle.lay_style.specs.declared.property.Property.{Property}
 use Rattle.lay_style.specs.declared.property.Given.{Given}
 use Rattle.lay_style.specs.Values.{Declaration}
 use Rattle.lay_style.specs.PropertyNumbers.{number_of}
-use Rattle.lay_style.specs.Declarations.{declared_value, with_declaration}
+use Rattle.lay_style.specs.Declarations.{declared_value}
 use Rattle.lay_style.specs.Places.{place_of}
 use Rattle.lay_style.proofs.Places.{place_here, place_later}
 use Rattle.lay_doc.specs.declared.node.Node.{Node}
-use Rattle.lay_doc.specs.declared.node.NodeId.{NodeId}
-use Rattle.lay_doc.specs.declared.edit.EditFault.{EditFault}
-use Rattle.lay_doc.specs.declared.edit.EditFault.TheVariants.{NoNode, NotElement}
 use Rattle.lay_doc.specs.Document.{Document, IsDocument, ids_of, is_text_at}
 use Rattle.lay_doc.specs.Changes.{style_fault, with_style, changed_at, after_change}
 use Rattle.lay_doc.proofs.NodeColumns.{length-ids}
 use Rattle.lay_names.specs.declared.names.Names.{Names}
 use Rattle.lay_sheet.specs.Sheets.{RuleValue}
 use Rattle.lay_styled.specs.declared.candidates.Candidate.{Candidate}
-use Rattle.lay_styled.specs.Winners.{settled_one, settled, restyled}
+use Rattle.lay_styled.specs.Winners.{settled, restyled}
 use Rattle.lay_styled.specs.Cascade.{AreWinners, AreAllWinners, IsCascaded}
 use Rattle.lay_styled.specs.Taken.{declares_at, takes_one, takes, IsCascadedTo}
 use Rattle.lay_styled.proofs.Numbers.{number_below}
@@ -90,7 +87,7 @@ takes_more w ws (suc k) (n ∷ ns) = ap (λ (r : List Node). n ∷ r) (takes_mor
 drop_one : (xs : List (Option Candidate)) (i : ℕ) (x : Option Candidate) → i < length xs → x ≡ slice_index_or xs i x → drop i xs ≡ x ∷ drop (i + 1) xs
 drop_one [] i x h is = absurd (omega (arith, h))
 drop_one (y ∷ ys) zero x h is = ap (λ z. z ∷ ys) (sym is)
-drop_one (y ∷ ys) (suc i) x h is = drop_one ys i x (omega (arith, h)) is
+drop_one (y ∷ ys) (suc i) x h is = let e : suc (i + 1) ≡ suc i + 1 = omega arith in drop_one ys i x (omega (arith, h)) is ∙ ap (λ z. x ∷ drop z (y ∷ ys)) e
 
 pub takes_nothing : (k : ℕ) (nodes : List Node) → changed_at k (takes []) nodes ≡ nodes
 takes_nothing k [] = refl
@@ -105,7 +102,7 @@ drop_all (x ∷ xs) (suc i) h = drop_all xs i (omega (arith, h))
 
 pub takes_next : (winners : List (Option Candidate)) (i k : ℕ) (w : Option Candidate) (now new all : List Node) → i < length winners → w ≡ slice_index_or winners i w → new ≡ changed_at k (takes (w ∷ [])) now → changed_at k (takes (drop i winners)) now ≡ all →
     changed_at k (takes (drop (i + 1) winners)) new ≡ all
-takes_next winners i k w old now new all h is made was =
+takes_next winners i k w now new all h is made was =
     ap (changed_at k (takes (drop (i + 1) winners))) made ∙ takes_more w (drop (i + 1) winners) k now
     ∙ ap (λ z. changed_at k (takes z) now) (sym (drop_one winners i w h is)) ∙ was
 
@@ -161,6 +158,12 @@ takes_nones i k [] = refl
 takes_nones i zero (n ∷ ns) = ap (λ ds. record n { decls = ds } ∷ ns) (settled_none i n.decls)
 takes_nones i (suc k) (n ∷ ns) = ap (λ (r : List Node). n ∷ r) (takes_nones i k ns)
 
+abbrev nobody : Option Candidate
+nobody = None
+
+none-some : (c : Candidate) → nobody ≡ Some c → ⊥
+none-some c e = absurd cc
+
 module _ (rules : List RuleValue) (nodes : List Node) (names : List Names) where
   pub cascaded_none : IsCascadedTo rules nodes names 0 nodes
   cascaded_none = record { winners = []; are = record { count = refl; each = λ k h. absurd (omega (arith, h)) }; is = refl }
@@ -195,15 +198,12 @@ module _ (rules : List RuleValue) (nodes : List Node) (names : List Names) where
   pub cascaded_text : (k : ℕ) (old : List Node) → k < length nodes → is_text_at nodes k ≡ true → IsCascadedTo rules nodes names k old → IsCascadedTo rules nodes names (k + 1) old
   cascaded_text k old h text was = cascaded_more k old old (replicate 46 None) h was nones (sym (takes_nones 46 k old))
     where
-      none-some : (c : Candidate) → None ≡ Some c → ⊥
-      none-some c e = absurd cc
-
-      at : (p : Property) → slice_index_or (replicate 46 None) (number_of p) None ≡ None
-      at p = get_or-replicate 46 (number_of p) None None (number_below p)
+      at : (p : Property) → slice_index_or (replicate 46 nobody) (number_of p) nobody ≡ nobody
+      at p = get_or-replicate 46 (number_of p) nobody nobody (number_below p)
 
       nones : AreWinners rules nodes names k (replicate 46 None)
       nones = record {
-        count = length-replicate 46 None;
+        count = length-replicate 46 nobody;
         each = λ p. record {
           some = λ c e. absurd (none-some c (sym (at p) ∙ e));
           none = λ c e w. false≢true (sym w.1.no_text ∙ text);
@@ -226,3 +226,10 @@ cascaded_all doc new rules names k count was width height = record {
   where
     same : new.nodes ≡ restyled was.winners doc.nodes → new ≡ record { width = doc.width; height = doc.height; nodes = restyled was.winners doc.nodes }
     same e = rw (← width, ← height, ← e) refl
+
+-- documents that differ in their nodes alone
+pub same_nodes : (d : Document) (ns : List Node) → ns ≡ d.nodes → d ≡ record d { nodes = ns }
+same_nodes d ns e = rw e refl
+
+pub with_nodes : (d e : Document) (ns : List Node) → d.width ≡ e.width → d.height ≡ e.height → d.nodes ≡ ns → d ≡ record e { nodes = ns }
+with_nodes d e ns w h n = rw (← w, ← h, ← n) refl

@@ -1,6 +1,6 @@
 use Rattle.std.proofs.Common.{◌≡◌}
 use Rattle.lay_styled.specs.Taken.{IsCascadedTo}
-use Rattle.lay_styled.proofs.styled.cascaded.Given as goal
+use Rattle.lay_styled.proofs.styling.cascaded.Given as goal
 
 abbrev pub invariant-loop-k : goal.invariant-loop-k
 invariant-loop-k l = record {
