@@ -118,8 +118,11 @@ class InnerBox:
 class Table(Box):
     """A table box (17.5). Its children are its cells; its row boxes are its row groups, and its rows that are in none.
 
-    Both are in document order, and the bands and rows of the grid in visual order.
+    Both are in document order, and the bands and rows of the grid in visual order. `page` settles which layout its
+    columns have, and `preferred` adds what those of an automatic table and its captions need.
     """
+
+    is_automatic = False
 
     def __init__(self, wrapper, parts):
         self.parent, self.node, self.style, self.display = wrapper, wrapper.node, wrapper.style, 'table-box'

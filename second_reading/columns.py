@@ -61,7 +61,7 @@ def own_widths(table, base):
 
 
 def column_widths(table, width):
-    """The widths of the columns of a table that is to have this content width.
+    """The widths of the columns of a table that is to have this content width, before any limit.
 
     What the columns' own widths leave goes in equal shares to those without one, or to all if each has one.
     """
@@ -72,3 +72,8 @@ def column_widths(table, width):
     for column, share in zip(takers, shares(rest, len(takers)) if takers else []):
         widths[column] += share
     return widths
+
+
+def used_columns(widths):
+    """The used widths of columns, each within the limit."""
+    return [size_within_limit(width) for width in widths]

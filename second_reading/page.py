@@ -4,6 +4,7 @@ Boxes in the flow are laid out first, and then absolute ones in document order, 
 """
 from collections import namedtuple
 
+from automatic_columns import has_automatic_layout
 from blocks import lay_out_context
 from boxes import make_box
 from columns import left_of_column
@@ -28,6 +29,14 @@ def find_content(box, face):
     for child in box.children + box.line_boxes:
         find_content(child, face)
     box.content = Content(box, face)
+
+
+def find_table_layouts(box):
+    """Settles which tables from a box on have the automatic layout."""
+    for child in box.children + box.line_boxes:
+        find_table_layouts(child)
+    if box.table:
+        box.table.is_automatic = has_automatic_layout(box.table)
 
 
 def find_lines(box):
@@ -64,12 +73,17 @@ def solve_down(box, containing_block, static_top):
 # -- places
 
 class Page:
-    """The page of a document that has a box; the viewport is in px (10.1)."""
+    """The page of a document that has a box; the viewport is in px (10.1).
 
-    def __init__(self, root_node, viewport, face):
+    Each table has the fixed layout, unless there are automatic tables.
+    """
+
+    def __init__(self, root_node, viewport, face, automatic_tables):
         self.viewport = Rect(0, 0, *(side * UNITS_PER_PX for side in viewport))
         self.contexts, self.waiting = [], []
         self.root = make_box(root_node, None)
+        if automatic_tables:
+            find_table_layouts(self.root)
         find_content(self.root, face)
         find_preferred_widths(self.root)
         self.place_root()

@@ -1,10 +1,10 @@
 #!/usr/bin/env python3
 """The picture of a report once more, apart from the crates: reads a report and writes what `lay_picture` answers to it.
 
-usage: second_reading/pictures.py [VERSION | VERSION VERSION | KIND NODE PART] < REPORT
+usage: second_reading/pictures.py [VERSION | VERSION VERSION] < REPORT
 
 A line is one of the forms of `docs/REPORT.md`, told by regular expressions; lengths in px are exact decimal fractions. Of two versions
-the differences are drawn; the piece of a name is marked.
+the differences are drawn.
 """
 import re
 import sys
@@ -30,7 +30,6 @@ STYLE = """<style>
 .lay .new { color: #15803d }
 .lay .gone { color: #b91c1c }
 .lay .former { color: #b45309; fill-opacity: 0.1; stroke-dasharray: 1 2 }
-.lay .hit { color: #be185d; fill: currentColor; fill-opacity: 0.25; stroke-width: 2 }
 @media (prefers-color-scheme: dark) {
 .lay { background: #0d1117; color: #79b8ff }
 .lay .line { color: #f0883e }
@@ -40,7 +39,6 @@ STYLE = """<style>
 .lay .resized { color: #c084fc }
 .lay .new { color: #3fb950 }
 .lay .gone { color: #ff7b72 }
-.lay .hit { color: #f472b6 }
 }
 </style>
 """
@@ -146,9 +144,8 @@ def differences(before, after):
         (p, ' former' if p[:3] in names_after else ' gone') for p in before if p not in has]
 
 
-def answer(report, versions, name=None):
-    """What is written for the bytes of a report: versions has none, one, or two, of which the differences are drawn; the piece of this
-    name is marked."""
+def answer(report, versions):
+    """What is written for the bytes of a report: versions has none, one, or two, of which the differences are drawn."""
     text = report.decode('latin-1')
     lines = text.split('\n')
     found = trees(lines[:-1])
@@ -162,14 +159,10 @@ def answer(report, versions, name=None):
         if tree is None:
             return 'refused version %d\n' % version
         shown.append(tree)
-    return picture(differences(*shown) if len(shown) == 2 else [(piece, ' hit' if piece[:3] == name else '') for piece in shown[0]])
+    return picture(differences(*shown) if len(shown) == 2 else [(piece, '') for piece in shown[0]])
 
 
 if __name__ == '__main__':
     from decimal import getcontext
     getcontext().prec = 60
-    named, numbers = sys.argv[1:2], [int(word) for word in sys.argv[1:] if word not in KINDS]
-    if named and named[0] in KINDS:
-        sys.stdout.write(answer(sys.stdin.buffer.read(), [], (named[0], *numbers)))
-    else:
-        sys.stdout.write(answer(sys.stdin.buffer.read(), numbers))
+    sys.stdout.write(answer(sys.stdin.buffer.read(), [int(word) for word in sys.argv[1:]]))

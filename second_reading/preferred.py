@@ -6,6 +6,7 @@ pair is the least width and the preferred one.
 """
 from collections import namedtuple
 
+from automatic_columns import extent_of_columns, extent_of_table, width_for_captions
 from columns import all_spacings_across, own_widths
 from content import Atomic, Cluster, End, Start, is_seen
 from edges import borders, margins, paddings
@@ -148,8 +149,9 @@ def widths_of_blocks(box):
     return Pair(max(least), max(preferred))
 
 
-def widths_of_columns(table):
+def widths_of_columns(wrapper):
     """The sum over the columns, each with its own width or the greatest contribution of its cells that span one."""
+    table = wrapper.table
     own = own_widths(table, None)
     pairs = [Pair(width or 0, width or 0) for width in own]
     for cell, area in table.grid.areas.items():
@@ -158,12 +160,21 @@ def widths_of_columns(table):
     return Pair(*(all_spacings_across(table) + sum(getattr(pair, name) for pair in pairs) for name in Pair._fields))
 
 
+def widths_of_automatic_columns(wrapper):
+    """What the columns have at least and at most, and no less than the captions need; sets what a table keeps of both."""
+    table = wrapper.table
+    table.columns_extent = extent_of_columns(table)
+    table.captions_width = max([0] + [contribution(child).least for child in wrapper.children if child is not table])
+    least = width_for_captions(table, paddings(table, None))
+    return Pair(*(max(width, least) for width in extent_of_table(table)))
+
+
 def find_preferred_widths(box):
     """Sets the preferred widths of the content boxes from a box on, inner ones first; a table box has its wrapper's."""
     for child in box.children + box.line_boxes:
         find_preferred_widths(child)
     if box.table:
-        pair = widths_of_columns(box.table)
+        pair = (widths_of_automatic_columns if box.table.is_automatic else widths_of_columns)(box)
     else:
         pair = widths_of_inline_content(box.content) if box.content.segments else widths_of_blocks(box)
     box.least_width, box.preferred_width = pair

@@ -1,13 +1,13 @@
 #!/usr/bin/env python3
 """A second reading of CSS 2.2: blocks and floats, lines and what stands in them, tables, and positioned boxes.
 
-usage: report.py < DOCUMENT      prints the report of `lay scratch` on a run document without faults
+usage: report.py [--automatic-tables] < DOCUMENT      prints the report of `lay scratch` on a run document without faults
 
 It was written apart from the crates, so that each is a test of the other (`compare`). Read `page` first, where all
 boxes come to stand; then `blocks` (9.4.1, 9.5.2), `margins` (8.3.1), `floats` (9.5), `lines` (9.4.2), `alignment`
 (10.8.1), `content` (16.4 and 16.6), `sizes` and `offsets` (10), `preferred` (10.3.5), `replaced` (10.3.2 and 10.4),
-`grid`, `columns` and `rows` (17.5), `collapsed_borders` (17.6.2), `baselines`, `boxes`, `parts` and `nodes` (9.2 and
-9.7), `missing_tables` (17.2.1), `edges` (8), `face` (15) and `styles` (6).
+`grid`, `columns`, `automatic_columns` and `rows` (17.5), `collapsed_borders` (17.6.2), `baselines`, `boxes`, `parts` and
+`nodes` (9.2 and 9.7), `missing_tables` (17.2.1), `edges` (8), `face` (15) and `styles` (6).
 
 Words: an atomic box is an inline-block, an inline-table, or a replaced element that is inline. A context is a block
 formatting context, a table box or a replaced element, and its own box is the one that establishes it. A solid box is a
@@ -85,9 +85,19 @@ How open places of the standard are read
 - 17.4: the wrapper has margins, float, position and offsets, and the table box all else, `clear`, `overflow` and
   `vertical-align` among it; so these have no effect. A caption doesn't make a table wider. Percentages of the table box
   are of the wrapper's containing block; those of cells, of the table box.
-- 17.5.2.1: every table has the fixed layout. Percentages of columns and of cells of the first row, of paddings of these
-  too, are there of the width that the table would have without its columns. What a cell over several columns has in
-  excess of the spacings between them is shared out. The widths of groups and bounds of cells and columns don't count.
+- 17.5.2: a table has the fixed layout where it is `fixed` and its width isn't `auto`, but may be in percent; so an
+  anonymous table never has. Without `AUTOMATIC_TABLES` each table has it.
+- 17.5.2.1: percentages of columns and of cells of the first row, of paddings of these too, are of the width that the
+  table would have without its columns. What a cell over several columns has in excess of the spacings between them is
+  shared out. The widths of groups and bounds of cells and columns don't count.
+- 17.5.2.2: widths in percent of cells, columns and groups are `auto`, paddings of cells in percent are 0, and bounds of
+  cells and columns don't count. A width is no maximum. What a cell over several columns lacks is shared equally, row by
+  row and from left to right, of minimums and of maximums alike; then groups do so with minimums alone. At the end, and
+  not before, a maximum is raised to its minimum. In less space than the maximums columns grow by what they can; beyond
+  the maximums all share equally. Units that are left over go to the first columns that grow, or to the first of all.
+- 17.5.2.2: the border box of the table is as wide as its captions contribute at least. The room is the containing block
+  without margins, borders and paddings; offsets of an absolute table take nothing of it. Bounds of the table cut
+  nothing that columns and captions need, but do so in what it contributes (10.3.5).
 - 17.5.2: without columns there is no spacing across, and rows and groups are as wide as the table's content box;
   without rows there is none down. A cell is as wide as its columns, also where its borders and paddings are wider.
 - 17.5.3: the height of a row group and bounds of cells, rows and groups don't count. A cell's `height` is that of its
@@ -96,8 +106,8 @@ How open places of the standard are read
   no other boxes of inner contexts.
 - 17.6.2: the side of a cell over several slots has the half of the widest border there. Of an odd width the lesser half
   is left or above. A table without rows or without columns has no borders.
-- 10.3.5: what a cell of one column contributes is held within its bounds in lengths, and what a table does also below
-  the widths of its columns.
+- 10.3.5: in the fixed layout what a cell of one column contributes is held within its bounds in lengths; what a table
+  contributes is, too, also below the widths of its columns.
 - 6.2.1 and 8.5.1: on the root `inherit` is the initial value, so `border-top-width: inherit` is `medium`.
 """
 import collections
@@ -111,6 +121,8 @@ from offsets import offset_of_inlines
 from page import Page, Rect
 
 MOST_FRAMES = 10000
+# Whether tables have the automatic layout unless they are fixed and have a width. The program has the fixed one for all.
+AUTOMATIC_TABLES = False
 
 
 def pieces(box):
@@ -161,19 +173,19 @@ def piece_lines(box):
         parts[kind, ident] += 1
 
 
-def contexts_of_page(run):
+def contexts_of_page(run, automatic_tables=AUTOMATIC_TABLES):
     """The own boxes of the contexts of a document, in document order."""
     root = read_nodes(run)
     if root.is_hidden:
         return []
     sys.setrecursionlimit(MOST_FRAMES)
-    return Page(root, run['viewport'], Face(run.get('face', {}))).contexts
+    return Page(root, run['viewport'], Face(run.get('face', {})), automatic_tables).contexts
 
 
-def report(run):
+def report(run, automatic_tables=AUTOMATIC_TABLES):
     """The text that the program has to print for a run document."""
     lines = ['publish 0', 'final 0']
-    lines += [line for box in contexts_of_page(run) for line in piece_lines(box)]
+    lines += [line for box in contexts_of_page(run, automatic_tables) for line in piece_lines(box)]
     return '\n'.join(lines) + '\n'
 
 
@@ -183,7 +195,8 @@ def context_count(run):
 
 
 def main():
-    sys.stdout.write(report(json.loads(sys.stdin.buffer.read())))
+    automatic_tables = AUTOMATIC_TABLES or '--automatic-tables' in sys.argv[1:]
+    sys.stdout.write(report(json.loads(sys.stdin.buffer.read()), automatic_tables))
 
 
 if __name__ == '__main__':

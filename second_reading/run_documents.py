@@ -10,10 +10,12 @@ import random
 from atomic_documents import atomic_document
 from documents import document, print_documents
 from edits import Document
+from positioned_documents import positioned_document
 from report import context_count, report
+from table_documents import table_document
 from text_documents import text_document
 
-DRAWS = (document, text_document, atomic_document)
+DRAWS = (document, text_document, atomic_document, table_document, table_document, positioned_document)
 EDITORS = [0, 1, 1, 2, 2, 3, 4, 16]
 COMMANDS = [0, 1, 2, 3, 4, 5, 6, 8]
 BAD_DECLARATIONS = [('colour', 'red'), ('Width', '1px'), ('width', '10'), ('width', '-1px'), ('display', 'flex'),
@@ -36,12 +38,8 @@ class RunDocument:
         return self.rng.random() * 100 < hundredths
 
     def drawn_document(self):
-        """A document without tables, also where a declaration comes to another node."""
-        run = self.draw_document(self.rng.randrange(10 ** 6), 0)
-        for node in run['nodes']:
-            if 'table' in node.get('style', {}).get('display', ''):
-                del node['style']['display']
-        return run
+        """A document of the kind of this run."""
+        return self.draw_document(self.rng.randrange(10 ** 6), 0)
 
     def draw(self):
         editors = [[self.command() for _ in range(self.choice(COMMANDS))] for _ in range(self.choice(EDITORS))]

@@ -5,7 +5,8 @@ They depend on the containing block and on preferred widths, so they are found b
 """
 from collections import namedtuple
 
-from columns import all_spacings_across, column_widths, width_over_columns
+from automatic_columns import automatic_column_widths, automatic_width
+from columns import all_spacings_across, column_widths, used_columns, width_over_columns
 from edges import NO_EDGES, borders, margins, paddings
 from offsets import solve_absolute
 from parts import InlineBox
@@ -99,18 +100,30 @@ def within_bounds(equation, size, least, most):
     return solved
 
 
+def room_for_table(wrapper, containing_width):
+    """What the margins, borders and paddings of a table leave of the width; margins of `auto` are 0 (17.5.2.2)."""
+    margin_left, margin_right = (resolve(wrapper.style[name], containing_width) or 0
+                                 for name in ('margin-left', 'margin-right'))
+    return containing_width - margin_left - edges_across(wrapper.table) - margin_right
+
+
 def used_widths(box, equation, containing_width):
-    """The widths that solve an equation; those of a table after its columns have made it wider (17.5.2.1)."""
+    """The widths that solve an equation; those of a table after its columns have settled how wide it is (17.5.2)."""
     if box.is_replaced:
         return equation(box.replaced_width)                         # 10.3.2, 10.3.4, 10.3.6 and 10.3.8
     width, most = (resolve(box.style[name], containing_width) for name in ('width', 'max-width'))
     least = size_within_limit(resolve(box.style['min-width'], containing_width))
+    if box.table and box.table.is_automatic:
+        used = automatic_width(box.table, width, room_for_table(box, containing_width), least, most)
+        box.table.column_widths = used_columns(automatic_column_widths(box.table, used))
+        return equation(used)
     widths = within_bounds(equation, width, least, most)
     if not box.table:
         return widths
     wanted = size_within_limit(widths.size)
-    box.table.column_widths = column_widths(box.table, wanted)
-    return equation(max(wanted, sum(box.table.column_widths) + all_spacings_across(box.table)))
+    columns = column_widths(box.table, wanted)
+    box.table.column_widths = used_columns(columns)
+    return equation(max(wanted, sum(columns) + all_spacings_across(box.table)))
 
 
 def height_within(height, least, most):

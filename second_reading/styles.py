@@ -29,7 +29,7 @@ INITIAL_VALUES = {
     **{side: 'auto' for side in SIDES}, 'z-index': 'auto',
     'vertical-align': 'baseline', 'line-height': 'normal', 'text-indent': '0', 'text-align': 'left',
     'white-space': 'normal', 'letter-spacing': 'normal', 'word-spacing': 'normal',
-    'border-collapse': 'separate', 'border-spacing': '0', 'caption-side': 'top',
+    'border-collapse': 'separate', 'border-spacing': '0', 'caption-side': 'top', 'table-layout': 'auto',
 }
 INHERITED = ('line-height', 'text-indent', 'text-align', 'white-space', 'letter-spacing', 'word-spacing',
              'border-collapse', 'border-spacing', 'caption-side')

@@ -211,16 +211,16 @@ TABLE_MISTAKES = {
         ('an indent in a cell is of its own width', '    find_sizes_inside(cell, table.width)\n',
          '    find_sizes_inside(cell, cell.width)\n'),
         ('a table is no wider than it is to be',
-         'equation(max(wanted, sum(box.table.column_widths) + all_spacings_across(box.table)))', 'equation(wanted)'),
+         'equation(max(wanted, sum(columns) + all_spacings_across(box.table)))', 'equation(wanted)'),
         ('columns do not see the bounds of the table', 'wanted = size_within_limit(widths.size)',
          'wanted = size_within_limit(equation(width).size)'),
         ('the greatest width of a table cuts its columns',
-         'return equation(max(wanted, sum(box.table.column_widths) + all_spacings_across(box.table)))',
-         'used = max(wanted, sum(box.table.column_widths) + all_spacings_across(box.table))\n'
+         'return equation(max(wanted, sum(columns) + all_spacings_across(box.table)))',
+         'used = max(wanted, sum(columns) + all_spacings_across(box.table))\n'
          '    return equation(used if most is None else max(least, min(used, most)))'),
         ('margins are solved before columns make the table wider',
-         'return equation(max(wanted, sum(box.table.column_widths) + all_spacings_across(box.table)))',
-         'return widths._replace(size=max(wanted, sum(box.table.column_widths) + all_spacings_across(box.table)))'),
+         'return equation(max(wanted, sum(columns) + all_spacings_across(box.table)))',
+         'return widths._replace(size=max(wanted, sum(columns) + all_spacings_across(box.table)))'),
         ('a wrapper is as wide as the content of its table',
          'box.width = box.border_box_width = size_within_limit(box.table.border_box_width)',
          'box.width = box.border_box_width = size_within_limit(box.table.width)'),
@@ -245,8 +245,9 @@ TABLE_MISTAKES = {
          '    find_heights(sized, None if box.table else containing_height)\n'),
     ],
     'preferred': [
-        ('a caption counts in the width of a table', '        pair = widths_of_columns(box.table)\n',
-         '        pair = widths_of_columns(box.table)\n'
+        ('a caption counts in the width of a table',
+         '        pair = (widths_of_automatic_columns if box.table.is_automatic else widths_of_columns)(box)\n',
+         '        pair = widths_of_columns(box)\n'
          '        captions = [contribution(child) for child in box.children if child is not box.table]\n'
          '        pair = Pair(*(max(widths) for widths in zip(pair, *captions)))\n'),
         ('a spanning cell counts in its first column', 'if area.columns == 1 and own', 'if own'),

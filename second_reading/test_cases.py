@@ -41,11 +41,13 @@ class LayoutCase(unittest.TestCase):
 
     spans = {}                      # of cells, by their ids
     face = {}
+    automatic_tables = False
 
     def boxes_of(self, root, kinds=('box', 'line', 'text')):
         """What the report of a document with this root has of these kinds."""
         nodes = [{**node, **self.spans.get(node['id'], {})} for node in nodes_of(root)]
-        lines = [line.split() for line in report({'viewport': [100, 80], 'face': self.face, 'nodes': nodes}).splitlines()]
+        text = report({'viewport': [100, 80], 'face': self.face, 'nodes': nodes}, self.automatic_tables)
+        lines = [line.split() for line in text.splitlines()]
         return [' '.join([line[1]] + ['%.9g' % (int(number) / 64) for number in line[3:]])
                 for line in lines if line[0] in kinds]
 

@@ -3,8 +3,9 @@ import unittest
 
 from alignment import vertical_align
 from atomic_documents import atomic_document
+from automatic_columns import extent_of_cell
 from boxes import boxes_of_context
-from columns import all_spacings_across
+from columns import all_spacings_across, width_over_columns
 from content import Start, takes_room
 from documents import document
 from face import Face
@@ -14,6 +15,7 @@ from nodes import read_nodes
 from page import Page
 from parts import InlineBox, TextBox
 from positioned_documents import positioned_document
+from preferred import contribution
 from report import report
 from rows import content_height
 from styles import LIMIT
@@ -38,12 +40,14 @@ def boxes_from(box):
 
 
 class Laws(unittest.TestCase):
+    automatic_tables = False
+
     @classmethod
     def setUpClass(cls):
         draws = (document, text_document, atomic_document, table_document, positioned_document)
         runs = [draw(SEED, number) for number in range(DOCUMENTS) for draw in draws]
         roots = [(read_nodes(run), run['viewport']) for run in runs]
-        pages = [Page(root, viewport, Face({})) for root, viewport in roots if not root.is_hidden]
+        pages = [Page(root, viewport, Face({}), cls.automatic_tables) for root, viewport in roots if not root.is_hidden]
         cls.context_boxes = [box for page in pages for box in boxes_from(page.root) if box.is_context]
         cls.flows = [box.flow for box in cls.context_boxes if box.flow]
         cls.tables = [box for box in cls.context_boxes if box.display == 'table-box']
@@ -195,7 +199,7 @@ class Laws(unittest.TestCase):
             static = [with_style(node, position='static') if node.get('style', {}).get('position') == 'relative' else node
                       for node in run['nodes']]
             if all(node.get('style', {}).get('position') not in ('absolute', 'fixed') for node in run['nodes']):
-                sizes, static_sizes = ([line.split()[:3] + line.split()[5:] for line in report(each).splitlines()]
+                sizes, static_sizes = ([line.split()[:3] + line.split()[5:] for line in self.lines(each)]
                                        for each in (run, dict(run, nodes=static)))
                 self.assertEqual(static_sizes, sizes)
 
@@ -211,11 +215,45 @@ class Laws(unittest.TestCase):
             if run['nodes'][0]['id'] in gone:
                 continue
             kept = [node for node in run['nodes'] if node['id'] not in gone]
-            lines = [line for line in report(run).splitlines()[2:] if int(line.split()[1]) not in gone]
-            self.assertEqual(report(dict(run, nodes=kept)).splitlines()[2:], lines)
+            lines = [line for line in self.lines(run)[2:] if int(line.split()[1]) not in gone]
+            self.assertEqual(self.lines(dict(run, nodes=kept))[2:], lines)
 
     def positioned_runs(self):
         return [positioned_document(SEED, number) for number in range(DOCUMENTS)]
+
+    def lines(self, run):
+        return report(run, self.automatic_tables).splitlines()
+
+
+class LawsWithAutomaticTables(Laws):
+    automatic_tables = True
+
+    def automatic(self):
+        return [table for table in self.tables if table.is_automatic]
+
+    def test_column_has_its_minimum(self):
+        for table in self.automatic():
+            extent = table.columns_extent
+            for widths in zip(extent.minimum, table.column_widths):
+                self.assertLessEqual(*widths)
+            for widths in zip(extent.minimum, extent.maximum):
+                self.assertLessEqual(*widths)
+
+    def test_no_column_is_over_its_maximum_where_another_is_below(self):
+        for table in self.automatic():
+            rests = [width - maximum for width, maximum in zip(table.column_widths, table.columns_extent.maximum)]
+            self.assertTrue(all(rest <= 0 for rest in rests) or all(rest >= 0 for rest in rests))
+
+    def test_columns_of_a_cell_have_what_it_needs(self):
+        for table in self.automatic():
+            for cell, area in table.grid.areas.items():
+                self.assertLessEqual(extent_of_cell(cell).minimum, width_over_columns(table, area.column, area.columns))
+
+    def test_table_is_as_wide_as_its_captions_need(self):
+        for table in self.automatic():
+            for caption in table.parent.children:
+                if caption is not table and table.width < LIMIT:
+                    self.assertLessEqual(contribution(caption).least, table.border_box_width)
 
 
 def with_style(node, **declarations):

@@ -14,7 +14,7 @@
 //! Between two cases stands an empty line. The line `with ..` has the terms that aren't plain (`terms.rt`), and is left
 //! out where all are. A document may have lines that stand for copies (`copies.rt`). Under `answer Read` stands what the
 //! document is read as (`reading.rt`). With the term `show-kept 1` the answer tells the core that is kept, behind the status:
-//! `Ok, kept 5 entries, laid 3`.
+//! `Ok, kept 5 entries, laid 3`. With the term `sweep writes` and the like it makes calls in a row (`sweep.rt`).
 //!
 //! With the terms `hold POINT, until POINT` a thread of a run is held at the one point until the other one was reached (`gates.rt`), and the
 //! answer tells whether that was so: `Ok, met`. Such an answer is wanted without its line `laid`, since how much is laid out depends on who

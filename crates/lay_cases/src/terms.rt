@@ -17,6 +17,15 @@ pub(crate) struct Terms<'a> {
     shows_kept: bool,
     hold: Option<Point>,
     until: Option<Point>,
+    sweep: Option<Sweep>,
+}
+
+/// Which calls a case makes in a row (`sweep.rt`).
+#[derive(Clone, Copy)]
+pub(crate) enum Sweep {
+    Reads,
+    Writes,
+    Fronts,
 }
 
 /// How many bytes a stream takes at most in a call, and the number of the call that fails, from 1; 0 where none does.
@@ -42,6 +51,7 @@ pub const PLAIN: Terms<'static> = Terms {
     shows_kept: false,
     hold: None,
     until: None,
+    sweep: None,
 };
 
 impl Sweep {
@@ -74,6 +84,7 @@ impl<'a> Terms<'a> {
             "document" => self.document = Some(value),
             "hold" => self.hold = Some(point(value)?),
             "until" => self.until = Some(point(value)?),
+            "sweep" => self.sweep = Some(Sweep::read(value)?),
             _ => return self.set_number(key, value.parse::<usize>().ok()?),
         }
         Some(())

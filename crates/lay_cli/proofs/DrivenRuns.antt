@@ -1,7 +1,7 @@
 -- A core that answered a run's editors, by the parts that are known of it one by one.
 use Rattle.std.specs.Prelude.{◌≡◌}
 use Rattle.std.proofs.Common.{subst}
-use Rattle.lay_layout.specs.history.Calls.{AnswersScripts, TakesTurns}
+use Rattle.lay_layout.specs.history.Calls.{AnswersScripts}
 use Rattle.lay_layout.specs.history.Legal.{IsWhole}
 use Rattle.lay_drive.specs.editing_core.State.{IsCore, State}
 use Rattle.lay_layout.specs.run.Runs.{Run}

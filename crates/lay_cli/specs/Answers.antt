@@ -9,7 +9,7 @@ use Rattle.std.specs.declared.alloc.Global.{Global}
 use Rattle.lay_layout.specs.frag.Pieces.{Context}
 use Rattle.lay_layout.specs.context.Solves.{Solves}
 use Rattle.lay_layout.specs.history.Histories.{accepted}
-use Rattle.lay_layout.specs.history.Calls.{AnswersScripts, TakesTurns}
+use Rattle.lay_layout.specs.history.Calls.{AnswersScripts}
 use Rattle.lay_layout.specs.history.Legal.{IsWhole}
 use Rattle.lay_layout.specs.history.Trees.{tree_at}
 use Rattle.lay_drive.specs.editing_core.State.{IsCore, State}

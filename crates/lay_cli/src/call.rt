@@ -9,9 +9,9 @@ ghost use Rattle.lay_cli.specs.Answers.{AreRead, HaveForm, HaveNoForm, IsAskedWe
 ghost use Rattle.lay_cli.specs.Endings.{Ends, TookFrontOf, TookWhole};
 ghost use Rattle.lay_cli.specs.Input.{IsReadOut};
 
+use crate::at_point::hit;
 use crate::drive::{Generation, Means, generate, run};
-use crate::hit::hit;
-use crate::scratch::scratch;
+use crate::from_scratch::scratch;
 use crate::status::Status;
 use crate::telling::told;
 use lay_drive::editing_core::Core;

@@ -16,7 +16,7 @@ use lay_drive::editing_core::Core;
 use lay_generator::{generated_run, run_summary};
 use lay_layout::run::RunDoc;
 use lay_layout::units::{NoMemory, Text};
-use lay_outside::{Sink, Source, write_all};
+use lay_outside::{Gate, Sink, Source, write_all};
 use lay_report::write_run;
 use std::alloc::Global;
 use std::sync::Wait;

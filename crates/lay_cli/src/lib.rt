@@ -7,18 +7,18 @@
 //! for these words: they are given no runtime, so they start no thread and wait for none, and they return.
 #![tactic(auto)]
 
+mod at_point;
 mod call;
 mod drive;
-mod hit;
+mod from_scratch;
 mod input;
 mod refusal;
 mod run_input;
-mod scratch;
 mod status;
 mod telling;
 
+pub use at_point::hit;
 pub use call::top;
-pub use hit::hit;
+pub use from_scratch::scratch;
 pub use lay_drive::editing_core as editing_core;
-pub use scratch::scratch;
 pub use status::Status;

@@ -11,7 +11,7 @@
 //! A claim that was granted is held to the end, so it can be finished late, or twice.
 
 use crate::keys::{key, shown_key};
-use crate::words::{all, first, number, small_number};
+use crate::words::{first, number, small_number};
 use lay_core::cell_work::{Claim, Layout};
 use lay_core::claim_lists::{ClaimList, Outcome, Outcomes};
 use lay_core::{Answer, Core, IdleKind, Next, Tally};
@@ -177,10 +177,10 @@ impl Claims {
         };
         if is_back {
             let claim = self.again(number, number)?;
-            return Ok(claim.map(Outcome::NoMemory));
+            return Ok(claim.map(|claim| Outcome::NoMemory(claim)));
         }
         let done = self.done(alloc, number, number)?;
-        Ok(done.map(Outcome::Done))
+        Ok(done.map(|done| Outcome::Done(done)))
     }
 
     fn finish_all(
@@ -190,7 +190,7 @@ impl Claims {
         rest: &str,
     ) -> Result<Option<String>, NoMemory> {
         let mut outcomes = Vec::new(alloc);
-        for word in all(alloc, rest)? {
+        for word in rest.split(' ') {
             match self.outcome(alloc, word)? {
                 Some(outcome) => outcomes.push(outcome)?,
                 None => return Ok(None),

@@ -1,6 +1,6 @@
 //! Keys of cells: `PHASE NODE`, where the phase is `Measure`, `Size` or `Place`.
 
-use crate::words::{all, first, node};
+use crate::words::{first, node};
 use lay_core::Core;
 use lay_core::shape::CellKey;
 use lay_layout::context::Phase;
@@ -41,13 +41,13 @@ pub(crate) fn shown_key(alloc: Global, key: CellKey) -> Result<String, NoMemory>
 /// For each of these nodes the grants of its three cells, as `1+1+1`; `none` where it has none.
 pub(crate) fn counts(alloc: Global, core: &Core, nodes: &str) -> Result<Option<String>, NoMemory> {
     let mut text = String::new(alloc);
-    for word in all(alloc, nodes)? {
+    for word in nodes.split(' ') {
         let Some(node) = node(word) else {
             return Ok(None);
         };
         let blank = if text.is_empty() { "" } else { " " };
         match laid_of_node(core, node) {
-            Some([measure, size, place]) => write!(text, "{blank}{measure}+{size}+{place}")?,
+            Some(laid) => write!(text, "{blank}{}+{}+{}", laid[0], laid[1], laid[2])?,
             None => write!(text, "{blank}none")?,
         }
     }

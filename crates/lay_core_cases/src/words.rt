@@ -1,21 +1,10 @@
 //! The words of a call.
 
 use lay_layout::doc::NodeId;
-use lay_layout::units::NoMemory;
-use std::alloc::Global;
 
 /// The first word of a text, and what stands behind it.
 pub(crate) fn first(text: &str) -> (&str, &str) {
     text.split_once(' ').unwrap_or((text, ""))
-}
-
-/// All words of a text.
-pub(crate) fn all<'a>(alloc: Global, text: &'a str) -> Result<Vec<&'a str>, NoMemory> {
-    let mut words = Vec::new(alloc);
-    for word in text.split(' ') {
-        words.push(word)?;
-    }
-    Ok(words)
 }
 
 pub(crate) fn number(word: &str) -> Option<u64> {

@@ -5,12 +5,11 @@ use Rattle.lay_drawing.specs.declared.answer.Answer.TheVariants.{Picture, Refusa
 use Rattle.lay_drawing.specs.declared.answer.Lack.{Lack}
 use Rattle.lay_drawing.specs.declared.state.Reading.{Reading}
 use Rattle.lay_drawing.specs.declared.words.Wish.{Wish}
-use Rattle.lay_drawing.specs.declared.hit.PieceName.{PieceName}
-use Rattle.lay_drawing.specs.declared.words.Wish.TheVariants.{Tree, Between, Hit}
+use Rattle.lay_drawing.specs.declared.words.Wish.TheVariants.{Tree, Between}
 use Rattle.lay_drawing.specs.Reports.{IsBadLine, is_shown, ShowsPieces, ShowsNoTree}
 use Rattle.lay_drawing.specs.States.{WasReport}
 use Rattle.lay_drawing.specs.Input.{HasReport}
-use Rattle.lay_drawing.specs.Answers.{AnswersBytes, AnswersReading, AnswersHit, AnswersBoth, IsRefusal, IsAnswer, refusal, bad_line, no_tree, refused}
+use Rattle.lay_drawing.specs.Answers.{AnswersBytes, AnswersReading, AnswersBoth, IsRefusal, IsAnswer, refusal, bad_line, no_tree, refused}
 
 is_found : (o : Option ℕ) (a b : Bool) → a ≡ b → IfSome o (λ v. b ≡ true) → IfSome o (λ v. a ≡ true)
 is_found None a b e found = tt
@@ -44,24 +43,6 @@ pub shown_answers : (left : Option (List ℕ)) (wanted : Option ℕ) (s : Readin
 shown_answers left wanted s (Err l) same has is = tt
 shown_answers None wanted s (Ok a) same has is = tt
 shown_answers (Some bytes) wanted s (Ok a) same has is = subst (λ (o : Option ℕ). AnswersBytes bytes (Tree o) a) same (answers_one bytes s a has is)
-
--- the last tree with a piece of it that is asked for
-answers_hit : (bytes : List ℕ) (name : PieceName) (s : Reading) (a : Answer) → WasReport s bytes → s.wanted ≡ None → AnswersHit name s a → AnswersBytes bytes (Hit name) a
-answers_hit bytes name s (Picture text) was last is = record {
-  marked = _;
-  shows = (
-    s.pieces.items,
-    subst (λ (o : Option ℕ). ShowsPieces bytes o s.pieces.items) last (shows_read bytes s was (subst (λ (o : Option ℕ). IfSome o (λ v. s.is_shown ≡ true)) (sym last) tt)),
-    refl,
-  );
-  text_is = is;
-}
-answers_hit bytes name s (Refusal line) was last is = absurd is
-
-pub hit_answers : (left : Option (List ℕ)) (name : PieceName) (s : Reading) (r : Result Answer Lack) → s.wanted ≡ None → HasReport left s → IfOk r (AnswersHit name s) → IfOk r (λ a. IfSome left (λ bytes. AnswersBytes bytes (Hit name) a))
-hit_answers left name s (Err l) last has is = tt
-hit_answers None name s (Ok a) last has is = tt
-hit_answers (Some bytes) name s (Ok a) last has is = answers_hit bytes name s a has last is
 
 -- the tree of a version that was shown
 shows_at : (bytes : List ℕ) (s : Reading) (version : ℕ) → WasReport s bytes → s.wanted ≡ Some version → s.is_shown ≡ true → ShowsPieces bytes (Some version) s.pieces.items

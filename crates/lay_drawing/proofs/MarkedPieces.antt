@@ -8,8 +8,6 @@ use Rattle.lay_drawing.specs.declared.mark.Mark.TheVariants.{Plain}
 use Rattle.lay_drawing.specs.Lines.{IsPiece}
 use Rattle.lay_drawing.specs.Marks.{IsMarked, marked, plain_pieces}
 use Rattle.lay_drawing.specs.Changes.{is_same, mark_after, left_of, differences}
-use Rattle.lay_drawing.specs.declared.hit.PieceName.{PieceName}
-use Rattle.lay_drawing.specs.Hits.{hit_mark, hit_pieces}
 use Rattle.lay_drawing.proofs.Numerals.{by_bool}
 
 all_marked : (mark : Frag → Mark) (xs : List Frag) → All IsPiece xs → All IsMarked (map (λ f. marked (mark f) f) xs)
@@ -18,9 +16,6 @@ all_marked mark (f ∷ fs) are = All-cons IsMarked (marked (mark f) f) (map (λ 
 
 pub plain_lem : (pieces : List Frag) → All IsPiece pieces → All IsMarked (plain_pieces pieces)
 plain_lem pieces are = all_marked (λ f. Plain) pieces are
-
-pub hit_lem : (name : PieceName) (pieces : List Frag) → All IsPiece pieces → All IsMarked (hit_pieces name pieces)
-hit_lem name pieces are = all_marked (hit_mark name) pieces are
 
 one_left : (after : List Frag) (f : Frag) → IsPiece f → All IsMarked (left_of after f)
 one_left after f is = by_bool (list_any (is_same f) after) (λ e. rw e (All-nil IsMarked)) (λ e. rw e (All-cons IsMarked _ [] is (All-nil IsMarked)))

@@ -12,7 +12,7 @@ is_ours_simple = refl
 pub is_ours_plain : is_simple our_app ≡ true
 is_ours_plain = refl
 
-pub taken : (words : List (List ℕ)) → fault_of our_app words ≡ [] → wish_of words ≡ wish_with (values_at (codes "version") (matches_of our_app words)) (values_at (codes "between") (matches_of our_app words)) (values_at (codes "hit") (matches_of our_app words))
+pub taken : (words : List (List ℕ)) → fault_of our_app words ≡ [] → wish_of words ≡ wish_with (values_at (codes "version") (matches_of our_app words)) (values_at (codes "between") (matches_of our_app words))
 taken words e = rw e refl
 
 some_faults : (f : Kinds) → (f ≡ [] → ⊥) → (length f == 0) ≡ false

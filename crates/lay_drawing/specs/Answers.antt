@@ -1,6 +1,6 @@
 -- Which text answers which bytes: the picture of what is wished; or one line, for the first line that is none of a report, or
 -- for the version that the report doesn't show.
-use Rattle.std.specs.Prelude.{ℕ, ◌≡◌, ◌⊎◌, true, false, List, ◌++◌, codes, Option, Some, None, IfSome}
+use Rattle.std.specs.Prelude.{ℕ, ◌≡◌, ◌⊎◌, true, false, List, ◌++◌, codes, Option, Some, IfSome}
 use Rattle.std.specs.Fmt.{decimal}
 use Rattle.lay_outside.specs.Outside.{Rose}
 use Rattle.lay_frag.specs.declared.frag.Frag.{Frag}
@@ -10,22 +10,19 @@ use Rattle.lay_drawing.specs.declared.answer.Lack.{Lack}
 use Rattle.lay_drawing.specs.declared.answer.Lack.TheVariants.{Failed, NoMemory}
 use Rattle.lay_drawing.specs.declared.mark.Marked.{Marked}
 use Rattle.lay_drawing.specs.declared.words.Wish.{Wish}
-use Rattle.lay_drawing.specs.declared.hit.PieceName.{PieceName}
-use Rattle.lay_drawing.specs.declared.words.Wish.TheVariants.{Tree, Between, Hit}
+use Rattle.lay_drawing.specs.declared.words.Wish.TheVariants.{Tree, Between}
 use Rattle.lay_drawing.specs.Input.{IsDrained}
 use Rattle.lay_drawing.specs.declared.state.Reading.{Reading}
 use Rattle.lay_drawing.specs.Reports.{IsBadLine, ShowsPieces, ShowsNoTree}
 use Rattle.lay_drawing.specs.Marks.{plain_pieces}
 use Rattle.lay_drawing.specs.Changes.{differences}
-use Rattle.lay_drawing.specs.Hits.{hit_pieces}
 use Rattle.lay_drawing.specs.Picture.{picture}
 
--- what the bytes show of a wish: the pieces of a tree, the differences of two, or the pieces of the last tree with one that is marked
+-- what the bytes show of a wish: the pieces of a tree, or the differences of two
 abbrev pub Shows : List ℕ → Wish → List Marked → Type 0
 Shows bytes (Tree wanted) marked = (pieces : List Frag) × ShowsPieces bytes wanted pieces × (marked ≡ plain_pieces pieces)
 Shows bytes (Between before after) marked =
     (old new : List Frag) × ShowsPieces bytes (Some before) old × ShowsPieces bytes (Some after) new × (marked ≡ differences old new)
-Shows bytes (Hit name) marked = (pieces : List Frag) × ShowsPieces bytes None pieces × (marked ≡ hit_pieces name pieces)
 
 -- the text is the picture of what the report shows
 pub record IsPicture (bytes : List ℕ) (wish : Wish) (text : List ℕ) : Type 0 where
@@ -42,7 +39,6 @@ abbrev pub Misses : List ℕ → Wish → ℕ → Type 0
 Misses bytes (Tree wanted) version = (wanted ≡ Some version) × ShowsNoTree bytes version
 Misses bytes (Between before after) version =
     ((version ≡ before) × ShowsNoTree bytes before) ⊎ ((version ≡ after) × ShowsTree bytes before × ShowsNoTree bytes after)
-Misses bytes (Hit name) version = ⊥
 
 abbrev pub refusal : List ℕ → ℕ → List ℕ
 refusal word number = word ++ decimal number ++ codes "\n"
@@ -65,11 +61,6 @@ AnswersBytes bytes wish (Refusal line) = IsRefusal bytes wish line
 abbrev pub AnswersReading : Reading → Answer → Type 0
 AnswersReading s (Picture text) = IfSome s.wanted (λ version. s.is_shown ≡ true) × (text ≡ picture (plain_pieces s.pieces.items))
 AnswersReading s (Refusal line) = (version : ℕ) × (s.wanted ≡ Some version) × (s.is_shown ≡ false) × (line ≡ refusal (codes "refused version ") version)
-
--- the answer for what was read of the last tree, with a piece that is marked
-abbrev pub AnswersHit : PieceName → Reading → Answer → Type 0
-AnswersHit name s (Picture text) = text ≡ picture (hit_pieces name s.pieces.items)
-AnswersHit name s (Refusal line) = ⊥
 
 -- the answer for what was read of two trees
 abbrev pub AnswersBoth : Reading → Reading → Answer → Type 0

@@ -5,7 +5,6 @@ pub mod States
 pub mod Pixels
 pub mod Marks
 pub mod Changes
-pub mod Hits
 pub mod Frames
 pub mod Labels
 pub mod Picture

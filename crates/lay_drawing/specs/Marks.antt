@@ -1,9 +1,9 @@
--- What a picture says of a piece. Of the pieces of one tree it says nothing, but of one that is asked for; between two trees it says
--- how each piece of the later one stands to the earlier, and which pieces of the earlier one aren't in the later.
+-- What a picture says of a piece. Of the pieces of one tree it says nothing; between two trees it says how each piece of
+-- the later one stands to the earlier, and which pieces of the earlier one aren't in the later.
 use Rattle.std.specs.Prelude.{ℕ, List, [], map, codes}
 use Rattle.lay_frag.specs.declared.frag.Frag.{Frag}
 use Rattle.lay_drawing.specs.declared.mark.Mark.{Mark}
-use Rattle.lay_drawing.specs.declared.mark.Mark.TheVariants.{Plain, Same, Moved, Resized, New, Gone, Former, Hit}
+use Rattle.lay_drawing.specs.declared.mark.Mark.TheVariants.{Plain, Same, Moved, Resized, New, Gone, Former}
 use Rattle.lay_drawing.specs.declared.mark.Marked.{Marked}
 use Rattle.lay_drawing.specs.Lines.{IsPiece}
 
@@ -16,7 +16,6 @@ mark_word Resized = codes " resized"
 mark_word New = codes " new"
 mark_word Gone = codes " gone"
 mark_word Former = codes " former"
-mark_word Hit = codes " hit"
 
 abbrev pub marked : Mark → Frag → Marked
 marked mark f = record { piece = f; mark = mark }

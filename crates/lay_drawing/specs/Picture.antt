@@ -54,7 +54,6 @@ light =
     ++ codes ".lay .new { color: #15803d }\n"
     ++ codes ".lay .gone { color: #b91c1c }\n"
     ++ codes ".lay .former { color: #b45309; fill-opacity: 0.1; stroke-dasharray: 1 2 }\n"
-    ++ codes ".lay .hit { color: #be185d; fill: currentColor; fill-opacity: 0.25; stroke-width: 2 }\n"
 
 -- the same where the screen is dark
 unfoldable pub dark : List ℕ
@@ -68,7 +67,6 @@ dark =
     ++ codes ".lay .resized { color: #c084fc }\n"
     ++ codes ".lay .new { color: #3fb950 }\n"
     ++ codes ".lay .gone { color: #ff7b72 }\n"
-    ++ codes ".lay .hit { color: #f472b6 }\n"
     ++ codes "}\n"
 
 unfoldable pub style : List ℕ

@@ -6,13 +6,11 @@ ghost use Rattle.std.specs.Option.{IsSome};
 ghost use Rattle.lay_drawing.specs.Lines.{IsPiece};
 ghost use Rattle.lay_drawing.specs.Marks.{IsMarked, plain_pieces};
 ghost use Rattle.lay_drawing.specs.Changes.{differences};
-ghost use Rattle.lay_drawing.specs.Hits.{hit_pieces};
 ghost use Rattle.lay_drawing.specs.Picture.{picture};
 ghost use Rattle.lay_drawing.specs.Input.{IsDrained};
-ghost use Rattle.lay_drawing.specs.Answers.{refusal, AnswersBytes, AnswersReading, AnswersHit, AnswersBoth, IsLack, DrainsFor};
+ghost use Rattle.lay_drawing.specs.Answers.{refusal, AnswersBytes, AnswersReading, AnswersBoth, IsLack, DrainsFor};
 
 use crate::changes::differences;
-use crate::hit::{PieceName, hit_pieces};
 use crate::input::{Both, InputFault, read_both, read_report};
 use crate::mark::{Marked, plain_pieces};
 use crate::picture::picture;
@@ -55,7 +53,6 @@ pub(crate) fn answer_to<S: Source>(
     match wish {
         Wish::Tree(wanted) => tree_answer(alloc, wanted, source),
         Wish::Between(before, after) => between_answer(alloc, (before, after), source),
-        Wish::Hit(name) => hit_answer(alloc, name, source),
     }
 }
 
@@ -95,20 +92,6 @@ fn between_answer<S: Source>(
     }
 }
 
-/// The answer where a piece of the last tree is asked for.
-fn hit_answer<S: Source>(alloc: Global, name: PieceName, source: &mut S) -> Result<Answer, Lack>
-    ensures answers { IfOk result (λ a. IfSome (S.left source.old) (λ bytes. AnswersBytes bytes (Wish.Hit name) a)) }
-    ensures drained { IfOk result (DrainsFor (S.left source.old) (S.left source.new)) }
-    ensures lacks { IfErr result (IsLack (S.faults source.old) (S.faults source.new)) }
-{
-    match read_report(alloc, None, source) {
-        Ok(reading) => hit_shown(alloc, name, &reading),
-        Err(InputFault::BadLine(number)) => refused(alloc, "refused line ", number),
-        Err(InputFault::Failed) => Err(Lack::Failed),
-        Err(InputFault::NoMemory) => Err(Lack::NoMemory),
-    }
-}
-
 /// The picture of the tree that is asked for, or the line that says that it isn't shown.
 fn shown(alloc: Global, reading: &Reading) -> Result<Answer, Lack>
     ensures ok { IfOk result (AnswersReading reading.now) }
@@ -124,14 +107,6 @@ fn shown(alloc: Global, reading: &Reading) -> Result<Answer, Lack>
             }
         }
     }
-}
-
-/// The picture of the tree with the piece that is asked for.
-fn hit_shown(alloc: Global, name: PieceName, reading: &Reading) -> Result<Answer, Lack>
-    ensures ok { IfOk result (AnswersHit name reading.now) }
-    ensures err { IfErr result (λ l. l ≡ Lack.NoMemory) }
-{
-    hit_drawn(alloc, name, &reading.pieces)
 }
 
 /// The picture of what two trees differ in, or the line that says which isn't shown.
@@ -158,17 +133,6 @@ fn tree_drawn(alloc: Global, pieces: &[Frag]) -> Result<Answer, Lack>
     ensures err { IfErr result (λ l. l ≡ Lack.NoMemory) }
 {
     match plain_pieces(alloc, pieces) {
-        Ok(marked) => drawn(alloc, &marked),
-        Err(_) => Err(Lack::NoMemory),
-    }
-}
-
-fn hit_drawn(alloc: Global, name: PieceName, pieces: &[Frag]) -> Result<Answer, Lack>
-    requires { All IsPiece pieces.now }
-    ensures ok { IfOk result (λ a. a ≡ Answer.Picture (picture (hit_pieces name pieces.now))) }
-    ensures err { IfErr result (λ l. l ≡ Lack.NoMemory) }
-{
-    match hit_pieces(alloc, name, pieces) {
         Ok(marked) => drawn(alloc, &marked),
         Err(_) => Err(Lack::NoMemory),
     }

@@ -150,7 +150,7 @@ fn is_named(a: &Frag, b: &Frag) -> bool
     is_kind(a.kind, b.kind) && a.node.0 == b.node.0 && a.part == b.part
 }
 
-pub(crate) fn is_kind(a: FragKind, b: FragKind) -> bool
+fn is_kind(a: FragKind, b: FragKind) -> bool
     ensures { result ≡ is_kind a b }
 {
     match a {

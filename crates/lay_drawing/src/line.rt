@@ -140,7 +140,7 @@ fn counted(fields: &[&[u8]]) -> Option<u64>
     number(field)
 }
 
-pub(crate) fn kind(word: &[u8]) -> Option<FragKind>
+fn kind(word: &[u8]) -> Option<FragKind>
     ensures { result ≡ kind_of word.now }
 {
     if is_word(word, "box") {

@@ -24,8 +24,6 @@ pub enum Mark {
     Gone,
     /// It is of the earlier tree, and was moved or resized.
     Former,
-    /// It is the one that is asked for.
-    Hit,
 }
 
 /// A piece, and what is said of it.
@@ -48,7 +46,6 @@ impl Mark {
             Mark::New => " new",
             Mark::Gone => " gone",
             Mark::Former => " former",
-            Mark::Hit => " hit",
         }
     }
 }

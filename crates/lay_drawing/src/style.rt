@@ -41,10 +41,6 @@ fn push_light(text: &mut String) -> Result<(), NoMemory>
         text,
         ".lay .former { color: #b45309; fill-opacity: 0.1; stroke-dasharray: 1 2 }\n",
     )?;
-    push(
-        text,
-        ".lay .hit { color: #be185d; fill: currentColor; fill-opacity: 0.25; stroke-width: 2 }\n",
-    )?;
     Ok(())
 }
 
@@ -61,7 +57,6 @@ fn push_dark(text: &mut String) -> Result<(), NoMemory>
     push(text, ".lay .resized { color: #c084fc }\n")?;
     push(text, ".lay .new { color: #3fb950 }\n")?;
     push(text, ".lay .gone { color: #ff7b72 }\n")?;
-    push(text, ".lay .hit { color: #f472b6 }\n")?;
     push(text, "}\n")?;
     Ok(())
 }

@@ -2,13 +2,11 @@
 
 ghost use Rattle.std.specs.Prelude.{◌≡◌, IfOk, [], map, string_bytes, codes, false, option_map, unwrap_or};
 ghost use Rattle.clap.specs.Words.{app_of, found_of, rows_of, rule_of};
-ghost use Rattle.lay_drawing.specs.Reading.{kind_of, number_of, small_of};
+ghost use Rattle.lay_drawing.specs.Reading.{number_of};
 ghost use Rattle.lay_words.specs.Agree.{values_at};
-ghost use Rattle.lay_drawing.specs.Words.{our_app, version_rule, between_rule, hit_rule, tree_at, between_at, hit_at, wish_with_one, wish_with_two, wish_with_three, wish_with_rest, wish_of_trees, wish_with, wish_of};
+ghost use Rattle.lay_drawing.specs.Words.{our_app, version_rule, between_rule, tree_at, between_at, wish_with_one, wish_with_two, wish_with, wish_of};
 
-use crate::hit::PieceName;
-use crate::line::kind;
-use crate::numbers::{number, small};
+use crate::numbers::number;
 use clap::error::ErrorKind;
 use clap::{Arg, ArgAction, ArgMatches, Command};
 use lay_units::NoMemory;
@@ -21,8 +19,6 @@ pub enum Wish {
     Tree(Option<u64>),
     /// What the trees of two versions differ in.
     Between(u64, u64),
-    /// The picture of the last tree, in which the piece of this name is marked.
-    Hit(PieceName),
 }
 
 /// What these words ask for; None where they are wrong.
@@ -48,14 +44,12 @@ fn command<'a>(alloc: Global) -> Result<Command<'a>, AllocError>
 {
     let version = version(alloc);
     let between = between(alloc);
-    let hit = hit(alloc);
     Command::new(alloc, "lay_picture")
         .no_binary_name(true)
         .disable_help_flag(true)
         .disable_version_flag(true)
         .arg(version)?
-        .arg(between)?
-        .arg(hit)
+        .arg(between)
 }
 
 fn version<'a>(alloc: Global) -> Arg<'a>
@@ -78,26 +72,13 @@ fn between<'a>(alloc: Global) -> Arg<'a>
         .num_args(2usize)
 }
 
-/// An option with three values.
-fn hit<'a>(alloc: Global) -> Arg<'a>
-    ensures rule { rule_of result ≡ hit_rule }
-    ensures local { result.global ≡ false }
-{
-    Arg::new(alloc, "hit")
-        .long("hit")
-        .action(ArgAction::Append)
-        .num_args(3usize)
-}
-
 /// What is asked for in what `clap` found.
 fn wish_found(matches: &ArgMatches<'_>) -> Option<Wish>
-    ensures { result ≡ wish_with (values_at (codes "version") (rows_of (found_of matches.now))) (values_at (codes "between") (rows_of (found_of matches.now)))
-        (values_at (codes "hit") (rows_of (found_of matches.now))) }
+    ensures { result ≡ wish_with (values_at (codes "version") (rows_of (found_of matches.now))) (values_at (codes "between") (rows_of (found_of matches.now))) }
 {
     let versions = given(matches.get_raw("version"));
     let between = given(matches.get_raw("between"));
-    let hit = given(matches.get_raw("hit"));
-    wish_with(versions, between, hit)
+    wish_with(versions, between)
 }
 
 /// The values of an option, of which there may be none.
@@ -107,23 +88,8 @@ fn given<'a>(values: Option<&'a [&'a str]>) -> &'a [&'a str]
     values.unwrap_or(&[])
 }
 
-fn wish_with(versions: &[&str], between: &[&str], hit: &[&str]) -> Option<Wish>
-    ensures { result ≡ wish_with (map (λ v. v.now) versions.now) (map (λ v. v.now) between.now) (map (λ v. v.now) hit.now) }
-{
-    match hit.split_first() {
-        None => wish_of_trees(versions, between),
-        Some((kind, more)) => {
-            if versions.is_empty() && between.is_empty() {
-                wish_with_three(kind, more)
-            } else {
-                None
-            }
-        }
-    }
-}
-
-fn wish_of_trees(versions: &[&str], between: &[&str]) -> Option<Wish>
-    ensures { result ≡ wish_of_trees (map (λ v. v.now) versions.now) (map (λ v. v.now) between.now) }
+fn wish_with(versions: &[&str], between: &[&str]) -> Option<Wish>
+    ensures { result ≡ wish_with (map (λ v. v.now) versions.now) (map (λ v. v.now) between.now) }
 {
     match between.split_first() {
         None => wish_with_one(versions),
@@ -167,30 +133,6 @@ fn wish_with_two(before: &str, values: &[&str]) -> Option<Wish>
     }
 }
 
-fn wish_with_three(kind: &str, values: &[&str]) -> Option<Wish>
-    ensures { result ≡ wish_with_three kind.now (map (λ v. v.now) values.now) }
-{
-    match values.split_first() {
-        None => None,
-        Some((node, rest)) => wish_with_rest(kind, node, rest),
-    }
-}
-
-fn wish_with_rest(kind: &str, node: &str, values: &[&str]) -> Option<Wish>
-    ensures { result ≡ wish_with_rest kind.now node.now (map (λ v. v.now) values.now) }
-{
-    match values.split_first() {
-        None => None,
-        Some((part, more)) => {
-            if more.is_empty() {
-                hit_at(kind, node, part)
-            } else {
-                None
-            }
-        }
-    }
-}
-
 fn tree_at(value: &str) -> Option<Wish>
     ensures { result ≡ tree_at value.now }
 {
@@ -204,13 +146,4 @@ fn between_at(before: &str, after: &str) -> Option<Wish>
     let before = number(before.as_bytes())?;
     let after = number(after.as_bytes())?;
     Some(Wish::Between(before, after))
-}
-
-fn hit_at(word: &str, node: &str, part: &str) -> Option<Wish>
-    ensures { result ≡ hit_at word.now node.now part.now }
-{
-    let kind = kind(word.as_bytes())?;
-    let node = small(node.as_bytes())?;
-    let part = small(part.as_bytes())?;
-    Some(Wish::Hit(PieceName { kind, node, part }))
 }

@@ -1,6 +1,6 @@
 -- The pieces of a formatting context in block flow are of nodes of the document, where its boxes are, and the pieces of the anonymous
 -- ones inside it.
-use Rattle.std.proofs.Common.{◌≡◌, ℕ, zero, suc, ◌+◌, ◌<◌, ◌≤◌, ◌+ℤ◌, ℤ, Bool, true, false, not, ◌&&◌, if◌then◌else◌, List, [], ◌∷◌, ◌++◌, length, map, slice_index, slice_index_or, refl, sym, ap, subst, ◌∙◌, arith, Option, None, Some}
+use Rattle.std.proofs.Common.{◌≡◌, ℕ, zero, suc, ◌<◌, ◌≤◌, ◌+ℤ◌, ℤ, Bool, true, false, if◌then◌else◌, List, [], ◌∷◌, ◌++◌, length, slice_index, refl, sym, subst, ◌∙◌, arith, Option, None, Some}
 use Rattle.std.specs.List.{flat_map}
 use Rattle.lay_units.specs.declared.length.Unit.{Unit as Length}
 use Rattle.lay_units.specs.declared.records.Rect.{Rect}
@@ -8,7 +8,6 @@ use Rattle.lay_style.specs.declared.style_words.Float.{Float}
 use Rattle.lay_style.specs.declared.style_words.Float.TheVariants as float
 use Rattle.lay_doc.specs.Document.{Document}
 use Rattle.lay_frag.specs.declared.frag.Frag.{Frag}
-use Rattle.lay_frag.specs.declared.frag.FragKind.{FragKind}
 use Rattle.lay_frag.specs.declared.frag.FragKind.TheVariants as frag_kind
 use Rattle.lay_frag.specs.Pieces.{moved, pieces_at, stretched}
 use Rattle.lay_box_tree.specs.declared.box_role.Role.{Role}
@@ -36,16 +35,14 @@ use Rattle.lay_flow_boxes.specs.ContextBlocks.{cleared_by, content_of_box, float
 use Rattle.lay_flow_boxes.specs.ContextBlocks as blocks
 use Rattle.lay_flow_boxes.specs.PlaceInputs.{PlaceInput}
 use Rattle.lay_sizes.specs.OwnBoxes.{own_box_at}
-use Rattle.lay_pieces.specs.declared.standing.Standing.{Standing}
 use Rattle.lay_pieces.specs.InnerPieces.{inner_pieces_at}
 use Rattle.lay_pieces.specs.PieceParts.{numbered, with_pieces}
-use Rattle.lay_pieces.specs.Splicing.{border_box, spliced}
-use Rattle.lay_placement.specs.ContextPieces.{id_of, painted, piece_as, piece_of_box, pieces_of_box, pieces_on_line, pieces_to, spliced_at}
+use Rattle.lay_placement.specs.ContextPieces.{painted, piece_of_box, pieces_of_box, pieces_on_line, pieces_to, spliced_at}
 use Rattle.lay_placement.specs.ContextPlacements.{IsPlacement}
 use Rattle.lay_placement.specs.ContextPlaces.{ContextPlaces, HasPlaces, measures_of, rows_at}
 use Rattle.lay_placement.specs.OnLines.{line_container, on_lines_of, pieces_on_lines}
 use Rattle.lay_pieces.specs.Placements.{Placement}
-use Rattle.lay_hit.specs.Laws.{IsPieceOf, is_text_piece}
+use Rattle.lay_hit.specs.Laws.{IsPieceOf}
 use Rattle.lay_painted.proofs.Each.{Each, each-append, each-at, each-flat_map, each-if, each-map, each-weaker}
 use Rattle.lay_painted.proofs.NamedItems.{IsBoxIn, IsTextIn, container-segments}
 use Rattle.lay_painted.proofs.NamedLines.{IsLinePiece, IsNamed, line-pieces}

@@ -1,9 +1,7 @@
 -- The boxes of the formatting contexts of a document are those of its contexts, and so of its nodes.
-use Rattle.std.proofs.Common.{◌≡◌, ℕ, zero, suc, ◌+◌, ◌-◌, ◌<◌, ◌≤◌, Bool, true, All, List, [], ◌∷◌, length, map, slice_index_or, refl, sym, ap, subst, ◌∙◌, arith}
-use Rattle.std.specs.List.{filter, range_with_len}
-use Rattle.std.proofs.lemmas.List.FromFn.{length-range_with_len, get_or-range_with_len}
+use Rattle.std.proofs.Common.{◌≡◌, ℕ, zero, suc, ◌+◌, ◌<◌, ◌≤◌, All, List, [], length, slice_index_or, sym, ap, subst, ◌∙◌, arith}
+use Rattle.std.specs.List.{range_with_len}
 use Rattle.lay_style.specs.declared.style.Style.{Style}
-use Rattle.lay_doc.specs.declared.node.Node.{Node}
 use Rattle.lay_doc.specs.Document.{Document, IsDocument}
 use Rattle.lay_box_tree.specs.declared.box_tree.BoxNode.{BoxNode}
 use Rattle.lay_box_tree.specs.BoxColumns.{box_at}
@@ -12,10 +10,10 @@ use Rattle.lay_contexts.specs.ContextList.{AreContextsOf, boxes_of_spots}
 use Rattle.lay_contexts.specs.ContextTree.{boxes_of_place}
 use Rattle.lay_contexts.specs.Contexts.{Context, boxes_in}
 use Rattle.lay_contexts.specs.FormattingBoxes.{as_member, as_own, at_home_before, boxes_of_root, is_at_home}
-use Rattle.lay_contexts.specs.FormattingContextList.{AreFormattingContextsOf, formatting_context_of, homes_in, number_of}
+use Rattle.lay_contexts.specs.FormattingContextList.{AreFormattingContextsOf, formatting_context_of, homes_in}
 use Rattle.lay_contexts.specs.FormattingContexts.{FormattingContext, boxes_in as boxes_of, formatting_context_at}
-use Rattle.lay_contexts.proofs.RootNumbers.{Numbered, numbered}
-use Rattle.lay_painted.proofs.Each.{Each, each-at, each-filter, each-map, each-or, each-all, each-weaker}
+use Rattle.lay_contexts.proofs.RootNumbers.{numbered}
+use Rattle.lay_painted.proofs.Each.{Each, each-filter, each-map, each-or, each-all, each-weaker}
 use Rattle.lay_painted.proofs.NodeBoxes.{IsBoxOf, context-boxes}
 
 -- what is counted is below the count

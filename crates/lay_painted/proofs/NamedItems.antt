@@ -1,7 +1,6 @@
 -- Each item in the lines of a block container is of a box of its formatting context, and each text of a text: so it is of the items of
 -- a container, of what white space processing leaves of them, and of the segments that they are cut into.
-use Rattle.std.proofs.Common.{◌≡◌, ℕ, zero, suc, ◌+◌, ◌<◌, ◌==◌, ◌||◌, ◌&&◌, Bool, true, false, not, if◌then◌else◌, List, [], ◌∷◌, ◌++◌, length, drop, slice_index_or, refl, sym, ap, subst, ◌∙◌, arith, Option, None, Some}
-use Rattle.std.specs.List.{filter}
+use Rattle.std.proofs.Common.{◌≡◌, ℕ, zero, suc, ◌+◌, ◌<◌, ◌==◌, ◌&&◌, Bool, true, false, not, List, [], ◌∷◌, ◌++◌, length, drop, slice_index_or, refl, sym, ap, subst, ◌∙◌, arith}
 use Rattle.lay_units.specs.declared.records.ClusterWidth.{ClusterWidth}
 use Rattle.lay_box_tree.specs.declared.box_role.Role.{Role}
 use Rattle.lay_box_tree.specs.declared.box_role.Role.TheVariants as role
@@ -21,8 +20,8 @@ use Rattle.lay_space.specs.declared.breaks.Entry.TheVariants as entry
 use Rattle.lay_space.specs.declared.segment.Segment.{Segment}
 use Rattle.lay_space.specs.Breaks.{entries_of}
 use Rattle.lay_space.specs.Laws.{content_of, is_out_of_flow}
-use Rattle.lay_space.specs.Segments.{cut, last_segment, segments_of, text_of}
-use Rattle.lay_space.specs.Tokens.{begins_line, cluster_tokens, is_collapsible, next_place, tokens_of, tokens_of_item, without_leading_spaces}
+use Rattle.lay_space.specs.Segments.{cut, last_segment, text_of}
+use Rattle.lay_space.specs.Tokens.{begins_line, cluster_tokens, is_collapsible, tokens_of, tokens_of_item, without_leading_spaces}
 use Rattle.lay_space.specs.WhiteSpace.{processed, space_after}
 use Rattle.lay_space.proofs.KeptContent.{breaks_keep_content_lem}
 use Rattle.lay_items.specs.InlineItems.{items_as, items_at, items_below, items_of}

@@ -1,6 +1,6 @@
 -- The pieces on the lines of a block container are of boxes of its formatting context, and those of texts are of texts, where the
 -- segments of its content are.
-use Rattle.std.proofs.Common.{◌≡◌, ℕ, zero, suc, ◌+◌, ◌-◌, ◌==◌, ◌&&◌, ℤ, ◌+ℤ◌, Bool, true, false, not, if◌then◌else◌, List, [], ◌∷◌, ◌++◌, length, take, drop, map, refl, Option, None, Some}
+use Rattle.std.proofs.Common.{◌≡◌, ℕ, ◌+◌, ◌-◌, ◌==◌, ◌&&◌, ℤ, Bool, true, false, List, [], ◌∷◌, length, take, drop}
 use Rattle.lay_units.specs.declared.length.Unit.{Unit as Length}
 use Rattle.lay_units.specs.declared.records.ClusterWidth.{ClusterWidth}
 use Rattle.lay_space.specs.declared.item.Mode.{Mode}
@@ -28,16 +28,16 @@ use Rattle.lay_inlines.specs.declared.line_piece.LinePieceKind.TheVariants as on
 use Rattle.lay_inlines.specs.declared.lines.Container.{Container}
 use Rattle.lay_inlines.specs.declared.spans.Span.{Span}
 use Rattle.lay_inlines.specs.declared.strokes.Stroke.{Stroke}
-use Rattle.lay_inlines.specs.LinePieces.{baseline_of, blank_of, content_end, line_box, line_pieces_of, line_spans, line_strokes, origin_of, piece_of, pieces_from, pieces_if_seen, pieces_of}
+use Rattle.lay_inlines.specs.LinePieces.{baseline_of, blank_of, content_end, line_pieces_of, line_spans, line_strokes, origin_of, piece_of, pieces_from, pieces_if_seen, pieces_of}
 use Rattle.lay_inlines.specs.OpenBoxes.{open_after, open_after_part}
 use Rattle.lay_inlines.specs.Raises.{RaisesValue, behind_strut, raise_of, raises_after, raises_of}
 use Rattle.lay_inlines.specs.Spans.{edge_at, is_text, open_spans, right_edges, span_of, spans_of, with_shown, with_text}
 use Rattle.lay_inlines.specs.Strokes.{begin_of, end_of, has_content, parts_of, shown_of, stays, stroke_of, strokes}
 use Rattle.lay_content.specs.BoxMeasuresValue.{BoxMeasuresValue}
 use Rattle.lay_content.specs.declared.container.Container.{Container as LineContainer}
-use Rattle.lay_content.specs.Stretches.{parts_at, parts_of as parts_of_items, stretch_of, stretches_of}
-use Rattle.lay_content.specs.TextParts.{advance, cluster_parts, linefeed_parts, parts_between, text_parts}
-use Rattle.lay_painted.proofs.Each.{Each, each-append, each-drop, each-if, each-map, each-take, each-weaker}
+use Rattle.lay_content.specs.Stretches.{parts_at, parts_of as parts_of_items, stretches_of}
+use Rattle.lay_content.specs.TextParts.{advance, cluster_parts, parts_between, text_parts}
+use Rattle.lay_painted.proofs.Each.{Each, each-append, each-drop, each-if, each-map, each-take}
 use Rattle.lay_painted.proofs.NamedItems.{IsItem, IsSegment}
 
 module _ (IsBox IsText : ℕ → Type 0) where

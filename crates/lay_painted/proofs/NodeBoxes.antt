@@ -1,5 +1,5 @@
 -- The boxes of a context are boxes of nodes of its document, and those of texts are of texts.
-use Rattle.std.proofs.Common.{◌≡◌, ◌<◌, ℕ, zero, suc, ◌==◌, Bool, true, false, All, List, [], ◌∷◌, length, map, slice_get, slice_index, slice_index_or, refl, ap, sym, ◌∙◌, if◌then◌else◌, Option, None, Some, option_map, arith}
+use Rattle.std.proofs.Common.{◌≡◌, ◌<◌, ℕ, zero, suc, ◌==◌, Bool, true, false, All, List, [], ◌∷◌, length, slice_get, refl, ap, ◌∙◌, Option, None, Some, option_map}
 use Rattle.lay_style.specs.declared.style.Style.{Style}
 use Rattle.lay_style.specs.declared.style_words.Display.{Display}
 use Rattle.lay_style.specs.declared.style_words.Display.TheVariants as display
@@ -7,9 +7,9 @@ use Rattle.lay_style.specs.ComputedStyle.{style_at}
 use Rattle.lay_doc.specs.declared.node.Kind.{Kind}
 use Rattle.lay_doc.specs.declared.node.Kind.TheVariants as kind
 use Rattle.lay_doc.specs.declared.node.Node.{Node}
-use Rattle.lay_doc.specs.Document.{Document, IsDocument, ids_of}
+use Rattle.lay_doc.specs.Document.{Document, IsDocument}
 use Rattle.lay_doc.specs.NewNodes.{is_text}
-use Rattle.lay_anonymous_boxes.specs.Boxes.{Tree, Trees, tree, no_trees, also}
+use Rattle.lay_anonymous_boxes.specs.Boxes.{Tree, tree}
 use Rattle.lay_anonymous_boxes.specs.Forms.{is_absolute, is_text as is_text_form}
 use Rattle.lay_anonymous_boxes.specs.Runs.{anonymous_facts}
 use Rattle.lay_anonymous_boxes.specs.TableWrappers.{table_facts}
@@ -23,7 +23,7 @@ use Rattle.lay_boxgen.specs.Contexts.{box_at, box_of_node}
 use Rattle.lay_boxgen.specs.Display.{element_form, used_display_of}
 use Rattle.lay_boxgen.specs.InnerBoxes.{AllOf}
 use Rattle.lay_boxgen.specs.Listing.{box_node, kind_of, listed_part, text_at}
-use Rattle.lay_boxgen.specs.NodeBoxes.{facts_with, form_of, node_box, replaced_form}
+use Rattle.lay_boxgen.specs.NodeBoxes.{facts_with, form_of, replaced_form}
 use Rattle.lay_boxgen.specs.NodeTrees.{anchor_facts, as_own, tree_at}
 use Rattle.lay_boxgen.specs.Parts.{generated_of, own_tree, part, whole}
 use Rattle.lay_contexts.proofs.ListedFacts.{all_boxes}

@@ -1,7 +1,6 @@
 -- The pieces of a table are of nodes of the document, where its boxes are, and the pieces of its anonymous cells.
-use Rattle.std.proofs.Common.{◌≡◌, ℕ, zero, suc, ◌<◌, ◌≤◌, Bool, List, [], ◌∷◌, length, if◌then◌else◌, sym, subst, arith}
+use Rattle.std.proofs.Common.{ℕ, zero, suc, ◌<◌, ◌≤◌, length, sym, subst, arith}
 use Rattle.lay_doc.specs.Document.{Document}
-use Rattle.lay_frag.specs.declared.frag.Frag.{Frag}
 use Rattle.lay_box_tree.specs.ContextBoxes.{is_inner}
 use Rattle.lay_pieces.specs.InnerPieces.{inner_pieces_at}
 use Rattle.lay_pieces.specs.Placements.{Placement}

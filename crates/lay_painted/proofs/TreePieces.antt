@@ -1,35 +1,28 @@
 -- The pieces of a tree that solves a document are of its nodes: so are those of each formatting context, where those of the ones inside
 -- it are.
-use Rattle.std.proofs.Common.{◌≡◌, ℕ, zero, suc, ◌+◌, ◌-◌, ◌<◌, ◌≤◌, Bool, true, false, if◌then◌else◌, List, [], ◌∷◌, ◌++◌, length, map, slice_index, slice_index_or, slice_get, refl, sym, ap, subst, ◌∙◌, arith, inl, inr, Option, None, Some, option_map, IfSome, IsPermutation}
-use Rattle.std.specs.List.{flat_map}
-use Rattle.std.proofs.lemmas.Bool.{cases_lt}
+use Rattle.std.proofs.Common.{◌≡◌, ℕ, zero, suc, ◌+◌, ◌<◌, ◌≤◌, Bool, true, false, if◌then◌else◌, List, [], ◌∷◌, length, slice_index, refl, sym, subst, ◌∙◌, arith, Option, None, Some, option_map}
 use Rattle.std.proofs.lemmas.List.Concat.{flat_map-append}
-use Rattle.lay_style.specs.declared.style.Style.{Style}
-use Rattle.lay_doc.specs.Document.{Document, IsDocument}
+use Rattle.lay_doc.specs.Document.{Document}
 use Rattle.lay_boxgen.proofs.NodeColumns.{length-parents}
-use Rattle.lay_face.specs.FaceValue.{FaceValue}
-use Rattle.lay_frag.specs.declared.frag.Frag.{Frag}
 use Rattle.lay_frag.specs.Pieces.{Context as PageContext, frags_of, page_pieces}
 use Rattle.lay_contexts.specs.FormattingContexts.{AreFormattingContexts, FormattingContext, IsInside, boxes_in, formatting_context_at}
 use Rattle.lay_contexts.specs.FormattingLaws.{FormattingContextsStandInOrder}
 use Rattle.lay_pieces.specs.declared.corner.Corner.{Corner}
-use Rattle.lay_pieces.specs.InnerPieces.{inner_pieces_at}
 use Rattle.lay_pieces.specs.Placements.{Placement}
 use Rattle.lay_positioned.specs.Absolute.{is_absolute}
 use Rattle.lay_table_sizes.specs.TableSizesValue.{TableSizesValue}
-use Rattle.lay_context.specs.declared.input.Input.{Input}
 use Rattle.lay_context.specs.declared.task.Phase.TheVariants.{Place}
 use Rattle.lay_context.specs.declared.task.Task.{Task}
 use Rattle.lay_context.specs.declared.value.Value.TheVariants as value
 use Rattle.lay_context.specs.DocumentLayout.{flow_number, flow_numbers, inner_pieces, painted_of, pieces_in}
 use Rattle.lay_context.specs.Local.{IsLocal, IsTaskDone, flow_input, place_as, stand_input, table_input}
 use Rattle.lay_context.specs.Medium.{Medium}
-use Rattle.lay_context.specs.PlacedContexts.{PlacedContext, placed_in, placement_in}
+use Rattle.lay_context.specs.PlacedContexts.{placed_in, placement_in}
 use Rattle.lay_context.specs.Settings.{sizes_in}
-use Rattle.lay_context.specs.Solves.{Solves, listed, medium_of, page_context, page_contexts}
+use Rattle.lay_context.specs.Solves.{listed, medium_of, page_context, page_contexts}
 use Rattle.lay_context.specs.Workings.{Workings}
 use Rattle.lay_context.proofs.OneTree.{in_order}
-use Rattle.lay_hit.specs.Laws.{ArePiecesOf, IsPieceOf}
+use Rattle.lay_hit.specs.Laws.{IsPieceOf}
 use Rattle.lay_painted.specs.Laws.{SolvedPiecesAreOfNodes}
 use Rattle.lay_painted.proofs.Each.{Each, each-append, each-get, each-map, each-or}
 use Rattle.lay_painted.proofs.FlowPieces.{AreInner, Is, at-place, flow-pieces}

@@ -40,7 +40,7 @@ frag_body f =
     kind_word f.kind ++ codes " " ++ decimal f.node.0 ++ codes " " ++ decimal f.part ++ codes " " ++ signed_decimal f.rect.x.0
     ++ codes " " ++ signed_decimal f.rect.y.0 ++ codes " " ++ signed_decimal f.rect.w.0 ++ codes " " ++ signed_decimal f.rect.h.0
 
-entry_ended : (e : Entry) → entry_line e ≡ ended (entry_body e)
+pub entry_ended : (e : Entry) → entry_line e ≡ ended (entry_body e)
 entry_ended (Edit editor index edit reply) = refl
 entry_ended (Publish version) = refl
 entry_ended (Latest editor index reply) = refl
@@ -67,7 +67,7 @@ command_lacks word editor index reply none =
     (field_lacks (word ++ decimal editor) (decimal index) (lacks_append 10 word (decimal editor) none (decimal_lacks 10 editor (omega arith))) (decimal_lacks 10 index (omega arith)))
     (reply_lacks reply)
 
-entry_lacks : (e : Entry) → Lacks 10 (entry_body e)
+pub entry_lacks : (e : Entry) → Lacks 10 (entry_body e)
 entry_lacks (Edit editor index edit reply) = command_lacks (codes "edit ") editor index reply refl
 entry_lacks (Publish version) = lacks_append 10 (codes "publish ") (decimal version) refl (decimal_lacks 10 version (omega arith))
 entry_lacks (Latest editor index reply) = command_lacks (codes "latest ") editor index reply refl
@@ -122,7 +122,7 @@ entry_other (Sync editor index reply) = refl
 abbrev context_bodies : Context → List (List ℕ)
 context_bodies c = flat_map (λ f. frag_body f ∷ []) (page_pieces c)
 
-abbrev tree_bodies : Option (List Context) → List (List ℕ)
+abbrev pub tree_bodies : Option (List Context) → List (List ℕ)
 tree_bodies None = []
 tree_bodies (Some tree) = flat_map context_bodies tree
 
@@ -142,7 +142,7 @@ report_bodies history trees laid = flat_map (entry_bodies trees) history ++ last
 context_joined : (c : Context) → context_text c ≡ joined (context_bodies c)
 context_joined c = joined_parts frag_line (λ f. frag_body f ∷ []) (λ f. frag_ended f ∙ sym (append-nil (ended (frag_body f)))) (page_pieces c)
 
-tree_joined : (o : Option (List Context)) → tree_lines o ≡ joined (tree_bodies o)
+pub tree_joined : (o : Option (List Context)) → tree_lines o ≡ joined (tree_bodies o)
 tree_joined None = refl
 tree_joined (Some tree) = joined_parts context_text context_bodies context_joined tree
 
@@ -167,7 +167,7 @@ report_joined history trees laid =
     ∙ (ap (λ a. a ++ joined (last_bodies (accepted history) laid trees)) (joined_parts (entry_text trees) (entry_bodies trees) (entry_joined trees) history)
     ∙ sym (flat_map-append ended (flat_map (entry_bodies trees) history) (last_bodies (accepted history) laid trees))))
 
-tree_all_lack : (o : Option (List Context)) → AllLack (tree_bodies o)
+pub tree_all_lack : (o : Option (List Context)) → AllLack (tree_bodies o)
 tree_all_lack None = tt
 tree_all_lack (Some tree) = all_lack_parts context_bodies (λ c. all_lack_parts (λ f. frag_body f ∷ []) (λ f. (frag_lacks f, tt)) (page_pieces c)) tree
 

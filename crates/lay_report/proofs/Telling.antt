@@ -119,7 +119,7 @@ command_same a i b j r s p q e =
     let two = same_front 32 (decimal i) (decimal j) (reply_text r) (reply_text s) (decimal_lacks 32 i (omega arith)) (decimal_lacks 32 j (omega arith)) one.1 in
     (decimal_injective a b p.0 q.0 one.0, decimal_injective i j p.1 q.1 two.0, reply_same r s p.2 q.2 two.1)
 
-entry_same : (x y : Entry) → IsEntryWithin x → IsEntryWithin y → entry_body x ≡ entry_body y → ShowsSame x y
+pub entry_same : (x y : Entry) → IsEntryWithin x → IsEntryWithin y → entry_body x ≡ entry_body y → ShowsSame x y
 entry_same (Edit a i f r) (Edit b j g s) p q e = command_same a i b j r s p q (ap (drop 5) (sym (command_is (codes "edit ") a i r) ∙ (e ∙ command_is (codes "edit ") b j s)))
 entry_same (Publish v) (Publish w) p q e = decimal_injective v w p q (ap (drop 8) e)
 entry_same (Latest a i r) (Latest b j s) p q e = command_same a i b j r s p q (ap (drop 7) (sym (command_is (codes "latest ") a i r) ∙ (e ∙ command_is (codes "latest ") b j s)))

@@ -4,7 +4,7 @@ use Rattle.lay_cli.proofs.Completeness.{refuses, reported}
 use Rattle.lay_cli.proofs.call.top.Goals as goal
 
 pub asked-requires-clause-range : goal.asked-requires-clause-range
-asked-requires-clause-range g c = in_range (map string_bytes c.args.words.now) c.in-Ok-Some.form (sym (c.in-Ok-Some.ensures {u = tt}) ∙ c.in-Ok-Some.field-0-is)
+asked-requires-clause-range g c κs within = in_range (map string_bytes c.args.words.now) c.in-Ok-Some.form (sym (c.in-Ok-Some.ensures {u = tt}) ∙ c.in-Ok-Some.field-0-is)
 
 pub returns-in-Ok-Some-clause-complete : goal.returns-in-Ok-Some-clause-complete
 returns-in-Ok-Some-clause-complete g c = λ asked have source_quiet sink_quiet.

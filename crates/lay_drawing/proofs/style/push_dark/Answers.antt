@@ -15,5 +15,4 @@ returns c =
     let e8 = c.in_ok-push-8.ensures {u = tt} in
     let e9 = c.in_ok-push-9.ensures {u = tt} in
     let e10 = c.in_ok-push-10.ensures {u = tt} in
-    let e11 = c.in_ok-push-11.ensures {u = tt} in
-    rw (e11, e10, e9, e8, e7, e6, e5, e4, e3, e2, e1) (simp append_assoc)
+    rw (e10, e9, e8, e7, e6, e5, e4, e3, e2, e1) (simp append_assoc)

@@ -12,7 +12,7 @@ returns-in-Ok c =
     let app = c.in_ok-command.ensures in
     let none = subst (λ a. is_simple_and_free a ≡ true → fault_of a ws ≡ []) app c.in-Ok.ensures.kinds in
     let found = subst (λ a. is_simple a ≡ true → rows_of (found_of c.in-Ok.matches) ≡ matches_of a ws) app (λ s. (c.in-Ok.ensures.matches s).0) in
-    c.wish_found.ensures ∙ ap (λ rows. wish_with (values_at (codes "version") rows) (values_at (codes "between") rows) (values_at (codes "hit") rows)) (found is_ours_plain) ∙ sym (taken ws (none is_ours_simple))
+    c.wish_found.ensures ∙ ap (λ rows. wish_with (values_at (codes "version") rows) (values_at (codes "between") rows)) (found is_ours_plain) ∙ sym (taken ws (none is_ours_simple))
 
 pub returns : goal.returns
 returns c =

@@ -1,0 +1,14 @@
+use Rattle.std.proofs.lemmas.Bool.Decides.{Decides-eqb}
+use Rattle.std.proofs.lemmas.Slice.Eq.{strip_prefix_is}
+use Rattle.lay_audit.proofs.ComparedLines.{stripped_none, stripped_some}
+use Rattle.lay_audit.proofs.lines.behind.Goals as goal
+
+pub returns-clause-some : goal.returns-clause-some
+returns-clause-some c =
+    stripped_some c.args.text.now c.args.front.now c.strip_prefix.result
+    (strip_prefix_is Decides-eqb c.args.text.now c.args.front.now c.strip_prefix.result c.strip_prefix.ensures.cases)
+
+pub returns-clause-none : goal.returns-clause-none
+returns-clause-none c =
+    stripped_none c.args.text.now c.args.front.now c.strip_prefix.result
+    (strip_prefix_is Decides-eqb c.args.text.now c.args.front.now c.strip_prefix.result c.strip_prefix.ensures.cases)

@@ -1,0 +1,8 @@
+pub mod Lines
+pub mod LegalReports
+pub mod Verdicts
+pub mod Laws
+pub mod Presents
+pub mod NextLines
+pub mod WholeLines
+pub mod Readings

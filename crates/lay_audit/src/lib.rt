@@ -1,0 +1,20 @@
+//! Reports that anybody wrote, judged: whether one is a legal report of a run, or which line is the first that no legal
+//! report has there.
+#![tactic(auto)]
+
+mod auditing;
+mod comparing;
+mod ending;
+mod finding;
+mod last_tree;
+mod laws;
+mod lines;
+mod next;
+mod present;
+mod reading;
+mod step;
+mod verdict;
+
+pub use auditing::audit;
+pub use laws::{alike_are_equal, bad_line_is_there, one_verdict, yes_is_legal};
+pub use verdict::Verdict;
