@@ -1,8 +1,8 @@
 -- Names that are given to nodes by their ids, from the last that is listed to the first.
-use Rattle.std.proofs.Common.{◌≡◌, ◌∙◌, ℕ, zero, suc, ◌+◌, ◌-◌, ◌<◌, ◌≤◌, ◌⊎◌, inl, inr, List, [], ◌∷◌, length, map, take, drop, replicate, refl, sym, ap, subst, arith, set, length-map, IsPermutation}
+use Rattle.std.proofs.Common.{◌≡◌, ◌∙◌, ℕ, zero, suc, ◌+◌, ◌-◌, ◌<◌, ◌≤◌, ◌⊎◌, inl, inr, List, [], ◌∷◌, length, map, take, drop, replicate, refl, sym, ap, subst, arith, set, IsPermutation}
 use Rattle.std.specs.Prelude.{slice_index, slice_index_or, Option, Some, None, option_map, ◌==◌, ◌^◌, min, if◌then◌else◌}
 use Rattle.std.proofs.lemmas.Bool.{eq-eqb, ne_eqb, cases_eq}
-use Rattle.std.proofs.lemmas.List.{ext_get_or, get_or-set_same, get_or-set_other, get_or-replicate, length-replicate, get_or-take, length-take, length-take-le}
+use Rattle.std.proofs.lemmas.List.{ext_get_or, get_or-set_same, get_or-set_other, get_or-replicate, length-replicate, length-map, get_or-take, length-take, length-take-le}
 use Rattle.lay_style.specs.Places.{place_of}
 use Rattle.lay_style.proofs.Places.{place_here, place_later, place_none}
 use Rattle.lay_doc.specs.declared.node.Node.{Node}
@@ -164,3 +164,9 @@ counted_more n r is more = omega (arith, is, more)
 
 pub counted_few : (n r : ℕ) → r ≡ min n (2 ^ 64 - 1) → r ≤ 4096 → n ≤ 4096
 counted_few n r is few = omega (arith, is, few)
+
+pub some_left : (names left : List Names) (m i : ℕ) → m ≡ i + 1 → i < length names → left ≡ take m names → 0 < length left
+some_left names left m i e h is =
+    let few : m ≤ length names = omega (arith, e, h) in
+    let count = ap length is ∙ length-take-le m names few in
+    omega (arith, e, count)

@@ -1,11 +1,11 @@
 //! The run that bytes say, styled by their sheet.
 
-ghost use Rattle.std.specs.Prelude.{◌≡◌, ◌≢◌, Err, IfOk};
-ghost use Rattle.lay_json.specs.Fields.{Gives};
+ghost use Rattle.std.specs.Prelude.{◌≢◌, ℕ, List, Ok, Err, IfOk};
+ghost use Rattle.lay_json.specs.Reading.{IsInput};
 ghost use Rattle.lay_input.specs.StyledReading.{IsStyledRun, IsStyledBy, IsStyledReading};
 
 use crate::by_place::by_place;
-use lay_json::{InputFault, read_input};
+use lay_json::{InputFault, SheetIn, read_input};
 use lay_names::NamesList;
 use lay_run::RunDoc;
 use lay_sheet::{Sheet, read_sheet, selectors};
@@ -49,13 +49,23 @@ fn styled_by(
     Ok(styled_run(alloc, run, &sheet, names)?)
 }
 
+/// The run, styled by its sheet where it has one.
+fn styled_input(alloc: Global, run: RunDoc, input: SheetIn) -> Result<RunDoc, InputFault>
+    ensures { result ≢ Err InputFault.NoMemory → (bytes : List ℕ) → IsInput bytes (Ok (run, input)) → IsStyledReading bytes result }
+{
+    let SheetIn { sheet, names } = input;
+    match sheet {
+        Some(text) => styled_by(alloc, run, &text, names),
+        None => Ok(run),
+    }
+}
+
 /// The run that the bytes of a run document say, styled by its sheet where it has one, or their first fault.
 pub fn read_styled(alloc: Global, bytes: &[u8]) -> Result<RunDoc, InputFault>
     ensures { result ≢ Err InputFault.NoMemory → IsStyledReading bytes.now result }
 {
-    let (run, sheet) = read_input(alloc, bytes)?;
-    match sheet.sheet {
-        Some(text) => styled_by(alloc, run, &text, sheet.names),
-        None => Ok(run),
+    match read_input(alloc, bytes) {
+        Ok((run, input)) => styled_input(alloc, run, input),
+        Err(fault) => Err(fault),
     }
 }

@@ -3,7 +3,7 @@ use Rattle.std.specs.Prelude.{slice_index_or}
 use Rattle.std.proofs.lemmas.Grind.{common_steps}
 use Rattle.std.proofs.lemmas.List.{take_all}
 use Rattle.lay_input.specs.NamesByPlace.{no_names, AreNamed}
-use Rattle.lay_input.proofs.Naming.{named_first, named_next, named_all, take_less, read_last}
+use Rattle.lay_input.proofs.Naming.{named_first, named_next, named_all, take_less, read_last, some_left}
 use Rattle.lay_input.proofs.by_place.by_place.Goals as goal
 
 pub loop-done-init : goal.loop-done-init
@@ -21,6 +21,23 @@ loop-done-init c =
       left = was ∙ sym (take_all (count - 0) cut few);
       named = named_first nodes listed cut c.in_ok-named.named.items (count - 0) few fresh;
     }
+
+pub take_last-last-requires : goal.take_last-last-requires
+take_last-last-requires c =
+    let listed = c.args.listed.now in
+    let cut = take (length listed) c.args.names in
+    let count = c.len-count.result in
+    let done = c.loop-done.done in
+    let was : c.truncate.new.self.items ≡ cut = first_of (search rules, grind (arith, common_steps)) in
+    let is_count : count ≡ length c.truncate.new.self.items = first_of (search rules, grind (arith, common_steps)) in
+    let all = is_count ∙ ap length was in
+    let here : done < count = first_of (search rules, grind (arith, common_steps)) in
+    let last : count - done ≡ (count - (done + 1)) + 1 = omega (arith, here) in
+    let within : count - (done + 1) < length cut = omega (arith, here, all) in
+    some_left cut c.loop-done.rest.items (count - done) (count - (done + 1)) last within c.loop-done.invariant.left
+
+pub name_one-requires-clause-count : goal.name_one-requires-clause-count
+name_one-requires-clause-count c = c.loop-done.invariant.named.count
 
 pub loop-done-preserved : goal.loop-done-preserved
 loop-done-preserved c =
