@@ -3,7 +3,7 @@
 
 usage: audit.py RUN < REPORT                     prints `yes`, or `no L`
        audit.py --cases FOLDER [--runs N] [--damages N] [--seed S]
-                                                 writes run documents and reports for `lay_audit_cases`
+                                                 writes run documents and their reports, for a program of tests
 
 RUN is the file of a run document. The cases are reports of random runs as they may be, some of whose commands lack memory, and
 the same with a byte changed, or a line dropped, doubled or exchanged, each with the verdict of this reading.

@@ -229,7 +229,9 @@ class LawsWithAutomaticTables(Laws):
     automatic_tables = True
 
     def automatic(self):
-        return [table for table in self.tables if table.is_automatic]
+        """The tables of this layout whose columns stay within the limit of lengths."""
+        return [table for table in self.tables
+                if table.is_automatic and all(minimum <= LIMIT for minimum in table.columns_extent.minimum)]
 
     def test_column_has_its_minimum(self):
         for table in self.automatic():
