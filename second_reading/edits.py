@@ -2,6 +2,7 @@
 
 An edit is a command of a run document: `set`, `clear`, `text`, `insert` or `remove`.
 """
+from cascade import styled
 from declarations import declaration_fault
 
 GREATEST_DEPTH, MOST_NODES = 128, 16384
@@ -32,12 +33,12 @@ class Node:
 
 
 class Document:
-    """The tree of a run document."""
+    """The tree of a run document, as its sheet styles it; what is inserted later doesn't meet the sheet."""
 
     def __init__(self, run):
         self.settings = {name: run[name] for name in ('viewport', 'face') if name in run}
         self.root, self.by_id = None, {}
-        for fields in run['nodes']:
+        for fields in styled(run)['nodes']:
             parent = self.by_id.get(fields['parent'])
             node = self.add(fields, parent, len(parent.children) if parent else 0)
             self.root = self.root or node

@@ -1,4 +1,5 @@
 """The nodes of a run document, with what kind of box each generates (CSS 2.2, 9.2, 9.3 and 9.7)."""
+from cascade import styled
 from styles import UNITS_PER_PX, computed_style
 
 FLOATS = ('left', 'right')
@@ -72,9 +73,9 @@ class Node:
 
 
 def read_nodes(run):
-    """The root of a run document's nodes, which are linked to their parents and children."""
+    """The root of a run document's nodes, as its sheet styles them, which are linked to their parents and children."""
     root, by_id = None, {}
-    for fields in run['nodes']:
+    for fields in styled(run)['nodes']:
         parent = by_id[fields['parent']] if root else None
         node = by_id[fields['id']] = Node(fields, parent)
         if parent:

@@ -6,6 +6,7 @@ import json
 import re
 import sys
 
+from cascade import MOST_SELECTORS, selector_count
 from declarations import declaration_fault
 
 MOST_BYTES, MOST_LEVELS = 16777216, 127
@@ -227,6 +228,27 @@ def read_editors(editors):
                 raise Refused('I8')
 
 
+def text_where_given(fields, name, place):
+    if name in fields:
+        of_type(str, fields[name], name, place)
+
+
+def read_names(run):
+    """The faults of a run's sheet, and of what its nodes are called."""
+    text_where_given(run, 'sheet', 'run')
+    if 'sheet' not in run:
+        return
+    for index, fields in enumerate(run['nodes']):
+        place = 'node %d' % index
+        if fields['kind'] != 'text':
+            text_where_given(fields, 'tag', place)
+            text_where_given(fields, 'label', place)
+            classes = of_type(list, fields.get('classes', []), 'classes', place)
+            require(all(isinstance(name, str) for name in classes), 'I4', 'classes', place)
+    if selector_count(run['sheet']) > MOST_SELECTORS:
+        raise Refused('I11')
+
+
 def read_run(run):
     of_type(dict, run, 'run', 'run')
     needed_sides(run, 'viewport', 'run')
@@ -239,6 +261,7 @@ def read_run(run):
     for index, fields in enumerate(nodes):
         tree.read(fields, index)
     read_editors(editors)
+    read_names(run)
 
 
 def first_fault(data):

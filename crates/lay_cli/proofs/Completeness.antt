@@ -1,8 +1,8 @@
 -- Bytes don't both spell a run and have a fault, so without faults of the streams each has the answer of its kind.
 use Rattle.std.proofs.Common.{◌≡◌, ◌⊎◌, ℕ, List, refl, inl, inr, Option, Some, None, IfSome, Ok, Err}
 use Rattle.lay_layout.specs.run.Runs.{Run}
-use Rattle.lay_json.specs.Reading.{IsReading}
-use Rattle.lay_json.proofs.OneReading.{one_reading_lem}
+use Rattle.lay_input.specs.StyledReading.{IsStyledReading}
+use Rattle.lay_input.proofs.OneStyledReading.{one_styled_reading_lem}
 use Rattle.lay_drive.specs.editing_core.State.{State}
 use Rattle.lay_words.specs.declared.form.Form.{Form}
 use Rattle.lay_words.specs.declared.form.Form.TheVariants as form
@@ -11,9 +11,9 @@ use Rattle.lay_cli.specs.Endings.{Ends, SinkValue}
 use Rattle.lay_cli.specs.declared.status.Status.{Status}
 use Rattle.lay_cli.specs.declared.status.Status.TheVariants.{Ok as ok, Refused as refused, Usage as usage, ReadFault as read_fault, WriteFault as write_fault, NoMemory as no_memory}
 
-not_both : (bytes line : List ℕ) (run : Run) → IsReading bytes (Ok run) → IsRefusal bytes line → ⊥
+not_both : (bytes line : List ℕ) (run : Run) → IsStyledReading bytes (Ok run) → IsRefusal bytes line → ⊥
 not_both bytes line run reading refusal =
-    let e : Ok run ≡ Err refusal.fault = one_reading_lem bytes (Ok run) (Err refusal.fault) reading refusal.reading in absurd cc
+    let e : Ok run ≡ Err refusal.fault = one_styled_reading_lem bytes (Ok run) (Err refusal.fault) reading refusal.reading in absurd cc
 
 -- words that ask well of these bytes aren't refused
 never_refused : (asked : Form) (bytes line : List ℕ) → IsAskedWell asked bytes → Refuses asked (Some bytes) line → ⊥

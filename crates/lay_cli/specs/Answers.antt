@@ -17,7 +17,7 @@ use Rattle.lay_report.specs.Report.{run_report, scratch_report}
 use Rattle.lay_layout.specs.run.Runs.{Run}
 use Rattle.lay_json.specs.declared.fault.InputFault.{InputFault}
 use Rattle.lay_json.specs.declared.fault.InputFault.TheVariants.{NoMemory}
-use Rattle.lay_json.specs.Reading.{IsReading}
+use Rattle.lay_input.specs.StyledReading.{IsStyledReading}
 use Rattle.lay_generator.specs.Generated.{generated}
 use Rattle.lay_generator.specs.Summary.{summary}
 use Rattle.lay_words.specs.declared.form.Form.{Form}
@@ -40,15 +40,15 @@ HaveForm words wanted = form_of (map string_bytes words) ≡ Some wanted
 abbrev pub HaveNoForm : List (String Global) → Type 0
 HaveNoForm words = form_of (map string_bytes words) ≡ None
 
--- the bytes spell this run
+-- the bytes spell this run, whose document their sheet has styled
 abbrev pub Spells : List ℕ → Run → Type 0
-Spells bytes run = IsReading bytes (Ok run)
+Spells bytes run = IsStyledReading bytes (Ok run)
 
 -- why bytes are refused, and the line that says so
 pub record IsRefusal (bytes line : List ℕ) : Type 0 where
   pub fault : InputFault
   pub named : fault ≢ NoMemory
-  pub reading : IsReading bytes (Err fault)
+  pub reading : IsStyledReading bytes (Err fault)
   pub line_is : line ≡ fault_line fault
 
 -- the text is the report of a tree that solves the run's document

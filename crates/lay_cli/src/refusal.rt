@@ -34,6 +34,7 @@ fn push_fault(text: &mut String, fault: InputFault) -> Result<(), NoMemory>
         InputFault::BadDecl { node, known } => push_value_fault(text, node, known),
         InputFault::TooManyEditors => push_word(text, "I7"),
         InputFault::TooManyCommands => push_word(text, "I8"),
+        InputFault::TooManySelectors => push_word(text, "I11"),
         InputFault::NoMemory => push_word(text, ""),
     }
 }

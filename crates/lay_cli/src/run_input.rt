@@ -7,7 +7,8 @@ ghost use Rattle.lay_cli.specs.Input.{IsDrained, IsReadOut};
 
 use crate::input::{SourceFault, read_all};
 use crate::refusal::fault_line;
-use lay_json::{InputFault, read_run};
+use lay_input::read_styled;
+use lay_json::InputFault;
 use lay_layout::run::RunDoc;
 use lay_layout::units::{NoMemory, Text};
 use lay_outside::Source;
@@ -61,7 +62,7 @@ pub(crate) fn run_input<S: Source>(alloc: Global, source: &mut S) -> Result<Inpu
 fn input_in(alloc: Global, bytes: &[u8]) -> Result<Input, NoMemory>
     ensures { IfOk result (IsInput bytes.now) }
 {
-    match read_run(alloc, bytes) {
+    match read_styled(alloc, bytes) {
         Ok(run) => Ok(Input::Run(run)),
         Err(fault) => refusal_of(alloc, fault),
     }

@@ -7,13 +7,13 @@ use Rattle.lay_json.specs.RunDocument.{run_of}
 use Rattle.lay_json.specs.Reading.{IsJson, IsNoJson, too_long, bad_json, json}
 use Rattle.lay_json.specs.Laws.{OneReading}
 
-some-none : (o : Option Data) (value : Data) → o ≡ Some value → o ≡ None → ⊥
+pub some-none : (o : Option Data) (value : Data) → o ≡ Some value → o ≡ None → ⊥
 some-none o value some none = grind (arith, common_steps, some, none)
 
-one-some : (o : Option Data) (v w : Data) → o ≡ Some v → o ≡ Some w → v ≡ w
+pub one-some : (o : Option Data) (v w : Data) → o ≡ Some v → o ≡ Some w → v ≡ w
 one-some o v w is_v is_w = grind (arith, common_steps, is_v, is_w)
 
-no_json : (bytes : List ℕ) (value : Data) → IsJson bytes value → IsNoJson bytes → ⊥
+pub no_json : (bytes : List ℕ) (value : Data) → IsJson bytes value → IsNoJson bytes → ⊥
 no_json bytes value is none = some-none (read bytes) value is.1 (none is.0)
 
 pub one_reading_lem : OneReading

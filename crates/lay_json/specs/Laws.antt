@@ -7,7 +7,8 @@ use Rattle.lay_doc.specs.Document.{Document}
 use Rattle.lay_json.specs.declared.fault.InputFault.{InputFault}
 use Rattle.lay_json.specs.Nodes.{root_of, put_node}
 use Rattle.lay_run.specs.Runs.{Run}
-use Rattle.lay_json.specs.Reading.{IsReading}
+use Rattle.lay_json.specs.declared.sheet_in.SheetIn.{SheetIn}
+use Rattle.lay_json.specs.Reading.{IsReading, AreNames, IsInput}
 
 -- bytes have one reading
 abbrev pub OneReading : Type 0
@@ -18,3 +19,9 @@ abbrev pub NodesAreCounted : Type 0
 NodesAreCounted =
     ((viewport : ℕ × ℕ) (root : NodeId × NewNodeValue) (d : Document) → root_of viewport root ≡ Ok d → length d.nodes ≡ 1)
     × ((d e : Document) (x : Data) → put_node d x ≡ Ok e → length e.nodes ≡ length d.nodes + 1)
+
+-- and one reading with a sheet and names
+abbrev pub OneInput : Type 0
+OneInput =
+    ((bytes : List ℕ) (a b : Result SheetIn InputFault) → AreNames bytes a → AreNames bytes b → a ≡ b)
+    × ((bytes : List ℕ) (a b : Result (Run × SheetIn) InputFault) → IsInput bytes a → IsInput bytes b → a ≡ b)

@@ -6,5 +6,6 @@ pub mod Commands
 pub mod Editors
 pub mod Listing
 pub mod RunDocument
+pub mod SheetNames
 pub mod Reading
 pub mod Laws

@@ -1,11 +1,14 @@
 -- What bytes say: more than 16,777,216 are too long (I1); else they are a JSON text (RFC 8259) of a value
 -- nested at most 127 deep, or not (I2); and the value is a run document, or has a first fault.
-use Rattle.std.specs.Prelude.{ℕ, ◌≡◌, ◌<◌, ◌≤◌, List, length, Some, None, Result, Err, IsUtf8}
+use Rattle.std.specs.Prelude.{ℕ, ◌≡◌, ◌<◌, ◌≤◌, List, length, Some, None, Result, Ok, Err, IsUtf8}
 use Rattle.serde_json.specs.Data.{Data}
 use Rattle.serde_json.specs.Read.{read}
 use Rattle.lay_json.specs.declared.fault.InputFault.{InputFault}
 use Rattle.lay_json.specs.declared.fault.InputFault.TheVariants.{TooLong, BadJson}
+use Rattle.lay_json.specs.declared.sheet_in.SheetIn.{SheetIn}
+use Rattle.lay_json.specs.Fields.{map_read}
 use Rattle.lay_json.specs.RunDocument.{run_of}
+use Rattle.lay_json.specs.SheetNames.{sheet_of}
 use Rattle.lay_run.specs.Runs.{Run}
 
 -- the bytes are a JSON text of this value, nested at most 127 deep
@@ -21,3 +24,15 @@ pub data IsReading (bytes : List ℕ) (outcome : Result Run InputFault) : Type 0
   too_long : 16777216 < length bytes → outcome ≡ Err TooLong → IsReading bytes outcome
   bad_json : length bytes ≤ 16777216 → IsNoJson bytes → outcome ≡ Err BadJson → IsReading bytes outcome
   json : (value : Data) → length bytes ≤ 16777216 → IsJson bytes value → outcome ≡ run_of value → IsReading bytes outcome
+
+-- the bytes say this sheet with these names, or have this first fault of theirs
+pub data AreNames (bytes : List ℕ) (outcome : Result SheetIn InputFault) : Type 0 where
+  names_too_long : 16777216 < length bytes → outcome ≡ Err TooLong → AreNames bytes outcome
+  names_bad_json : length bytes ≤ 16777216 → IsNoJson bytes → outcome ≡ Err BadJson → AreNames bytes outcome
+  names_json : (value : Data) → length bytes ≤ 16777216 → IsJson bytes value → outcome ≡ sheet_of value → AreNames bytes outcome
+
+-- the bytes say this run with this sheet, or have this first fault: all faults of the run come before those of the sheet
+pub data IsInput (bytes : List ℕ) (outcome : Result (Run × SheetIn) InputFault) : Type 0 where
+  no_run : (fault : InputFault) → IsReading bytes (Err fault) → outcome ≡ Err fault → IsInput bytes outcome
+  with_run : (run : Run) (names : Result SheetIn InputFault) → IsReading bytes (Ok run) → AreNames bytes names →
+      outcome ≡ map_read (λ sheet. (run, sheet)) names → IsInput bytes outcome

@@ -33,6 +33,10 @@ pub enum Field {
     Property,
     Value,
     Index,
+    Sheet,
+    Tag,
+    Label,
+    Classes,
 }
 
 impl Field {
@@ -65,6 +69,10 @@ impl Field {
             Field::Property => "property",
             Field::Value => "value",
             Field::Index => "index",
+            Field::Sheet => "sheet",
+            Field::Tag => "tag",
+            Field::Label => "label",
+            Field::Classes => "classes",
         }
     }
 }
@@ -80,7 +88,7 @@ pub enum Spot {
     Command { editor: u32, index: u32 },
 }
 
-/// Why bytes give no run. A report says it as I1 to I9.
+/// Why bytes give no run. A report says it as I1 to I11.
 #[derive(Clone, Copy, PartialEq, Eq)]
 pub enum InputFault {
     /// I1: more than 16,777,216 bytes.
@@ -102,6 +110,8 @@ pub enum InputFault {
     TooManyEditors,
     /// I8: more than 8,192 commands, or more than 256 that read.
     TooManyCommands,
+    /// I11: the style sheet has more than 4,096 selectors. It is found where the sheet is read (lay_input).
+    TooManySelectors,
     /// Memory ran out.
     NoMemory,
 }

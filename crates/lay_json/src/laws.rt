@@ -1,6 +1,6 @@
 //! Laws of the definitions. The functions do nothing.
 
-ghost use Rattle.lay_json.specs.Laws.{OneReading, NodesAreCounted};
+ghost use Rattle.lay_json.specs.Laws.{OneReading, OneInput, NodesAreCounted};
 
 /// Bytes have one reading: a run, or a first fault.
 pub fn one_reading()
@@ -10,4 +10,9 @@ pub fn one_reading()
 /// The number of a node is the number of nodes that are read before it.
 pub fn nodes_are_counted()
     ensures { NodesAreCounted }
+{}
+
+/// Bytes say one run with one sheet, or have one first fault.
+pub fn one_input()
+    ensures { OneInput }
 {}

@@ -6,6 +6,9 @@
 //! and which of its faults comes first, is said in `specs/Fields.antt`; then come a file for the face,
 //! two for nodes (`specs/NodeForms.antt`, `specs/Nodes.antt`) and two for the commands of editors
 //! (`specs/Commands.antt`, `specs/Editors.antt`).
+//!
+//! `read_names` answers the style sheet of a run document and what its nodes are called (`specs/SheetNames.antt`), and
+//! `read_input` the run with both, of one reading of the bytes.
 #![tactic(auto)]
 
 mod command;
@@ -20,7 +23,10 @@ mod node_form;
 mod nodes;
 mod reading;
 mod run;
+mod sheet_in;
+mod sheet_names;
 
 pub use fault::{Field, InputFault, Spot};
-pub use laws::{nodes_are_counted, one_reading};
-pub use reading::read_run;
+pub use laws::{nodes_are_counted, one_input, one_reading};
+pub use reading::{read_input, read_names, read_run};
+pub use sheet_in::SheetIn;

@@ -1,10 +1,15 @@
 //! The reading of bytes.
 
 ghost use Rattle.std.specs.Prelude.{◌≡◌, ◌≢◌, Err};
-ghost use Rattle.lay_json.specs.Reading.{IsReading};
+ghost use Rattle.serde_json.specs.View.{view};
+ghost use Rattle.lay_json.specs.Fields.{Gives};
+ghost use Rattle.lay_json.specs.SheetNames.{input_of};
+ghost use Rattle.lay_json.specs.Reading.{IsReading, AreNames, IsInput};
 
 use crate::fault::InputFault;
 use crate::run::run_of;
+use crate::sheet_in::SheetIn;
+use crate::sheet_names::sheet_of;
 use lay_run::RunDoc;
 use serde_json::{Category, Value};
 use std::alloc::Global;
@@ -20,6 +25,44 @@ pub fn read_run(alloc: Global, bytes: &[u8]) -> Result<RunDoc, InputFault>
     }
     match Value::from_slice(alloc, bytes) {
         Ok(value) => run_of(alloc, &value),
+        Err(fault) if fault.classify() == Category::Memory => Err(InputFault::NoMemory),
+        Err(_) => Err(InputFault::BadJson),
+    }
+}
+
+/// The style sheet that the bytes of a run document say, and what its nodes are called, or the first fault of these, where
+/// `read_run` finds none.
+pub fn read_names(alloc: Global, bytes: &[u8]) -> Result<SheetIn, InputFault>
+    ensures { result ≢ Err InputFault.NoMemory → AreNames bytes.now result }
+{
+    if bytes.len() > MOST_BYTES {
+        return Err(InputFault::TooLong);
+    }
+    match Value::from_slice(alloc, bytes) {
+        Ok(value) => sheet_of(alloc, &value),
+        Err(fault) if fault.classify() == Category::Memory => Err(InputFault::NoMemory),
+        Err(_) => Err(InputFault::BadJson),
+    }
+}
+
+/// The run with its sheet and names that a value says.
+fn input_of(alloc: Global, value: &Value) -> Result<(RunDoc, SheetIn), InputFault>
+    ensures { Gives result (input_of (view value.now)) }
+{
+    let run = run_of(alloc, value)?;
+    let sheet = sheet_of(alloc, value)?;
+    Ok((run, sheet))
+}
+
+/// What `read_run` and `read_names` answer, of one reading of the bytes.
+pub fn read_input(alloc: Global, bytes: &[u8]) -> Result<(RunDoc, SheetIn), InputFault>
+    ensures { result ≢ Err InputFault.NoMemory → IsInput bytes.now result }
+{
+    if bytes.len() > MOST_BYTES {
+        return Err(InputFault::TooLong);
+    }
+    match Value::from_slice(alloc, bytes) {
+        Ok(value) => input_of(alloc, &value),
         Err(fault) if fault.classify() == Category::Memory => Err(InputFault::NoMemory),
         Err(_) => Err(InputFault::BadJson),
     }

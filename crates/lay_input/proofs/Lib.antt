@@ -1,0 +1,2 @@
+pub mod OneStyledReading
+pub mod Naming

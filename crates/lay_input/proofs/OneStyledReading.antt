@@ -1,0 +1,82 @@
+-- Bytes have one styled reading.
+use Rattle.std.proofs.Common.{◌≡◌, ◌∙◌, ℕ, ◌<◌, List, length, refl, sym, ap, subst, arith, Some, None, Result, Ok, Err}
+use Rattle.lay_doc.specs.Document.{Document}
+use Rattle.lay_names.specs.declared.names.Names.{Names}
+use Rattle.lay_sheet.specs.Sheets.{RuleValue, selector_count}
+use Rattle.lay_sheet.proofs.OneSheet.{one_sheet_lem}
+use Rattle.lay_styled.proofs.OneStyle.{one_styled_lem}
+use Rattle.lay_run.specs.Runs.{Run}
+use Rattle.lay_json.specs.declared.fault.InputFault.{InputFault}
+use Rattle.lay_json.specs.declared.fault.InputFault.TheVariants.{TooLong}
+use Rattle.lay_json.specs.declared.sheet_in.SheetIn.{SheetIn}
+use Rattle.lay_json.proofs.OneInput.{one_in, input_too_long}
+use Rattle.lay_input.specs.NamesByPlace.{names_by_place}
+use Rattle.lay_input.specs.StyledReading.{IsStyledRun, IsStyledBy, IsStyledReading, too_many, by_sheet, refused, plain, with_sheet}
+use Rattle.lay_input.specs.Laws.{OneStyledReading}
+
+abbrev Said : Type 0
+Said = Result (Run × SheetIn) InputFault
+
+abbrev saying : Run → SheetIn → Said
+saying run sheet = Ok (run, sheet)
+
+abbrev refusing : InputFault → Said
+refusing fault = Err fault
+
+same_fault : (e f : InputFault) → refusing e ≡ refusing f → e ≡ f
+same_fault e f is = cc
+
+no_both : (run : Run) (sheet : SheetIn) (e : InputFault) → saying run sheet ≡ refusing e → ⊥
+no_both run sheet e is = absurd cc
+
+same_run : (run other : Run) (sheet more : SheetIn) → saying run sheet ≡ saying other more → run ≡ other
+same_run run other sheet more is = let e : (run, sheet) ≡ (other, more) = cc in ap (λ (z : Run × SheetIn). z.0) e
+
+same_sheet : (run other : Run) (sheet more : SheetIn) → saying run sheet ≡ saying other more → sheet ≡ more
+same_sheet run other sheet more is = let e : (run, sheet) ≡ (other, more) = cc in ap (λ (z : Run × SheetIn). z.1) e
+
+some_text : (a b : List ℕ) → Some a ≡ Some b → a ≡ b
+some_text a b e = cc
+
+none_text : (a : List ℕ) → None ≡ Some a → ⊥
+none_text a e = absurd cc
+
+abbrev run_with : Run → Document → Run
+run_with run doc = record { doc = doc; face = run.face; scripts = run.scripts; listed = run.listed }
+
+one_run : (run : Run) (rules : List RuleValue) (names : List Names) (a b : Run) → IsStyledRun run rules names a → IsStyledRun run rules names b → a ≡ b
+one_run run rules names a b x y =
+    x.is ∙ ap (run_with run) (one_styled_lem run.doc rules (names_by_place run.listed names run.doc.nodes) x.doc y.doc x.cascaded y.cascaded) ∙ sym y.is
+
+one_by : (run : Run) (text : List ℕ) (names : List Names) (a b : Result Run InputFault) → IsStyledBy run text names a → IsStyledBy run text names b → a ≡ b
+one_by run text names a b (too_many r s m p) (too_many t u n q) = p ∙ sym q
+one_by run text names a b (too_many r s m p) (by_sheet t new u n w q) = let e = ap selector_count (one_sheet_lem text r t s u) in absurd (omega (arith, e, m, n))
+one_by run text names a b (by_sheet r new s m w p) (too_many t u n q) = let e = ap selector_count (one_sheet_lem text r t s u) in absurd (omega (arith, e, m, n))
+one_by run text names a b (by_sheet r new s m w p) (by_sheet t other u n v q) =
+    let e = one_sheet_lem text r t s u in
+    p ∙ ap Ok (one_run run t names new other (subst (λ z. IsStyledRun run z names new) e w) v) ∙ sym q
+
+pub one_styled_reading_lem : OneStyledReading
+one_styled_reading_lem bytes a b (refused e x p) (refused f y q) = p ∙ ap Err (same_fault e f (one_in bytes (refusing e) (refusing f) x y)) ∙ sym q
+one_styled_reading_lem bytes a b (refused e x p) (plain run sheet y n q) = absurd (no_both run sheet e (one_in bytes (saying run sheet) (refusing e) y x))
+one_styled_reading_lem bytes a b (refused e x p) (with_sheet run sheet text y s q) = absurd (no_both run sheet e (one_in bytes (saying run sheet) (refusing e) y x))
+one_styled_reading_lem bytes a b (plain run sheet x n p) (refused f y q) = absurd (no_both run sheet f (one_in bytes (saying run sheet) (refusing f) x y))
+one_styled_reading_lem bytes a b (plain run sheet x n p) (plain other more y m q) = p ∙ ap Ok (same_run run other sheet more (one_in bytes (saying run sheet) (saying other more) x y)) ∙ sym q
+one_styled_reading_lem bytes a b (plain run sheet x n p) (with_sheet other more text y s q) =
+    let e = same_sheet run other sheet more (one_in bytes (saying run sheet) (saying other more) x y) in
+    absurd (none_text text (sym n ∙ ap (λ (z : SheetIn). z.sheet) e ∙ s))
+one_styled_reading_lem bytes a b (with_sheet run sheet text x s p) (refused f y q) = absurd (no_both run sheet f (one_in bytes (saying run sheet) (refusing f) x y))
+one_styled_reading_lem bytes a b (with_sheet run sheet text x s p) (plain other more y m q) =
+    let e = same_sheet run other sheet more (one_in bytes (saying run sheet) (saying other more) x y) in
+    absurd (none_text text (sym m ∙ ap (λ (z : SheetIn). z.sheet) (sym e) ∙ s))
+one_styled_reading_lem bytes a b (with_sheet run sheet text x s p) (with_sheet other more words y t q) =
+    let both = one_in bytes (saying run sheet) (saying other more) x y in
+    let e = same_run run other sheet more both in
+    let f = same_sheet run other sheet more both in
+    let g = some_text text words (sym s ∙ ap (λ (z : SheetIn). z.sheet) f ∙ t) in
+    one_by other words more.names a b
+    (subst (λ z. IsStyledBy other words z a) (ap (λ (z : SheetIn). z.names) f)
+    (subst (λ z. IsStyledBy other z sheet.names a) g (subst (λ z. IsStyledBy z text sheet.names a) e p))) q
+
+pub styled_too_long : (bytes : List ℕ) → 16777216 < length bytes → IsStyledReading bytes (Err TooLong)
+styled_too_long bytes more = refused TooLong (input_too_long bytes more) refl

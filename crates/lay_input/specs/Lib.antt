@@ -1,0 +1,3 @@
+pub mod NamesByPlace
+pub mod StyledReading
+pub mod Laws

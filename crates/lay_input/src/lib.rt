@@ -1,0 +1,13 @@
+//! A run document with its style sheet: from bytes to the run whose document the sheet has styled (CSS 2.2, 6.4), or to the
+//! first fault.
+//!
+//! `read_styled` answers the one styled reading that the bytes have (`specs/StyledReading.antt`): without a sheet it is the run
+//! itself, with one its document is that of the cascade (lay_styled), and a sheet of more than 4,096 selectors is refused.
+#![tactic(auto)]
+
+mod by_place;
+mod laws;
+mod styled_reading;
+
+pub use laws::one_styled_reading;
+pub use styled_reading::read_styled;
