@@ -10,10 +10,13 @@ use std::thread::Threads;
 use std::{env, io};
 
 fn main(rt: HostRuntime) -> ExitCode {
-    // Words that can't be had as text are a wrong command line, as none is.
+    // Words that can't be had as text are a wrong command line, as none is, but for want of memory.
     let status = match words(&rt) {
         Ok(words) => run(&rt, &words),
-        Err(_) => run(&rt, &[]),
+        Err(error) => match error.kind() {
+            io::ErrorKind::OutOfMemory => Status::NoMemory,
+            _ => run(&rt, &[]),
+        },
     };
     ExitCode::from(status.number())
 }
