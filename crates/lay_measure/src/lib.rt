@@ -18,7 +18,7 @@ mod preferred_widths;
 mod replaced_widths;
 mod sums;
 
-pub use contributions::{bounded_width, given_or, limit_of, size_or_zero};
+pub use contributions::{bounded_width, contribution, given_or, limit_of, size_or_zero};
 pub use laws::{floats_alone_add_up, lone_block_gives_its_widths};
 pub use measure_in::MeasureIn;
 pub use measuring::measure;
