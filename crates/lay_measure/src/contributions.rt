@@ -27,10 +27,7 @@ pub(crate) fn contribution_at(of: &MeasureIn<'_>, place: u32) -> Result<Preferre
 
 /// What a box with these preferred widths takes of those around it, in 1/64 px. NoMemory is also the answer where that isn't within 2^63
 /// units of 0, as no width of a document within its limits is.
-pub fn contribution(
-    node: &BoxNode,
-    own: PreferredWidths,
-) -> Result<PreferredWidths, NoMemory>
+pub fn contribution(node: &BoxNode, own: PreferredWidths) -> Result<PreferredWidths, NoMemory>
     ensures { IfOk result (λ w. w ≡ contribution node.now own) }
 {
     let style = &node.style;
