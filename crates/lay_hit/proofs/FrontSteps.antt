@@ -204,19 +204,19 @@ module _ (p : Page) (o : IsOrdered p) (h : Frag → Bool) where
         | inr other ↦ record { walked = (let l = m.walked in omega (arith, l, other)); within = m.within; painter = m.painter; counted = m.counted }
       ]
 
+  abbrev just : ℕ → ℕ → Type 0
+  just n k = (k ≡ n) × (true ≡ true)
+
   front_more : (n g : ℕ) → 0 < n → Mine n g n → IsFrontmost p (Mine (n + 1) g) (front (n + 1) g) → IsFrontmost p (Mine n g) (front n g)
   front_more n g some mine is = subst (IsFrontmost p (Mine n g)) (sym (front_seen n g mine.within mine.painter mine.counted)) (chosen (front (n + 1) g) is)
     where
-      abbrev this : ℕ → Type 0
-      this k = (k ≡ n) × (true ≡ true)
-
-      apart : (k : ℕ) → Mine n g k → this k ⊎ Mine (n + 1) g k
+      apart : (k : ℕ) → Mine n g k → just n k ⊎ Mine (n + 1) g k
       apart k m = elim (cases_eq k n) [
         | inl here ↦ inl (here, refl)
         | inr other ↦ inr (record { walked = (let l = m.walked in omega (arith, l, other)); within = m.within; painter = m.painter; counted = m.counted })
       ]
 
-      left : (k : ℕ) → this k → Mine n g k
+      left : (k : ℕ) → just n k → Mine n g k
       left k here = subst (Mine n g) (sym here.0) mine
 
       late : (c d : Bool) → d ≡ true → (not c || d) ≡ true
@@ -233,14 +233,14 @@ module _ (p : Page) (o : IsOrdered p) (h : Frag → Bool) where
           by_order : 0 < m → (b : Bool) → is_painted_under p n m ≡ b → IsFrontmost p (Mine n g) (if b then m else n)
           by_order more true under =
               let l = (is.one more).walked in
-              later p this (Mine (n + 1) g) (Mine n g) n m (single p true n some) is apart left (more_mine n g) more
+              later p (just n) (Mine (n + 1) g) (Mine n g) n m (single p true n some) is apart left (more_mine n g) more
               (and_from (is_painted_under p n m) (not (is_painted_under p m n) || nat_le n m) under (late (is_painted_under p m n) (nat_le n m) (le-leb n m (omega (arith, l)))))
           by_order more false over_it =
-              earlier p this (Mine (n + 1) g) (Mine n g) n m (single p true n some) is apart left (more_mine n g) some
+              earlier p (just n) (Mine (n + 1) g) (Mine n g) n m (single p true n some) is apart left (more_mine n g) some
               (and_from (is_painted_under p m n) (not (is_painted_under p n m) || nat_le m n) ((rank_order p).either n m over_it) (over (is_painted_under p n m) (nat_le m n) over_it))
 
           by_none : (b : Bool) → (m == 0) ≡ b → IsFrontmost p (Mine n g) (if b then n else (if is_painted_under p n m then m else n))
-          by_none true e = first p this (Mine (n + 1) g) (Mine n g) n m (single p true n some) is apart left (more_mine n g) (eqb-true m 0 e)
+          by_none true e = first p (just n) (Mine (n + 1) g) (Mine n g) n m (single p true n some) is apart left (more_mine n g) (eqb-true m 0 e)
           by_none false e = by_order (let e2 = eqb-false m 0 e in omega (arith, e2)) (is_painted_under p n m) refl
 
   -- by as many steps as there are nodes from n on

@@ -69,9 +69,9 @@ module _ (p : Page) where
   }
 
   pub none : (among : ℕ → Type 0) → ((k : ℕ) → among k → ⊥) → IsFrontmost p among 0
-  none among no = record {
+  none among absent = record {
     one = λ some. absurd (omega (arith, some));
-    all = λ k h. absurd (no k h);
+    all = λ k h. absurd (absent k h);
   }
 
   -- one node, where it counts
@@ -95,22 +95,21 @@ module _ (p : Page) where
       by_test false is = refl
 
   -- of some nodes and others
-  module _ (these those both : ℕ → Type 0) (f g : ℕ) (one : IsFrontmost p these f) (other : IsFrontmost p those g)
-      (apart : (k : ℕ) → both k → these k ⊎ those k) (left : (k : ℕ) → these k → both k) (right : (k : ℕ) → those k → both k) where
+  module _ (these those both : ℕ → Type 0) (f g : ℕ) (one : IsFrontmost p these f) (other : IsFrontmost p those g) (apart : (k : ℕ) → both k → these k ⊎ those k) (left : (k : ℕ) → these k → both k) (right : (k : ℕ) → those k → both k) where
     pub first : g ≡ 0 → IsFrontmost p both f
-    first no = record {
+    first absent = record {
       one = λ some. left f (one.one some);
       all = λ k h. elim (apart k h) [
         | inl here ↦ one.all k here
-        | inr there ↦ absurd (let low = (other.all k there).0 in omega (arith, low, no))
+        | inr there ↦ absurd (let low = (other.all k there).0 in omega (arith, low, absent))
       ];
     }
 
     pub second : f ≡ 0 → IsFrontmost p both g
-    second no = record {
+    second absent = record {
       one = λ some. right g (other.one some);
       all = λ k h. elim (apart k h) [
-        | inl here ↦ absurd (let low = (one.all k here).0 in omega (arith, low, no))
+        | inl here ↦ absurd (let low = (one.all k here).0 in omega (arith, low, absent))
         | inr there ↦ other.all k there
       ];
     }

@@ -17,8 +17,8 @@ use Rattle.lay_hit.specs.Ranks.{is_of_owner, painter_at}
 use Rattle.lay_hit.specs.Wholes.{own_pieces}
 use Rattle.lay_hit.specs.OrderedPages.{IsOrdered}
 use Rattle.lay_hit.specs.Questions.{AreNoted, page, seen_in}
-use Rattle.lay_hit.specs.Fronts.{IsFrontmost, all_passed, both_waiting, front_from, front_in, in_front, passed}
-use Rattle.lay_hit.specs.Waiting.{AreWaiting, Waits, ends_group, ends_owner, nobody, of_group, of_owner}
+use Rattle.lay_hit.specs.Fronts.{IsFrontmost, front_from, front_in, in_front, passed}
+use Rattle.lay_hit.specs.Waiting.{AreWaiting, Waits, ends_group, ends_owner, nobody, of_group, of_owner, passed_on}
 use Rattle.lay_hit.proofs.Frontmost.{also, none, joined, in_front-none}
 use Rattle.lay_hit.proofs.Ways.{way_ends, way_waits}
 use Rattle.lay_hit.proofs.WaitSteps.{no_both, same_there, comes_there, nothing_comes, none_yet, within_page}
@@ -133,8 +133,8 @@ module _ (q : Question) (is : IsDocument q.doc.now) where
       where
         back : (k : ℕ) → mine k → for_group k
         back k m = elim (cases_Bool (is_of_owner (kind k))) [
-          | inl yes ↦ absurd (no_both (sym (ap (ends_owner q) (sym (by_owner (page q) k yes) ∙ m.painter)) ∙ owner-stacks (page q) ordered k) off)
-          | inr no ↦ to_group k m no
+          | inl owned ↦ absurd (no_both (sym (ap (ends_owner q) (sym (by_owner (page q) k owned) ∙ m.painter)) ∙ owner-stacks (page q) ordered k) off)
+          | inr plain ↦ to_group k m plain
         ]
 
     of_both : ends_group q g ≡ true → ends_owner q g ≡ true → IsFrontmost (page q) mine (in_front (page q) there.group there.owner)
@@ -144,8 +144,8 @@ module _ (q : Question) (is : IsDocument q.doc.now) where
       where
         apart : (k : ℕ) → mine k → for_group k ⊎ for_owner k
         apart k m = elim (cases_Bool (is_of_owner (kind k))) [
-          | inl yes ↦ inr (to_owner k m yes)
-          | inr no ↦ inl (to_group k m no)
+          | inl owned ↦ inr (to_owner k m owned)
+          | inr plain ↦ inl (to_group k m plain)
         ]
 
     pub front_is : front_in (page q) (kind g) there ≡ front_from q 1 g
@@ -209,8 +209,7 @@ module _ (q : Question) (is : IsDocument q.doc.now) where
           ∙ sym (seen_either (page q) ordered at_point n within)
 
     -- how the two lists of places change
-    module _ (place : Waiting → ℕ) (counts ends : ℕ → Bool) (root : ends 0 ≡ true)
-        (each : (g : ℕ) → g < nodes → (nat_lt g (n + 1) || ends g) ≡ true → IsFrontmost (page q) (Waits (page q) counts ends (n + 1) g) (place (slice_index_or fronts g nobody))) where
+    module _ (place : Waiting → ℕ) (counts ends : ℕ → Bool) (root : ends 0 ≡ true) (each : (g : ℕ) → g < nodes → (nat_lt g (n + 1) || ends g) ≡ true → IsFrontmost (page q) (Waits (page q) counts ends (n + 1) g) (place (slice_index_or fronts g nobody))) where
       stood : (g : ℕ) → (nat_lt g n || ends g) ≡ true → (nat_lt g (n + 1) || ends g) ≡ true
       stood g stands = by_low (nat_lt g n) refl stands
         where
@@ -218,9 +217,9 @@ module _ (q : Question) (is : IsDocument q.doc.now) where
           by_low true is e = or_left (nat_lt g (n + 1)) (ends g) (lt-ltb g (n + 1) (let l = ltb-true g n is in omega (arith, l)))
           by_low false is e = or_right (nat_lt g (n + 1)) (ends g) e
 
-      pub passed_on : (after : List Waiting) (v : Waiting) → after ≡ set fronts parent v → place v ≡ in_front (page q) (place outer) (passed (page q) (ends n) (place here) (counts n) n)
+      pub passed_to : (after : List Waiting) (v : Waiting) → after ≡ set fronts parent v → place v ≡ in_front (page q) (place outer) (passed (page q) (ends n) (place here) (counts n) n)
           → (g : ℕ) → g < nodes → (nat_lt g n || ends g) ≡ true → IsFrontmost (page q) (Waits (page q) counts ends n g) (place (slice_index_or after g nobody))
-      passed_on after v is_set value g low stands = elim (cases_eq parent g) [
+      passed_to after v is_set value g low stands = elim (cases_eq parent g) [
         | inl same ↦ subst (λ (j : ℕ). IsFrontmost (page q) (Waits (page q) counts ends n j) (place (slice_index_or after j nobody))) same
             (subst (IsFrontmost (page q) (Waits (page q) counts ends n parent)) (sym (ap place at_parent ∙ value))
             (comes_there (page q) ordered counts ends root n some within (place outer) (place here) (each parent parent_in (outer_stands ends)) (each n within (here_stands ends))))
@@ -235,24 +234,20 @@ module _ (q : Question) (is : IsDocument q.doc.now) where
           elsewhere other = ap (λ (ws : List Waiting). slice_index_or ws g nobody) is_set ∙ get_or-set_other fronts parent g v nobody (λ e. other (sym e))
 
       pub passed_over : counts n ≡ false → place here ≡ 0 → (g : ℕ) → g < nodes → (nat_lt g n || ends g) ≡ true → IsFrontmost (page q) (Waits (page q) counts ends n g) (place (slice_index_or fronts g nobody))
-      passed_over off no g low stands = elim (cases_eq parent g) [
+      passed_over off plain g low stands = elim (cases_eq parent g) [
         | inl same ↦ subst (λ (j : ℕ). IsFrontmost (page q) (Waits (page q) counts ends n j) (place (slice_index_or fronts j nobody))) same
             (nothing_comes (page q) ordered counts ends root n some within (place outer) off (each parent parent_in (outer_stands ends))
-            (subst (IsFrontmost (page q) (Waits (page q) counts ends (n + 1) n)) no (each n within (here_stands ends))))
+            (subst (IsFrontmost (page q) (Waits (page q) counts ends (n + 1) n)) plain (each n within (here_stands ends))))
         | inr other ↦ same_there (page q) ordered counts ends root n some within g other stands (place (slice_index_or fronts g nobody)) (each g low (stood g stands))
       ]
 
     -- the node passes on what waits
-    pub passes : (seen : Bool) → seen ≡ is_some (seen_in q n) → (after : List Waiting) → after ≡ set fronts parent (both_waiting (page q) outer (all_passed (page q) (kind n) here seen n)) → AreWaiting q after n
-    passes seen seen_is after is_set =
-        let v : Waiting = both_waiting (page q) outer (all_passed (page q) (kind n) here seen n) in
-        record {
-          count = ap length is_set ∙ length-set fronts parent v ∙ before.count;
-          group = passed_on (λ w. w.group) (of_group q) (ends_group q) group_root before.group after v is_set
-              (ap (λ (b : Bool). in_front (page q) outer.group (passed (page q) (ends_group q n) here.group (b && not (is_of_owner (kind n))) n)) seen_is);
-          owner = passed_on (λ w. w.owner) (of_owner q) (ends_owner q) owner_root before.owner after v is_set
-              (ap (λ (b : Bool). in_front (page q) outer.owner (passed (page q) (ends_owner q n) here.owner (b && is_of_owner (kind n)) n)) seen_is);
-        }
+    pub passes : (after : List Waiting) → after ≡ set fronts parent (passed_on q fronts n) → AreWaiting q after n
+    passes after is_set = record {
+      count = ap length is_set ∙ length-set fronts parent (passed_on q fronts n) ∙ before.count;
+      group = passed_to (λ w. w.group) (of_group q) (ends_group q) group_root before.group after (passed_on q fronts n) is_set refl;
+      owner = passed_to (λ w. w.owner) (of_owner q) (ends_owner q) owner_root before.owner after (passed_on q fronts n) is_set refl;
+    }
 
     -- or has nothing to pass on
     pub passes_nothing : is_some (seen_in q n) ≡ false → here.group ≡ 0 → here.owner ≡ 0 → AreWaiting q fronts n
@@ -268,8 +263,8 @@ module _ (q : Question) (is : IsDocument q.doc.now) where
       passed_by e = by_tests (is_some (slice_index_or noted n None)) (here.group == 0) (here.owner == 0) refl refl refl e
         where
           front_none : (k : PaintKind) (w : Waiting) → w.group ≡ 0 → w.owner ≡ 0 → front_in (page q) k w ≡ 0
-          front_none k w no also_no = ap (λ (f : ℕ). if forms_group k then (if is_stacking k then in_front (page q) f w.owner else f) else 0) no
-              ∙ ap (λ (f : ℕ). if forms_group k then (if is_stacking k then in_front (page q) 0 f else 0) else 0) also_no ∙ zeros (forms_group k) (is_stacking k)
+          front_none k w plain also_plain = ap (λ (f : ℕ). if forms_group k then (if is_stacking k then in_front (page q) f w.owner else f) else 0) plain
+              ∙ ap (λ (f : ℕ). if forms_group k then (if is_stacking k then in_front (page q) 0 f else 0) else 0) also_plain ∙ zeros (forms_group k) (is_stacking k)
             where
               zeros : (b c : Bool) → (if b then (if c then in_front (page q) 0 0 else 0) else 0) ≡ 0
               zeros true true = refl
@@ -281,6 +276,6 @@ module _ (q : Question) (is : IsDocument q.doc.now) where
           by_tests false false c h i j f = absurd cc
           by_tests false true false h i j f = absurd cc
           by_tests false true true h i j f =
-              let no = eqb-true here.group 0 i in
-              let also_no = eqb-true here.owner 0 j in
-              passes_nothing (sym (seen_is noted kept) ∙ ap (λ (b : Bool). b || not (front_in (page q) (kind n) here == 0)) h ∙ ap (λ (f : ℕ). not (f == 0)) (front_none (kind n) here no also_no)) no also_no
+              let plain = eqb-true here.group 0 i in
+              let also_plain = eqb-true here.owner 0 j in
+              passes_nothing (sym (seen_is noted kept) ∙ ap (λ (b : Bool). b || not (front_in (page q) (kind n) here == 0)) h ∙ ap (λ (f : ℕ). not (f == 0)) (front_none (kind n) here plain also_plain)) plain also_plain

@@ -9,7 +9,7 @@ use Rattle.lay_hit.specs.Waiting.{Waits, waits_at}
 use Rattle.lay_hit.proofs.Frontmost.{also, none, single, unless, joined, in_front-none}
 use Rattle.lay_hit.proofs.Ways.{way_goes, way_stays, way_begins}
 
-no_both : {b : Bool} → b ≡ true → b ≡ false → ⊥
+pub no_both : {b : Bool} → b ≡ true → b ≡ false → ⊥
 no_both on off = cc
 
 module _ (p : Page) (o : IsOrdered p) (counts ends : ℕ → Bool) (root : ends 0 ≡ true) where
@@ -42,7 +42,7 @@ module _ (p : Page) (o : IsOrdered p) (counts ends : ℕ → Bool) (root : ends 
   module _ (n : ℕ) (some : 0 < n) (within : n < p.count) where
     -- a node that waited at this one, whose way doesn't end here, waits at its parent
     goes_to : (k : ℕ) → ends n ≡ false → waits_at p ends (n + 1) k ≡ n → waits_at p ends n k ≡ p.parent n
-    goes_to k open e = way_goes ends p.parent root o.before n k some open e
+    goes_to k through e = way_goes ends p.parent root o.before n k some through e
 
     begins : waits_at p ends n n ≡ p.parent n
     begins = way_begins ends p.parent root o.before n some
@@ -60,7 +60,7 @@ module _ (p : Page) (o : IsOrdered p) (counts ends : ℕ → Bool) (root : ends 
       closed_there : (k : ℕ) → waiting n g k → waits_at p ends (n + 1) k ≡ n → ends n ≡ true
       closed_there k w is = elim (cases_Bool (ends n)) [
         | inl end ↦ end
-        | inr open ↦ absurd (other (sym (goes_to k open is) ∙ w.place))
+        | inr through ↦ absurd (other (sym (goes_to k through is) ∙ w.place))
       ]
 
       pub same_there : (f : ℕ) → IsFrontmost p (waiting (n + 1) g) f → IsFrontmost p (waiting n g) f
@@ -83,7 +83,7 @@ module _ (p : Page) (o : IsOrdered p) (counts ends : ℕ → Bool) (root : ends 
       | inr other ↦ elim (cases_eq (waits_at p ends (n + 1) k) n) [
         | inl here ↦ elim (cases_Bool (ends n)) [
           | inl end ↦ inl (moved_back n (p.parent n) k (λ e. end) w.walked w other)
-          | inr open ↦ inr (inl (open, record { walked = earlier n k w.walked other; within = w.within; counted = w.counted; place = here }))
+          | inr through ↦ inr (inl (through, record { walked = earlier n k w.walked other; within = w.within; counted = w.counted; place = here }))
         ]
         | inr away ↦ inl (moved_back n (p.parent n) k (λ e. absurd (away e)) w.walked w other)
       ]
@@ -134,6 +134,6 @@ module _ (p : Page) (o : IsOrdered p) (counts ends : ℕ → Bool) (root : ends 
   -- what is frontmost is one of the nodes
   pub within_page : (n g f : ℕ) → IsFrontmost p (waiting n g) f → f < p.count
   within_page n g f is = elim (cases_eq f 0) [
-    | inl no ↦ (let low = o.some in omega (arith, low, no))
+    | inl absent ↦ (let low = o.some in omega (arith, low, absent))
     | inr more ↦ (is.one (omega (arith, more))).within
   ]

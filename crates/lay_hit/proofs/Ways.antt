@@ -26,12 +26,12 @@ module _ (ends : ℕ → Bool) (parent : ℕ → ℕ) (root : ends 0 ≡ true) (
 
   -- it goes on to the parent
   goes : (n t k : ℕ) → 0 < n → k ≤ t → ends n ≡ false → nearest (stops (n + 1)) parent t k ≡ n → nearest (stops n) parent t k ≡ parent n
-  goes n zero k some enough open e = let same : k ≡ n = e in absurd (omega (arith, same))
-  goes n (suc t) k some enough open e = by_test (stops (n + 1) k) refl e
+  goes n zero k some enough through e = let same : k ≡ n = e in absurd (omega (arith, same))
+  goes n (suc t) k some enough through e = by_test (stops (n + 1) k) refl e
     where
       here : k ≡ n → cond (stops n k) k (nearest (stops n) parent t (parent k)) ≡ parent n
       here same =
-          let off : stops n k ≡ false = ap (stops n) same ∙ at_high n n (omega arith) ∙ open in
+          let off : stops n k ≡ false = ap (stops n) same ∙ at_high n n (omega arith) ∙ through in
           ap (λ (b : Bool). cond b k (nearest (stops n) parent t (parent k))) off ∙ ap (λ (j : ℕ). nearest (stops n) parent t (parent j)) same ∙ ends_there t
         where
           ends_there : (u : ℕ) → nearest (stops n) parent u (parent n) ≡ parent n
@@ -43,7 +43,7 @@ module _ (ends : ℕ → Bool) (parent : ℕ → ℕ) (root : ends 0 ≡ true) (
         | inl low ↦ absurd (let on = at_low (n + 1) k low in both_values on off)
         | inr high ↦ (let less = before k (omega (arith, high)) in
           let also : stops n k ≡ false = at_high n k (omega (arith, high)) ∙ sym (at_high (n + 1) k high) ∙ off in
-          ap (λ (b : Bool). cond b k (nearest (stops n) parent t (parent k))) also ∙ goes n t (parent k) some (omega (arith, less, enough)) open is)
+          ap (λ (b : Bool). cond b k (nearest (stops n) parent t (parent k))) also ∙ goes n t (parent k) some (omega (arith, less, enough)) through is)
       ]
         where
           both_values : {b : Bool} → b ≡ true → b ≡ false → ⊥
@@ -98,8 +98,8 @@ module _ (ends : ℕ → Bool) (parent : ℕ → ℕ) (root : ends 0 ≡ true) (
       here : k ≡ g → cond (ends k) k (nearest ends parent t (parent k)) ≡ g
       here same = ap (λ (b : Bool). cond b k (nearest ends parent t (parent k))) (ap ends same ∙ end) ∙ same
 
-      open : stops n k ≡ false → ends k ≡ false
-      open off = by_low (nat_lt k n) off
+      through : stops n k ≡ false → ends k ≡ false
+      through off = by_low (nat_lt k n) off
         where
           by_low : (b : Bool) → (b || ends k) ≡ false → ends k ≡ false
           by_low true h = absurd cc
@@ -107,7 +107,7 @@ module _ (ends : ℕ → Bool) (parent : ℕ → ℕ) (root : ends 0 ≡ true) (
 
       by_test : (b : Bool) → stops n k ≡ b → cond b k (nearest (stops n) parent t (parent k)) ≡ g → cond (ends k) k (nearest ends parent t (parent k)) ≡ g
       by_test true on is = here is
-      by_test false off is = ap (λ (b : Bool). cond b k (nearest ends parent t (parent k))) (open off) ∙ ends_so n g t (parent k) end is
+      by_test false off is = ap (λ (b : Bool). cond b k (nearest ends parent t (parent k))) (through off) ∙ ends_so n g t (parent k) end is
 
   waits_so : (n g t k : ℕ) → n ≤ g + 1 → nearest ends parent t k ≡ g → nearest (stops n) parent t k ≡ g
   waits_so n g zero k walked e = e
@@ -135,7 +135,7 @@ module _ (ends : ℕ → Bool) (parent : ℕ → ℕ) (root : ends 0 ≡ true) (
 
   -- So for the way of a node from its parent on.
   pub way_goes : (n k : ℕ) → 0 < n → ends n ≡ false → nearest_around (stops (n + 1)) parent k ≡ n → nearest_around (stops n) parent k ≡ parent n
-  way_goes n k some open e = goes n (parent k) (parent k) some (omega arith) open e
+  way_goes n k some through e = goes n (parent k) (parent k) some (omega arith) through e
 
   pub way_stays : (n k : ℕ) → (nearest_around (stops (n + 1)) parent k ≡ n → ends n ≡ true) → nearest_around (stops n) parent k ≡ nearest_around (stops (n + 1)) parent k
   way_stays n k closed = stays n (parent k) (parent k) (omega arith) closed

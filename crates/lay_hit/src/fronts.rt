@@ -3,11 +3,11 @@
 ghost use Rattle.std.specs.Prelude.{◌≡◌, ◌<◌, ◌+◌, ◌==◌, ◌||◌, not, true, None, is_some, length, slice_index_or, IfOk};
 ghost use Rattle.lay_doc.specs.Document.{IsDocument};
 ghost use Rattle.lay_frag.specs.Pieces.{frags_of};
-ghost use Rattle.lay_hit.specs.Questions.{AreNoted};
-ghost use Rattle.lay_hit.specs.Fronts.{front_from};
-ghost use Rattle.lay_hit.specs.Waiting.{AreWaiting, nobody};
+ghost use Rattle.lay_hit.specs.Questions.{AreNoted, page};
+ghost use Rattle.lay_hit.specs.Fronts.{front_from, front_in};
+ghost use Rattle.lay_hit.specs.Waiting.{AreWaiting, nobody, passed_on};
 
-use crate::kinds::kind_at;
+use crate::kinds::{PaintKind, kind_at};
 use crate::question::Question;
 use crate::waiting::{Waiting, all_passed, both_waiting, front_in};
 use lay_doc::parent_at;
@@ -49,14 +49,44 @@ fn pass(q: &Question<'_>, noted: &[Option<Frag>], fronts: &mut Vec<Waiting>, k: 
     requires before { AreWaiting q.now fronts.old.items (k + 1) }
     ensures { AreWaiting q.now fronts.new.items k }
 {
+    let parent = parent_at(q.doc.nodes(), k);
+    fronts[parent] = passed_on(q, noted, fronts, k);
+}
+
+/// What then waits at the parent of the node at k.
+fn passed_on(q: &Question<'_>, noted: &[Option<Frag>], fronts: &[Waiting], k: usize) -> Waiting
+    requires styles { length q.now.styles.now ≡ length q.now.doc.now.nodes }
+    requires noted { AreNoted q.now (frags_of q.now.tree.now) noted.now }
+    requires valid { IsDocument q.now.doc.now }
+    requires inner { 0 < k }
+    requires place { k < length q.now.doc.now.nodes }
+    requires before { AreWaiting q.now fronts.now (k + 1) }
+    ensures { result ≡ passed_on q.now fronts.now k }
+{
     let nodes = q.doc.nodes();
     let here = waiting_at(fronts, k);
+    let outer = waiting_at(fronts, parent_at(nodes, k));
     let kind = kind_at(nodes, q.styles, k);
-    let is_seen = noted[k].is_some() || front_in(q, kind, here) != 0;
+    let is_seen = is_seen(q, noted, kind, here, k);
     let passed = all_passed(q, kind, here, is_seen, k);
-    let parent = parent_at(nodes, k);
-    let outer = waiting_at(fronts, parent);
-    fronts[parent] = both_waiting(q, outer, passed);
+    both_waiting(q, outer, passed)
+}
+
+/// Whether a piece is seen in the node at k, of this kind and with what waits there.
+fn is_seen(
+    q: &Question<'_>,
+    noted: &[Option<Frag>],
+    kind: PaintKind,
+    here: Waiting,
+    k: usize,
+) -> bool
+    requires styles { length q.now.styles.now ≡ length q.now.doc.now.nodes }
+    requires group { here.group < length q.now.doc.now.nodes }
+    requires owner { here.owner < length q.now.doc.now.nodes }
+    requires place { k < length noted.now }
+    ensures { result ≡ (is_some (slice_index_or noted.now k None) || not (front_in (page q.now) kind here == 0)) }
+{
+    noted[k].is_some() || front_in(q, kind, here) != 0
 }
 
 /// The frontmost of the nodes that the one at k paints in which a piece is seen; 0 is none.
