@@ -17,7 +17,7 @@ use Rattle.lay_hit.specs.Ranks.{is_of_owner, painter_at}
 use Rattle.lay_hit.specs.Wholes.{own_pieces}
 use Rattle.lay_hit.specs.OrderedPages.{IsOrdered}
 use Rattle.lay_hit.specs.Questions.{AreNoted, page, seen_in}
-use Rattle.lay_hit.specs.Fronts.{IsFrontmost, front_from, front_in, in_front, passed}
+use Rattle.lay_hit.specs.Fronts.{IsFrontmost, front_from, front_in, in_front, is_behind, passed}
 use Rattle.lay_hit.specs.Waiting.{AreWaiting, Waits, ends_group, ends_owner, nobody, of_group, of_owner, passed_on}
 use Rattle.lay_hit.proofs.Frontmost.{also, none, joined, in_front-none}
 use Rattle.lay_hit.proofs.Ways.{way_ends, way_waits}
@@ -43,6 +43,27 @@ by_group p k e = ap (λ (b : Bool). if b then owner p k else group p k) e
 not_false : (b : Bool) → b ≡ false → not b ≡ true
 not_false true e = absurd cc
 not_false false e = refl
+
+-- what is in front of two nodes of a page is one of it
+pub in_front_within : (p : Page) (n j k : ℕ) → j < n → k < n → in_front p j k < n
+in_front_within p n j k low also_low = by_tests (j == 0) (k == 0) (is_behind p j k)
+  where
+    by_tests : (a b c : Bool) → (if a then k else (if b then j else (if c then k else j))) < n
+    by_tests true b c = also_low
+    by_tests false true c = low
+    by_tests false false true = also_low
+    by_tests false false false = low
+
+pub passed_within : (p : Page) (n : ℕ) (ends : Bool) (inner : ℕ) (counts : Bool) (k : ℕ) → inner < n → k < n → passed p ends inner counts k < n
+passed_within p n ends inner counts k low also_low = in_front_within p n (if ends then 0 else inner) (if counts then k else 0) (by_end ends) (by_count counts)
+  where
+    by_end : (b : Bool) → (if b then 0 else inner) < n
+    by_end true = omega (arith, low)
+    by_end false = low
+
+    by_count : (b : Bool) → (if b then k else 0) < n
+    by_count true = also_low
+    by_count false = omega (arith, low)
 
 module _ (q : Question) (is : IsDocument q.doc.now) where
   abbrev nodes : ℕ
@@ -266,7 +287,7 @@ module _ (q : Question) (is : IsDocument q.doc.now) where
           front_none k w plain also_plain = ap (λ (f : ℕ). if forms_group k then (if is_stacking k then in_front (page q) f w.owner else f) else 0) plain
               ∙ ap (λ (f : ℕ). if forms_group k then (if is_stacking k then in_front (page q) 0 f else 0) else 0) also_plain ∙ zeros (forms_group k) (is_stacking k)
             where
-              zeros : (b c : Bool) → (if b then (if c then in_front (page q) 0 0 else 0) else 0) ≡ 0
+              zeros : (b c : Bool) → ◌≡◌ {A = ℕ} (if b then (if c then in_front (page q) 0 0 else 0) else 0) 0
               zeros true true = refl
               zeros true false = refl
               zeros false c = refl

@@ -120,7 +120,7 @@ module _ (p : Page) (o : IsOrdered p) (counts ends : ℕ → Bool) (root : ends 
     nothing_comes f off outer here =
         subst (IsFrontmost p (waiting n (p.parent n))) (ap (in_front p f) nothing ∙ in_front-none p f) (comes_there f 0 outer here)
       where
-        zero_either : (b : Bool) → (if b then 0 else 0) ≡ 0
+        zero_either : (b : Bool) → ◌≡◌ {A = ℕ} (if b then 0 else 0) 0
         zero_either true = refl
         zero_either false = refl
 

@@ -27,7 +27,7 @@ module _ (ends : ℕ → Bool) (parent : ℕ → ℕ) (root : ends 0 ≡ true) (
   -- it goes on to the parent
   goes : (n t k : ℕ) → 0 < n → k ≤ t → ends n ≡ false → nearest (stops (n + 1)) parent t k ≡ n → nearest (stops n) parent t k ≡ parent n
   goes n zero k some enough through e = let same : k ≡ n = e in absurd (omega (arith, same))
-  goes n (suc t) k some enough through e = by_test (stops (n + 1) k) refl e
+  goes n (suc t) k some enough through e = by_test (λ low is. goes n t (parent k) some low through is) (stops (n + 1) k) refl e
     where
       here : k ≡ n → cond (stops n k) k (nearest (stops n) parent t (parent k)) ≡ parent n
       here same =
@@ -38,25 +38,26 @@ module _ (ends : ℕ → Bool) (parent : ℕ → ℕ) (root : ends 0 ≡ true) (
           ends_there zero = refl
           ends_there (suc u) = ap (λ (b : Bool). cond b (parent n) (nearest (stops n) parent u (parent (parent n)))) (at_low n (parent n) (before n some))
 
-      further : stops (n + 1) k ≡ false → nearest (stops (n + 1)) parent t (parent k) ≡ n → cond (stops n k) k (nearest (stops n) parent t (parent k)) ≡ parent n
-      further off is = elim (cases_lt k (n + 1)) [
+      further : (parent k ≤ t → nearest (stops (n + 1)) parent t (parent k) ≡ n → nearest (stops n) parent t (parent k) ≡ parent n) → stops (n + 1) k ≡ false → nearest (stops (n + 1)) parent t (parent k) ≡ n → cond (stops n k) k (nearest (stops n) parent t (parent k)) ≡ parent n
+      further rest off is = elim (cases_lt k (n + 1)) [
         | inl low ↦ absurd (let on = at_low (n + 1) k low in both_values on off)
         | inr high ↦ (let less = before k (omega (arith, high)) in
           let also : stops n k ≡ false = at_high n k (omega (arith, high)) ∙ sym (at_high (n + 1) k high) ∙ off in
-          ap (λ (b : Bool). cond b k (nearest (stops n) parent t (parent k))) also ∙ goes n t (parent k) some (omega (arith, less, enough)) through is)
+          ap (λ (b : Bool). cond b k (nearest (stops n) parent t (parent k))) also ∙ rest (omega (arith, less, enough)) is)
       ]
         where
           both_values : {b : Bool} → b ≡ true → b ≡ false → ⊥
           both_values on off = cc
 
-      by_test : (b : Bool) → stops (n + 1) k ≡ b → cond b k (nearest (stops (n + 1)) parent t (parent k)) ≡ n → cond (stops n k) k (nearest (stops n) parent t (parent k)) ≡ parent n
-      by_test true on is = here is
-      by_test false off is = further off is
+      by_test : (parent k ≤ t → nearest (stops (n + 1)) parent t (parent k) ≡ n → nearest (stops n) parent t (parent k) ≡ parent n)
+          → (b : Bool) → stops (n + 1) k ≡ b → cond b k (nearest (stops (n + 1)) parent t (parent k)) ≡ n → cond (stops n k) k (nearest (stops n) parent t (parent k)) ≡ parent n
+      by_test rest true on is = here is
+      by_test rest false off is = further rest off is
 
   -- or stays where it is
   stays : (n t k : ℕ) → k ≤ t → (nearest (stops (n + 1)) parent t k ≡ n → ends n ≡ true) → nearest (stops n) parent t k ≡ nearest (stops (n + 1)) parent t k
   stays n zero k enough closed = refl
-  stays n (suc t) k enough closed = by_test (stops (n + 1) k) refl closed
+  stays n (suc t) k enough closed = by_test (λ low. stays n t (parent k) low) (stops (n + 1) k) refl closed
     where
       on_still : stops (n + 1) k ≡ true → (k ≡ n → ends n ≡ true) → stops n k ≡ true
       on_still on end = elim (cases_lt k n) [
@@ -85,15 +86,16 @@ module _ (ends : ℕ → Bool) (parent : ℕ → ℕ) (root : ends 0 ≡ true) (
           both_values : {b : Bool} → b ≡ true → b ≡ false → ⊥
           both_values on off = cc
 
-      by_test : (b : Bool) → stops (n + 1) k ≡ b → (cond b k (nearest (stops (n + 1)) parent t (parent k)) ≡ n → ends n ≡ true)
+      by_test : (parent k ≤ t → (nearest (stops (n + 1)) parent t (parent k) ≡ n → ends n ≡ true) → nearest (stops n) parent t (parent k) ≡ nearest (stops (n + 1)) parent t (parent k))
+          → (b : Bool) → stops (n + 1) k ≡ b → (cond b k (nearest (stops (n + 1)) parent t (parent k)) ≡ n → ends n ≡ true)
           → cond (stops n k) k (nearest (stops n) parent t (parent k)) ≡ cond b k (nearest (stops (n + 1)) parent t (parent k))
-      by_test true on end = ap (λ (b : Bool). cond b k (nearest (stops n) parent t (parent k))) (on_still on end)
-      by_test false off end = ap (λ (b : Bool). cond b k (nearest (stops n) parent t (parent k))) (off_still off) ∙ stays n t (parent k) (enough_there off) end
+      by_test rest true on end = ap (λ (b : Bool). cond b k (nearest (stops n) parent t (parent k))) (on_still on end)
+      by_test rest false off end = ap (λ (b : Bool). cond b k (nearest (stops n) parent t (parent k))) (off_still off) ∙ rest (enough_there off) end
 
   -- where its way ends, the walk doesn't matter from there on
   ends_so : (n g t k : ℕ) → ends g ≡ true → nearest (stops n) parent t k ≡ g → nearest ends parent t k ≡ g
   ends_so n g zero k end e = e
-  ends_so n g (suc t) k end e = by_test (stops n k) refl e
+  ends_so n g (suc t) k end e = by_test (ends_so n g t (parent k) end) (stops n k) refl e
     where
       here : k ≡ g → cond (ends k) k (nearest ends parent t (parent k)) ≡ g
       here same = ap (λ (b : Bool). cond b k (nearest ends parent t (parent k))) (ap ends same ∙ end) ∙ same
@@ -105,13 +107,14 @@ module _ (ends : ℕ → Bool) (parent : ℕ → ℕ) (root : ends 0 ≡ true) (
           by_low true h = absurd cc
           by_low false h = h
 
-      by_test : (b : Bool) → stops n k ≡ b → cond b k (nearest (stops n) parent t (parent k)) ≡ g → cond (ends k) k (nearest ends parent t (parent k)) ≡ g
-      by_test true on is = here is
-      by_test false off is = ap (λ (b : Bool). cond b k (nearest ends parent t (parent k))) (through off) ∙ ends_so n g t (parent k) end is
+      by_test : (nearest (stops n) parent t (parent k) ≡ g → nearest ends parent t (parent k) ≡ g)
+          → (b : Bool) → stops n k ≡ b → cond b k (nearest (stops n) parent t (parent k)) ≡ g → cond (ends k) k (nearest ends parent t (parent k)) ≡ g
+      by_test rest true on is = here is
+      by_test rest false off is = ap (λ (b : Bool). cond b k (nearest ends parent t (parent k))) (through off) ∙ rest is
 
   waits_so : (n g t k : ℕ) → n ≤ g + 1 → nearest ends parent t k ≡ g → nearest (stops n) parent t k ≡ g
   waits_so n g zero k walked e = e
-  waits_so n g (suc t) k walked e = by_test (ends k) refl e
+  waits_so n g (suc t) k walked e = by_test (waits_so n g t (parent k) walked) (ends k) refl e
     where
       on_too : ends k ≡ true → stops n k ≡ true
       on_too on = by_low (nat_lt k n)
@@ -120,14 +123,15 @@ module _ (ends : ℕ → Bool) (parent : ℕ → ℕ) (root : ends 0 ≡ true) (
           by_low true = refl
           by_low false = on
 
-      by_test : (b : Bool) → ends k ≡ b → cond b k (nearest ends parent t (parent k)) ≡ g → cond (stops n k) k (nearest (stops n) parent t (parent k)) ≡ g
-      by_test true on is = ap (λ (b : Bool). cond b k (nearest (stops n) parent t (parent k))) (on_too on) ∙ is
-      by_test false off is = elim (cases_eq k 0) [
+      by_test : (nearest ends parent t (parent k) ≡ g → nearest (stops n) parent t (parent k) ≡ g)
+          → (b : Bool) → ends k ≡ b → cond b k (nearest ends parent t (parent k)) ≡ g → cond (stops n k) k (nearest (stops n) parent t (parent k)) ≡ g
+      by_test rest true on is = ap (λ (b : Bool). cond b k (nearest (stops n) parent t (parent k))) (on_too on) ∙ is
+      by_test rest false off is = elim (cases_eq k 0) [
         | inl none ↦ absurd (let on = ap ends none ∙ root in both_values on off)
         | inr some ↦ (let less = before k (omega (arith, some)) in
           let low = nearest-low ends parent root before t (parent k) in
           let high : n ≤ k = omega (arith, less, low, is, walked) in
-          ap (λ (b : Bool). cond b k (nearest (stops n) parent t (parent k))) (at_high n k high ∙ off) ∙ waits_so n g t (parent k) walked is)
+          ap (λ (b : Bool). cond b k (nearest (stops n) parent t (parent k))) (at_high n k high ∙ off) ∙ rest is)
       ]
         where
           both_values : {b : Bool} → b ≡ true → b ≡ false → ⊥

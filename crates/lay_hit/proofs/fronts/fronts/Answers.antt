@@ -20,3 +20,8 @@ loop-k-preserved c =
       high = omega arith;
       fronts = passed_by q c.nodes-k.ensures.valid items (c.loop-k.k - 1) some within before c.args.noted.now c.requires.noted test;
     }
+
+pub returns-clause-fronts : goal.returns-clause-fronts
+returns-clause-fronts c =
+    let last : c.loop-k.k ≡ 1 = omega (arith, c.loop-k-test.false, c.loop-k.invariant.low) in
+    subst (λ (n : ℕ). AreWaiting c.args.q.now c.loop-k.fronts.items n) last c.loop-k.invariant.fronts
