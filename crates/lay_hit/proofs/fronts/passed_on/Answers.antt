@@ -1,10 +1,11 @@
-use Rattle.std.proofs.Common.{rules, ◌≡◌, ◌∙◌, ◌||◌, ap, arith, slice_index, slice_index_or, ℕ, Bool, None, not}
+use Rattle.std.proofs.Common.{rules, ◌≡◌, ◌∙◌, ◌&&◌, ◌||◌, ap, arith, slice_index, slice_index_or, ℕ, Bool, None, not}
 use Rattle.std.specs.Prelude.{◌==◌, is_some}
 use Rattle.lay_doc.specs.Document.{parents_of}
 use Rattle.lay_hit.specs.declared.kinds.PaintKind.{PaintKind}
 use Rattle.lay_hit.specs.declared.waiting.Waiting.{Waiting}
-use Rattle.lay_hit.specs.PaintKinds.{kind_at}
+use Rattle.lay_hit.specs.PaintKinds.{forms_group, is_stacking, kind_at}
 use Rattle.lay_hit.specs.Fronts.{all_passed, both_waiting, front_in}
+use Rattle.lay_hit.specs.Ranks.{is_of_owner}
 use Rattle.lay_hit.specs.Questions.{page, seen_in}
 use Rattle.lay_hit.specs.Waiting.{nobody}
 use Rattle.lay_hit.proofs.Passing.{here_group_within, here_owner_within, outer_group_within, outer_owner_within, passed_within, seen_is}
@@ -32,7 +33,7 @@ both_waiting-requires-clause-group c =
     let here = ap (λ (w : Waiting). w.group) c.waiting_at-here.ensures in
     let l = here_group_within q c.requires.valid c.args.fronts.now c.args.k c.requires.inner c.requires.place c.requires.before in
     let e = ap (λ (w : Waiting). w.group) c.all_passed-passed.ensures in
-    let m = passed_within (page q) _ _ c.waiting_at-here.result.group _ c.args.k (omega (arith, here, l)) c.requires.place in
+    let m = passed_within (page q) _ (forms_group c.kind_at-kind.result) c.waiting_at-here.result.group (c.is_seen-is_seen.result && not (is_of_owner c.kind_at-kind.result)) c.args.k (omega (arith, here, l)) c.requires.place in
     rw e m
 
 pub both_waiting-requires-clause-owner : goal.both_waiting-requires-clause-owner
@@ -41,7 +42,7 @@ both_waiting-requires-clause-owner c =
     let here = ap (λ (w : Waiting). w.owner) c.waiting_at-here.ensures in
     let l = here_owner_within q c.requires.valid c.args.fronts.now c.args.k c.requires.inner c.requires.place c.requires.before in
     let e = ap (λ (w : Waiting). w.owner) c.all_passed-passed.ensures in
-    let m = passed_within (page q) _ _ c.waiting_at-here.result.owner _ c.args.k (omega (arith, here, l)) c.requires.place in
+    let m = passed_within (page q) _ (is_stacking c.kind_at-kind.result) c.waiting_at-here.result.owner (c.is_seen-is_seen.result && is_of_owner c.kind_at-kind.result) c.args.k (omega (arith, here, l)) c.requires.place in
     rw e m
 
 pub returns : goal.returns
