@@ -56,9 +56,9 @@ module _ (p : Page) where
       | inr some ↦ (let found = (one.all g (other.one (omega (arith, some)))).0 in absurd (omega (arith, found, none)))
     ]
     | inr some ↦ (let there = one.one (omega (arith, some)) in
-      let low = other.all f there in
-      let back = one.all g (other.one low.0) in
-      behind-same f g low.1 back.1)
+        let low = other.all f there in
+        let back = one.all g (other.one low.0) in
+        behind-same f g low.1 back.1)
   ]
 
   -- of the same nodes

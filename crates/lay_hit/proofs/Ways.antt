@@ -42,8 +42,8 @@ module _ (ends : ℕ → Bool) (parent : ℕ → ℕ) (root : ends 0 ≡ true) (
       further rest off is = elim (cases_lt k (n + 1)) [
         | inl low ↦ absurd (let on = at_low (n + 1) k low in both_values on off)
         | inr high ↦ (let less = before k (omega (arith, high)) in
-          let also : stops n k ≡ false = at_high n k (omega (arith, high)) ∙ sym (at_high (n + 1) k high) ∙ off in
-          ap (λ (b : Bool). cond b k (nearest (stops n) parent t (parent k))) also ∙ rest (omega (arith, less, enough)) is)
+            let also : stops n k ≡ false = at_high n k (omega (arith, high)) ∙ sym (at_high (n + 1) k high) ∙ off in
+            ap (λ (b : Bool). cond b k (nearest (stops n) parent t (parent k))) also ∙ rest (omega (arith, less, enough)) is)
       ]
         where
           both_values : {b : Bool} → b ≡ true → b ≡ false → ⊥
@@ -129,9 +129,9 @@ module _ (ends : ℕ → Bool) (parent : ℕ → ℕ) (root : ends 0 ≡ true) (
       by_test rest false off is = elim (cases_eq k 0) [
         | inl none ↦ absurd (let on = ap ends none ∙ root in both_values on off)
         | inr some ↦ (let less = before k (omega (arith, some)) in
-          let low = nearest-low ends parent root before t (parent k) in
-          let high : n ≤ k = omega (arith, less, low, is, walked) in
-          ap (λ (b : Bool). cond b k (nearest (stops n) parent t (parent k))) (at_high n k high ∙ off) ∙ rest is)
+            let low = nearest-low ends parent root before t (parent k) in
+            let high : n ≤ k = omega (arith, less, low, is, walked) in
+            ap (λ (b : Bool). cond b k (nearest (stops n) parent t (parent k))) (at_high n k high ∙ off) ∙ rest is)
       ]
         where
           both_values : {b : Bool} → b ≡ true → b ≡ false → ⊥

@@ -92,9 +92,5 @@ fn in_front(q: &Question<'_>, j: usize, k: usize) -> usize
     if j == 0 {
         return k;
     }
-    if k == 0 || !is_behind(q, j, k) {
-        j
-    } else {
-        k
-    }
+    if k == 0 || !is_behind(q, j, k) { j } else { k }
 }

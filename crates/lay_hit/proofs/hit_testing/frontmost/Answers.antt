@@ -15,7 +15,11 @@ loop-next-smaller c =
 pub loop-next-preserved : goal.loop-next-preserved
 loop-next-preserved c =
     let next = goes_on c.args.q.now c.requires.valid c.loop-next.at c.loop-next.next c.loop-next.invariant.within c.loop-next.invariant.next c.loop-next-test.true in
-    record { within = next.2; seen = sym next.0 ∙ c.loop-next.invariant.seen; next = c.front_at-next-2.ensures }
+    record { within = next.2; seen = sym next.0 ∙ c.loop-next.invariant.seen; next = c.front_at-next-in-loop-next.ensures }
+
+pub front_at-next-requires-in-loop-next-clause-place : goal.front_at-next-requires-in-loop-next-clause-place
+front_at-next-requires-in-loop-next-clause-place c =
+    (goes_on c.args.q.now c.requires.valid c.loop-next.at c.loop-next.next c.loop-next.invariant.within c.loop-next.invariant.next c.loop-next-test.true).2
 
 pub returns : goal.returns
 returns c =
