@@ -1,5 +1,5 @@
 -- The walk from the last node to the first: what waits at each node stays true as it comes to one node more.
-use Rattle.std.proofs.Common.{◌≡◌, ℕ, zero, suc, ◌+◌, ◌<◌, ◌≤◌, Bool, true, false, cond, not, ◌&&◌, ◌||◌, List, length, slice_index_or, set, replicate, refl, sym, ap, ◌∙◌, subst, arith, ◌⊎◌, inl, inr, Option, None, if◌then◌else◌}
+use Rattle.std.proofs.Common.{◌≡◌, ℕ, ◌+◌, ◌<◌, ◌≤◌, Bool, true, false, not, ◌&&◌, ◌||◌, List, length, slice_index_or, set, replicate, refl, sym, ap, ◌∙◌, subst, arith, ◌⊎◌, inl, inr, Option, None, if◌then◌else◌}
 use Rattle.std.proofs.lemmas.Bool.{cases_eq, cases_Bool, and_from, and_parts, not-true, lt-ltb, ltb-true, eqb-true}
 use Rattle.std.proofs.lemmas.List.{get_or-replicate, get_or-set_same, get_or-set_other, length-replicate, length-set}
 use Rattle.std.specs.Prelude.{◌==◌, is_some, nat_lt}
@@ -19,7 +19,7 @@ use Rattle.lay_hit.specs.OrderedPages.{IsOrdered}
 use Rattle.lay_hit.specs.Questions.{AreNoted, page, seen_in}
 use Rattle.lay_hit.specs.Fronts.{IsFrontmost, front_from, front_in, in_front, is_behind, passed}
 use Rattle.lay_hit.specs.Waiting.{AreWaiting, Waits, ends_group, ends_owner, nobody, of_group, of_owner, passed_on}
-use Rattle.lay_hit.proofs.Frontmost.{also, none, joined, in_front-none}
+use Rattle.lay_hit.proofs.Frontmost.{also, none, joined}
 use Rattle.lay_hit.proofs.Ways.{way_ends, way_waits}
 use Rattle.lay_hit.proofs.WaitSteps.{no_both, same_there, comes_there, nothing_comes, none_yet, within_page}
 use Rattle.lay_hit.proofs.PaintedBy.{painter-forms, painter-before, owner-stacks}

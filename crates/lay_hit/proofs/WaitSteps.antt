@@ -1,6 +1,6 @@
 -- How the frontmost of the nodes that wait changes as the walk comes to one node more.
-use Rattle.std.proofs.Common.{◌≡◌, ℕ, zero, suc, ◌+◌, ◌<◌, ◌≤◌, Bool, true, false, cond, ◌||◌, refl, sym, ap, ◌∙◌, subst, arith, ◌⊎◌, inl, inr, if◌then◌else◌}
-use Rattle.std.proofs.lemmas.Bool.{cases_eq, cases_Bool, le-ltb, lt-ltb}
+use Rattle.std.proofs.Common.{◌≡◌, ℕ, ◌+◌, ◌<◌, ◌≤◌, Bool, true, false, ◌||◌, refl, sym, ap, ◌∙◌, subst, arith, ◌⊎◌, inl, inr, if◌then◌else◌}
+use Rattle.std.proofs.lemmas.Bool.{cases_eq, cases_Bool, le-ltb}
 use Rattle.std.specs.Prelude.{nat_lt}
 use Rattle.lay_hit.specs.Pages.{Page}
 use Rattle.lay_hit.specs.OrderedPages.{IsOrdered}

@@ -1,9 +1,9 @@
 -- Where a node waits, as the walk goes on: at the parent of the node that the walk comes to, if it waited at this one and
 -- its way doesn't end there, and else where it did.
 use Rattle.std.proofs.Common.{◌≡◌, ℕ, zero, suc, ◌+◌, ◌<◌, ◌≤◌, Bool, true, false, cond, ◌||◌, refl, sym, ap, ◌∙◌, arith, inl, inr}
-use Rattle.std.proofs.lemmas.Bool.{cases_eq, cases_lt, lt-ltb, le-ltb, ltb-true, ltb-false}
+use Rattle.std.proofs.lemmas.Bool.{cases_eq, cases_lt, lt-ltb, le-ltb}
 use Rattle.std.specs.Prelude.{nat_lt}
-use Rattle.lay_hit.specs.Groups.{nearest, nearest_at, nearest_around}
+use Rattle.lay_hit.specs.Groups.{nearest, nearest_around}
 use Rattle.lay_hit.proofs.Nearest.{nearest-low}
 
 module _ (ends : ℕ → Bool) (parent : ℕ → ℕ) (root : ends 0 ≡ true) (before : (k : ℕ) → 0 < k → parent k < k) where

@@ -1,4 +1,4 @@
-use Rattle.std.proofs.Common.{◌≡◌, ◌<◌, ◌+◌, ◌-◌, ◌||◌, ℕ, List, None, ap, arith, length, slice_index_or, subst, sym, ◌∙◌, not, true, false}
+use Rattle.std.proofs.Common.{◌≡◌, ◌<◌, ◌+◌, ◌-◌, ◌||◌, ℕ, List, None, ap, arith, length, slice_index_or, subst, sym, ◌∙◌, not, false}
 use Rattle.std.specs.Prelude.{◌==◌, is_some}
 use Rattle.lay_hit.specs.declared.waiting.Waiting.{Waiting}
 use Rattle.lay_hit.specs.Waiting.{AreWaiting, nobody}

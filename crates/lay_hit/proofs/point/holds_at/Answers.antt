@@ -1,4 +1,4 @@
-use Rattle.std.proofs.Common.{◌<◌, arith, refl}
+use Rattle.std.proofs.Common.{arith, refl}
 use Rattle.lay_frag.proofs.PieceLemmas.{inner_piece, page_in_range}
 use Rattle.lay_hit.proofs.point.holds_at.Goals as goal
 
