@@ -1,8 +1,7 @@
 -- Of each node the frontmost of those that it paints in which a piece is seen: what is seen in the node is what is seen there.
-use Rattle.std.proofs.Common.{◌≡◌, ℕ, zero, suc, ◌+◌, ◌-◌, ◌<◌, ◌≤◌, Bool, true, false, cond, not, ◌||◌, List, [], ◌∷◌, ◌++◌, length, slice_index, slice_index_or, set, replicate, refl, sym, ap, ◌∙◌, subst, arith, inl, inr, Option, Some, None, pos, if◌then◌else◌}
-use Rattle.std.proofs.lemmas.Bool.{cases_eq, eqb-true, eqb-false, eq-eqb, ne_eqb}
-use Rattle.std.proofs.lemmas.List.{get_or-replicate, get_or-set_same, get_or-set_other, length-replicate, length-set}
-use Rattle.std.specs.Prelude.{◌==◌, is_some, unwrap_or, option_and_then}
+use Rattle.std.proofs.Common.{◌≡◌, ℕ, zero, suc, ◌+◌, ◌-◌, ◌<◌, ◌≤◌, Bool, true, false, cond, not, ◌||◌, List, ◌∷◌, length, slice_index_or, refl, sym, ap, ◌∙◌, subst, arith, ◌⊎◌, inl, inr, Option, Some, None, pos, if◌then◌else◌}
+use Rattle.std.proofs.lemmas.Bool.{cases_eq, cases_lt, cases_Bool, and_from, eqb-true, eqb-false, eq-eqb, ne_eqb, le-leb}
+use Rattle.std.specs.Prelude.{◌==◌, is_some, unwrap_or, option_and_then, nat_le}
 use Rattle.std.specs.Option.{option_or}
 use Rattle.std.specs.List.{filter, flat_map, range_with_len, last_or, AllByRecursion}
 use Rattle.lay_doc.specs.Document.{Document, IsDocument}
@@ -22,12 +21,14 @@ use Rattle.lay_hit.specs.Ranks.{painter_at}
 use Rattle.lay_hit.specs.Wholes.{own_pieces, is_painted_under, painted_by, whole}
 use Rattle.lay_hit.specs.OrderedPages.{IsOrdered}
 use Rattle.lay_hit.specs.Questions.{AreNoted, page, seen_in}
-use Rattle.lay_hit.specs.Fronts.{AreFrontsFrom, front_from, front_of, later_of, greatest}
+use Rattle.lay_hit.specs.Fronts.{IsFrontmost, front_from, later_of, greatest}
 use Rattle.lay_hit.proofs.Orders.{lastly, last-lastly, lastly-append, lastly-counts, lastly-flat_map}
 use Rattle.lay_hit.proofs.Rising.{all-in_order, all-lastly, lastly-in_order}
 use Rattle.lay_hit.proofs.RankOrder.{rank_order}
+use Rattle.lay_hit.proofs.Frontmost.{also, none, single, only, first, later, earlier}
+use Rattle.lay_hit.proofs.WaitSteps.{no_both}
 use Rattle.lay_hit.proofs.Asked.{parent_before_in}
-use Rattle.lay_hit.proofs.PaintedBy.{filter-none, all-passing, all-range, painter-before}
+use Rattle.lay_hit.proofs.PaintedBy.{all-passing, all-range, painter-before}
 use Rattle.lay_hit.proofs.WholePaint.{paint-whole, whole_is}
 
 level_flat : (k : PaintKind) (s : Style) → is_stacking k ≡ false → level_of k s ≡ pos 0
@@ -49,20 +50,9 @@ ordered d styles fs is = record {
 pub page_ordered : (q : Question) → IsDocument q.doc.now → IsOrdered (page q)
 page_ordered q is = ordered q.doc.now q.styles.now (frags_of q.tree.now) is
 
-filter-append : {X : Type 0} (a : X → Bool) (xs ys : List X) → filter a (xs ++ ys) ≡ filter a xs ++ filter a ys
-filter-append a [] ys = refl
-filter-append {X} a (x ∷ xs) ys = by_test (filter-append a xs ys) (a x)
-  where
-    by_test : filter a (xs ++ ys) ≡ filter a xs ++ filter a ys → (b : Bool) → cond b (x ∷ filter a (xs ++ ys)) (filter a (xs ++ ys)) ≡ cond b (x ∷ filter a xs) (filter a xs) ++ filter a ys
-    by_test rest true = ap (λ (zs : List X). x ∷ zs) rest
-    by_test rest false = rest
-
-range-split : (m n a : ℕ) → range_with_len a (m + n) ≡ range_with_len a m ++ range_with_len (a + m) n
-range-split zero n a = let e : 0 + n ≡ n = omega arith in let f : a + 0 ≡ a = omega arith in rw (e, f) refl
-range-split (suc m) n a =
-    let e : suc m + n ≡ suc (m + n) = omega arith in
-    let f : a + suc m ≡ (a + 1) + m = omega arith in
-    rw (e, f) (ap (λ (ks : List ℕ). a ∷ ks) (range-split m n (a + 1)))
+-- which of two is kept, the node at k or another that stands behind it; 0 is none
+abbrev pub front_of : Page → ℕ → ℕ → ℕ
+front_of p k other = if other == 0 then k else (if is_painted_under p k other then other else k)
 
 module _ (p : Page) (o : IsOrdered p) (h : Frag → Bool) where
   abbrev pub seen : ℕ → Option Frag
@@ -131,45 +121,28 @@ module _ (p : Page) (o : IsOrdered p) (h : Frag → Bool) where
           let low = best-all (λ k. (1 ≤ k) × (k < p.count) × (g < k)) (mine_from 1 g) m (mine-all 1 g (omega arith)) is in
           (seen-split g within ∙ ap (λ (r : Option ℕ). option_or (option_and_then seen r) (own g)) is ∙ picks (seen m) (own g) (best-has (mine_from 1 g) m is), low.2, low.1)
 
-  -- a node paints none that stand before it
-  front_low : (k : ℕ) → 0 < k → k < p.count → front (k + 1) k ≡ front 1 k
-  front_low k some within = ap (λ (ks : List ℕ). unwrap_or (best ks) 0) (sym same)
+  -- whether a piece is seen in a node, by its own pieces and by those of the nodes that it paints
+  pub seen_either : (k : ℕ) → k < p.count → has k ≡ (is_some (own k) || not (front 1 k == 0))
+  seen_either k within = ap is_some (seen-split k within) ∙ by_best (best (mine_from 1 k)) refl
     where
-      early : filter (λ j. painter_at p j == k) (range_with_len 1 k) ≡ []
-      early = filter-none (λ j. painter_at p j == k) (range_with_len 1 k) (all-range (λ j. (painter_at p j == k) ≡ false) 1 k
-          (λ j low high. ne_eqb (painter_at p j) k (λ e. let b = painter-before p o j (omega (arith, low)) in omega (arith, e, b, high))))
+      plain : (b : Bool) → b ≡ (b || not (0 == 0))
+      plain true = refl
+      plain false = refl
 
-      same : mine_from 1 k ≡ mine_from (k + 1) k
-      same =
-          let e : p.count - 1 ≡ k + (p.count - (k + 1)) = omega arith in
-          let f : 1 + k ≡ k + 1 = omega arith in
-          ap (λ (n : ℕ). filter (λ j. painter_at p j == k) (range_with_len 1 n)) e
-          ∙ ap (filter (λ j. painter_at p j == k)) (range-split k (p.count - (k + 1)) 1)
-          ∙ filter-append (λ j. painter_at p j == k) (range_with_len 1 k) (range_with_len (1 + k) (p.count - (k + 1)))
-          ∙ ap (λ (ks : List ℕ). ks ++ filter (λ j. painter_at p j == k) (range_with_len (1 + k) (p.count - (k + 1)))) early
-          ∙ ap (λ (n : ℕ). filter (λ j. painter_at p j == k) (range_with_len n (p.count - (k + 1)))) f
-
-  -- whether a piece is seen in a node, by what is known of the nodes behind it
-  pub unseen : (k : ℕ) → 0 < k → k < p.count → front (k + 1) k ≡ 0 → is_some (own k) ≡ false → has k ≡ false
-  unseen k some within none plain = ap is_some (at_front k within (sym (front_low k some within) ∙ none)) ∙ plain
-
-  pub seen_behind : (k : ℕ) → 0 < k → k < p.count → (front (k + 1) k ≡ 0 → ⊥) → has k ≡ true
-  seen_behind k some within more = by_best (best (mine_from 1 k)) refl (λ e. more (front_low k some within ∙ e))
-    where
       picks : (x y : Option Frag) → is_some x ≡ true → is_some (option_or x y) ≡ true
       picks None y e = absurd cc
       picks (Some z) y e = refl
 
-      by_best : (r : Option ℕ) → best (mine_from 1 k) ≡ r → (unwrap_or r 0 ≡ 0 → ⊥) → has k ≡ true
-      by_best None is e = absurd (e refl)
-      by_best (Some m) is e = ap is_some (seen-split k within ∙ ap (λ (r : Option ℕ). option_or (option_and_then seen r) (own k)) is) ∙ picks (seen m) (own k) (best-has (mine_from 1 k) m is)
+      always : (b c : Bool) → c ≡ false → (b || not c) ≡ true
+      always true c e = refl
+      always false true e = absurd cc
+      always false false e = refl
 
-  pub seen_own : (k : ℕ) → k < p.count → is_some (own k) ≡ true → has k ≡ true
-  seen_own k within some = ap is_some (seen-split k within) ∙ picks (option_and_then seen (best (mine_from 1 k))) (own k) some
-    where
-      picks : (x y : Option Frag) → is_some y ≡ true → is_some (option_or x y) ≡ true
-      picks None y e = e
-      picks (Some z) y e = refl
+      by_best : (r : Option ℕ) → best (mine_from 1 k) ≡ r → is_some (option_or (option_and_then seen r) (own k)) ≡ (is_some (own k) || not (unwrap_or r 0 == 0))
+      by_best None is = plain (is_some (own k))
+      by_best (Some m) is =
+          let low = best-all (λ j. (1 ≤ j) × (j < p.count) × (k < j)) (mine_from 1 k) m (mine-all 1 k (omega arith)) is in
+          picks (seen m) (own k) (best-has (mine_from 1 k) m is) ∙ sym (always (is_some (own k)) (m == 0) (ne_eqb m 0 (λ e. omega (arith, e, low.0))))
 
   mine_step : (k g : ℕ) → k < p.count → mine_from k g ≡ cond (painter_at p k == g) (k ∷ mine_from (k + 1) g) (mine_from (k + 1) g)
   mine_step k g within = let e : p.count - k ≡ suc (p.count - (k + 1)) = omega arith in ap (λ (n : ℕ). filter (λ j. painter_at p j == g) (range_with_len k n)) e
@@ -210,85 +183,103 @@ module _ (p : Page) (o : IsOrdered p) (h : Frag → Bool) where
   pub front_none : (n g : ℕ) → p.count ≤ n → front n g ≡ 0
   front_none n g behind = let e : p.count - n ≡ 0 = omega arith in ap (λ (m : ℕ). unwrap_or (best (filter (λ j. painter_at p j == g) (range_with_len n m))) 0) e
 
-  pub front_within : (n g : ℕ) → 0 < n → front n g < p.count
-  front_within n g some = by_best (best (mine_from n g)) refl
+  -- So it is the frontmost of those that the node paints.
+  pub record Mine (n g k : ℕ) : Type 0 where
+    pub walked : n ≤ k
+    pub within : k < p.count
+    pub painter : painter_at p k ≡ g
+    pub counted : has k ≡ true
+
+  more_mine : (n g k : ℕ) → Mine (n + 1) g k → Mine n g k
+  more_mine n g k m = record { walked = (let l = m.walked in omega (arith, l)); within = m.within; painter = m.painter; counted = m.counted }
+
+  -- one node more, which isn't one of them, or is
+  front_same : (n g : ℕ) → n < p.count → (Mine n g n → ⊥) → front n g ≡ front (n + 1) g → IsFrontmost p (Mine (n + 1) g) (front (n + 1) g) → IsFrontmost p (Mine n g) (front n g)
+  front_same n g within not_mine same is =
+      subst (IsFrontmost p (Mine n g)) (sym same) (also p (Mine (n + 1) g) (Mine n g) (front (n + 1) g) (more_mine n g) back is)
     where
-      by_best : (r : Option ℕ) → best (mine_from n g) ≡ r → unwrap_or r 0 < p.count
-      by_best None is = o.some
-      by_best (Some m) is = (best-all (λ j. (n ≤ j) × (j < p.count) × (g < j)) (mine_from n g) m (mine-all n g some) is).1
+      back : (k : ℕ) → Mine n g k → Mine (n + 1) g k
+      back k m = elim (cases_eq k n) [
+        | inl here ↦ absurd (not_mine (subst (Mine n g) here m))
+        | inr other ↦ record { walked = (let l = m.walked in omega (arith, l, other)); within = m.within; painter = m.painter; counted = m.counted }
+      ]
+
+  abbrev just : ℕ → ℕ → Type 0
+  just n k = (k ≡ n) × (true ≡ true)
+
+  front_more : (n g : ℕ) → 0 < n → Mine n g n → IsFrontmost p (Mine (n + 1) g) (front (n + 1) g) → IsFrontmost p (Mine n g) (front n g)
+  front_more n g some mine is = subst (IsFrontmost p (Mine n g)) (sym (front_seen n g mine.within mine.painter mine.counted)) (chosen (front (n + 1) g) is)
+    where
+      apart : (k : ℕ) → Mine n g k → just n k ⊎ Mine (n + 1) g k
+      apart k m = elim (cases_eq k n) [
+        | inl here ↦ inl (here, refl)
+        | inr other ↦ inr (record { walked = (let l = m.walked in omega (arith, l, other)); within = m.within; painter = m.painter; counted = m.counted })
+      ]
+
+      left : (k : ℕ) → just n k → Mine n g k
+      left k here = subst (Mine n g) (sym here.0) mine
+
+      late : (c d : Bool) → d ≡ true → (not c || d) ≡ true
+      late true d e = e
+      late false d e = refl
+
+      over : (c d : Bool) → c ≡ false → (not c || d) ≡ true
+      over true d e = absurd cc
+      over false d e = refl
+
+      chosen : (m : ℕ) → IsFrontmost p (Mine (n + 1) g) m → IsFrontmost p (Mine n g) (front_of p n m)
+      chosen m is = by_none (m == 0) refl
+        where
+          by_order : 0 < m → (b : Bool) → is_painted_under p n m ≡ b → IsFrontmost p (Mine n g) (if b then m else n)
+          by_order more true under =
+              let l = (is.one more).walked in
+              later p (just n) (Mine (n + 1) g) (Mine n g) n m (single p true n some) is apart left (more_mine n g) more
+              (and_from (is_painted_under p n m) (not (is_painted_under p m n) || nat_le n m) under (late (is_painted_under p m n) (nat_le n m) (le-leb n m (omega (arith, l)))))
+          by_order more false over_it =
+              earlier p (just n) (Mine (n + 1) g) (Mine n g) n m (single p true n some) is apart left (more_mine n g) some
+              (and_from (is_painted_under p m n) (not (is_painted_under p n m) || nat_le m n) ((rank_order p).either n m over_it) (over (is_painted_under p n m) (nat_le m n) over_it))
+
+          by_none : (b : Bool) → (m == 0) ≡ b → IsFrontmost p (Mine n g) (if b then n else (if is_painted_under p n m then m else n))
+          by_none true e = first p (just n) (Mine (n + 1) g) (Mine n g) n m (single p true n some) is apart left (more_mine n g) (eqb-true m 0 e)
+          by_none false e = by_order (let e2 = eqb-false m 0 e in omega (arith, e2)) (is_painted_under p n m) refl
+
+  -- by as many steps as there are nodes from n on
+  fronts_from : (t n g : ℕ) → 0 < n → p.count ≤ n + t → IsFrontmost p (Mine n g) (front n g)
+  fronts_from zero n g some past = subst (IsFrontmost p (Mine n g)) (sym (front_none n g (omega (arith, past)))) (none p (Mine n g) (λ k m. let l = m.walked in let w = m.within in omega (arith, l, w, past)))
+  fronts_from (suc t) n g some past = elim (cases_lt n p.count) [
+    | inl within ↦ one_more within (fronts_from t (n + 1) g (omega arith) (omega (arith, past)))
+    | inr high ↦ subst (IsFrontmost p (Mine n g)) (sym (front_none n g high)) (none p (Mine n g) (λ k m. let l = m.walked in let w = m.within in omega (arith, l, w, high)))
+  ]
+    where
+      one_more : n < p.count → IsFrontmost p (Mine (n + 1) g) (front (n + 1) g) → IsFrontmost p (Mine n g) (front n g)
+      one_more within rest = elim (cases_eq (painter_at p n) g) [
+        | inr other ↦ front_same n g within (λ m. other m.painter) (front_other n g within other) rest
+        | inl mine ↦ elim (cases_Bool (has n)) [
+          | inl one ↦ front_more n g some (record { walked = (omega arith); within = within; painter = mine; counted = one }) rest
+          | inr blank ↦ front_same n g within (λ m. no_both m.counted blank) (front_unseen n g within blank) rest
+        ]
+      ]
+
+  pub frontmost_is : (g f : ℕ) → IsFrontmost p (Mine 1 g) f → f ≡ front 1 g
+  frontmost_is g f is = only p (Mine 1 g) f (front 1 g) is (fronts_from p.count 1 g (omega arith) (omega arith))
 
   -- what is seen in the root is what is painted last
   pub seen_root : last_or None (filter h (painting p)) ≡ seen 0
   seen_root = ap (λ (fs : List Frag). last_or None (filter h fs)) (paint-whole p o p.count 0 (omega arith) o.some (ap forms_group o.root))
 
--- The steps of the walk from the last nodes to the first.
+-- The walk from the root on.
 module _ (q : Question) (is : IsDocument q.doc.now) where
   abbrev at_point : Frag → Bool
   at_point f = holds q.at.x.0 q.at.y.0 f
 
-  pub first_fronts : AreFrontsFrom q (replicate (length q.doc.now.nodes) 0) (length q.doc.now.nodes)
-  first_fronts = record {
-    count = length-replicate (length q.doc.now.nodes) 0;
-    each = λ g within. get_or-replicate (length q.doc.now.nodes) g 0 0 within ∙ sym (front_none (page q) (page_ordered q is) at_point (length q.doc.now.nodes) g (omega arith));
-  }
-
-  module _ (fronts : List ℕ) (k : ℕ) (some : 0 < k) (within : k < length q.doc.now.nodes) (before : AreFrontsFrom q fronts (k + 1)) where
-    -- whether a piece is seen in the node at k, as the walk tests it
-    module _ (noted : List (Option Frag)) (kept : AreNoted q (frags_of q.tree.now) noted) where
-      abbrev is_seen : Bool
-      is_seen = not (slice_index fronts k == 0) || is_some (slice_index_or noted k None)
-
-      pub seen_there : is_seen ≡ true → is_some (seen_in q k) ≡ true
-      seen_there e = by_front (slice_index fronts k == 0) refl e
-        where
-          by_front : (b : Bool) → (slice_index fronts k == 0) ≡ b → (not b || is_some (slice_index_or noted k None)) ≡ true → is_some (seen_in q k) ≡ true
-          by_front true front_is own_is = seen_own (page q) (page_ordered q is) at_point k within (ap is_some (sym (kept.each k within)) ∙ own_is)
-          by_front false front_is own_is = seen_behind (page q) (page_ordered q is) at_point k some within (λ e. eqb-false (slice_index fronts k) 0 front_is (before.each k within ∙ e))
-
-      pub nothing_seen : is_seen ≡ false → AreFrontsFrom q fronts k
-      nothing_seen e = by_front (slice_index fronts k == 0) refl e
-        where
-          by_front : (b : Bool) → (slice_index fronts k == 0) ≡ b → (not b || is_some (slice_index_or noted k None)) ≡ false → AreFrontsFrom q fronts k
-          by_front false front_is own_is = absurd cc
-          by_front true front_is own_is =
-              let blank = unseen (page q) (page_ordered q is) at_point k some within (sym (before.each k within) ∙ eqb-true (slice_index fronts k) 0 front_is) (ap is_some (sym (kept.each k within)) ∙ own_is) in
-              record { count = before.count; each = λ g low. before.each g low ∙ sym (front_unseen (page q) (page_ordered q is) at_point k g within blank) }
-
-    pub painter_within : painter_at (page q) k < length q.doc.now.nodes
-    painter_within = let b = painter-before (page q) (page_ordered q is) k some in omega (arith, b, within)
-
-    pub other_within : (g : ℕ) → g < length q.doc.now.nodes → slice_index fronts g < length q.doc.now.nodes
-    other_within g low = let e = before.each g low in let f = front_within (page q) (page_ordered q is) at_point (k + 1) g (omega arith) in omega (arith, e, f)
-
-    module _ (one : is_some (seen_in q k) ≡ true) where
-      others_left : (g : ℕ) → g < length q.doc.now.nodes → (painter_at (page q) k ≡ g → ⊥) → slice_index fronts g ≡ front_from q k g
-      others_left g low other = before.each g low ∙ sym (front_other (page q) (page_ordered q is) at_point k g within other)
-
-      mine_is : front_of (page q) k (slice_index fronts (painter_at (page q) k)) ≡ front_from q k (painter_at (page q) k)
-      mine_is = ap (front_of (page q) k) (before.each (painter_at (page q) k) painter_within) ∙ sym (front_seen (page q) (page_ordered q is) at_point k (painter_at (page q) k) within refl one)
-
-      -- the one that is in front of the two is kept
-      pub brought : (after : List ℕ) → after ≡ set fronts (painter_at (page q) k) (front_of (page q) k (slice_index fronts (painter_at (page q) k))) → AreFrontsFrom q after k
-      brought after is_set = record {
-        count = ap length is_set ∙ length-set fronts (painter_at (page q) k) (front_of (page q) k (slice_index fronts (painter_at (page q) k))) ∙ before.count;
-        each = λ g low. elim (cases_eq (painter_at (page q) k) g) [
-          | inl same ↦ subst (λ (j : ℕ). slice_index after j ≡ front_from q k j) same
-              (ap (λ (xs : List ℕ). slice_index xs (painter_at (page q) k)) is_set
-              ∙ get_or-set_same fronts (painter_at (page q) k) (front_of (page q) k (slice_index fronts (painter_at (page q) k))) 0 (let e = before.count in let w = painter_within in omega (arith, e, w)) ∙ mine_is)
-          | inr other ↦ ap (λ (xs : List ℕ). slice_index xs g) is_set
-              ∙ get_or-set_other fronts (painter_at (page q) k) g (front_of (page q) k (slice_index fronts (painter_at (page q) k))) 0 (λ e. other (sym e)) ∙ others_left g low other
-        ];
-      }
-
-  -- From the root on.
   pub root_seen : hit_of q.doc.now q.styles.now q.tree.now q.at.x.0 q.at.y.0 ≡ seen_in q 0
   unfolding hit_of
   root_seen = seen_root (page q) (page_ordered q is) at_point
 
-  module _ (fronts : List ℕ) (all : AreFrontsFrom q fronts 1) (at : ℕ) (within : at < length q.doc.now.nodes) where
-    pub goes_on : (slice_index fronts at ≡ 0 → ⊥) → (seen_in q at ≡ seen_in q (slice_index fronts at)) × (at < slice_index fronts at) × (slice_index fronts at < length q.doc.now.nodes)
-    goes_on more = subst (λ (n : ℕ). (seen_in q at ≡ seen_in q n) × (at < n) × (n < length q.doc.now.nodes)) (sym (all.each at within))
-        (through_front (page q) (page_ordered q is) at_point at within (λ e. more (all.each at within ∙ e)))
+  module _ (at next : ℕ) (within : at < length q.doc.now.nodes) (next_is : next ≡ front_from q 1 at) where
+    pub goes_on : (next ≡ 0 → ⊥) → (seen_in q at ≡ seen_in q next) × (at < next) × (next < length q.doc.now.nodes)
+    goes_on more = subst (λ (n : ℕ). (seen_in q at ≡ seen_in q n) × (at < n) × (n < length q.doc.now.nodes)) (sym next_is)
+        (through_front (page q) (page_ordered q is) at_point at within (λ e. more (next_is ∙ e)))
 
-    pub ends : (noted : List (Option Frag)) → AreNoted q (frags_of q.tree.now) noted → slice_index fronts at ≡ 0 → seen_in q at ≡ slice_index_or noted at None
-    ends noted kept none = at_front (page q) (page_ordered q is) at_point at within (sym (all.each at within) ∙ none) ∙ sym (kept.each at within)
+    pub ends : (noted : List (Option Frag)) → AreNoted q (frags_of q.tree.now) noted → next ≡ 0 → seen_in q at ≡ slice_index_or noted at None
+    ends noted kept none = at_front (page q) (page_ordered q is) at_point at within (sym next_is ∙ none) ∙ sym (kept.each at within)

@@ -5,7 +5,11 @@ pub mod RankOrder
 pub mod PaintTests
 pub mod PaintedBy
 pub mod WholePaint
+pub mod Frontmost
+pub mod Ways
+pub mod WaitSteps
 pub mod FrontSteps
+pub mod Passing
 pub mod Nearest
 pub mod Asked
 pub mod NotedPieces

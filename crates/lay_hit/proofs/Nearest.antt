@@ -35,7 +35,7 @@ module _ (counts : ℕ → Bool) (parent : ℕ → ℕ) (root : counts 0 ≡ tru
       by_test true is outer = is
       by_test false is outer = outer
 
-  nearest-low : (t k : ℕ) → nearest counts parent t k ≤ k
+  pub nearest-low : (t k : ℕ) → nearest counts parent t k ≤ k
   nearest-low t zero = let e = same_at_root t in omega (arith, e)
   nearest-low zero (suc k) = omega arith
   nearest-low (suc t) (suc k) =

@@ -10,4 +10,5 @@ pub mod Wholes
 pub mod OrderedPages
 pub mod Questions
 pub mod Fronts
+pub mod Waiting
 pub mod Laws

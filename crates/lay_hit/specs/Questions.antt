@@ -1,16 +1,14 @@
 -- What is asked: which piece of a document's tree is seen at a point; and what a walk over the pieces and the nodes has found.
-use Rattle.std.specs.Prelude.{ℕ, ◌≡◌, ◌<◌, Bool, true, false, List, length, slice_index, slice_index_or, Option, Some, None, option_and_then, if◌then◌else◌}
+use Rattle.std.specs.Prelude.{ℕ, ◌≡◌, ◌<◌, Bool, true, false, List, length, slice_index_or, Option, Some, None, option_and_then, if◌then◌else◌}
 use Rattle.lay_style.specs.Places.{place_of}
-use Rattle.lay_doc.specs.Document.{parents_of, ids_of}
+use Rattle.lay_doc.specs.Document.{ids_of}
 use Rattle.lay_frag.specs.declared.frag.Frag.{Frag}
 use Rattle.lay_frag.specs.declared.frag.FragKind.{FragKind}
 use Rattle.lay_frag.specs.declared.frag.FragKind.TheVariants as frag_kind
 use Rattle.lay_frag.specs.Pieces.{frags_of}
-use Rattle.lay_hit.specs.declared.around.Around.{Around}
 use Rattle.lay_hit.specs.declared.kinds.PaintKind.{PaintKind}
 use Rattle.lay_hit.specs.declared.question.Question.{Question}
-use Rattle.lay_hit.specs.PaintKinds.{forms_group, is_inline, is_stacking, kind_at}
-use Rattle.lay_hit.specs.Groups.{nearest_at}
+use Rattle.lay_hit.specs.PaintKinds.{is_inline, kind_at}
 use Rattle.lay_hit.specs.Hits.{last_holding}
 use Rattle.lay_hit.specs.Pages.{Page, page_of}
 use Rattle.lay_hit.specs.Wholes.{own_pieces, whole}
@@ -36,21 +34,6 @@ node_of_piece q f = option_and_then (λ k. if is_painted f.kind (kind_at q.doc.n
 pub record AreNoted (q : Question) (fs : List Frag) (noted : List (Option Frag)) : Type 0 where
   pub count : length noted ≡ length q.doc.now.nodes
   pub each : (k : ℕ) → k < length q.doc.now.nodes → slice_index_or noted k None ≡ last_holding q.at.x.0 q.at.y.0 (own_pieces (page_with q fs) k)
-
--- the nearest nodes at or around the one at k that are painted as a whole, and that make a stacking context
-abbrev pub around_of : Question → ℕ → Around
-around_of q k = record {
-  group = nearest_at (λ j. forms_group (kind_at q.doc.now.nodes q.styles.now j)) (λ j. slice_index (parents_of q.doc.now.nodes) j) k;
-  owner = nearest_at (λ j. is_stacking (kind_at q.doc.now.nodes q.styles.now j)) (λ j. slice_index (parents_of q.doc.now.nodes) j) k;
-}
-
-abbrev pub nothing_around : Around
-nothing_around = record { group = 0; owner = 0 }
-
--- those of the first n nodes
-pub record AreAround (q : Question) (around : List Around) (n : ℕ) : Type 0 where
-  pub count : length around ≡ n
-  pub each : (k : ℕ) → k < n → slice_index_or around k nothing_around ≡ around_of q k
 
 -- the piece that is seen of what a node paints as a whole
 abbrev pub seen_in : Question → ℕ → Option Frag

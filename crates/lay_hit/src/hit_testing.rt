@@ -3,15 +3,15 @@
 ghost use Rattle.std.specs.Prelude.{◌≡◌, length, IfOk};
 ghost use Rattle.lay_doc.specs.Document.{IsDocument};
 ghost use Rattle.lay_frag.specs.Pieces.{frags_of};
-ghost use Rattle.lay_hit.specs.Fronts.{AreFrontsFrom};
 ghost use Rattle.lay_hit.specs.Hits.{hit_of};
 ghost use Rattle.lay_hit.specs.Questions.{AreNoted};
+ghost use Rattle.lay_hit.specs.Waiting.{AreWaiting};
 
-use crate::around::nearest_nodes;
-use crate::fronts::fronts;
+use crate::fronts::{front_at, fronts};
 use crate::noted::noted;
 use crate::point::Point;
 use crate::question::Question;
+use crate::waiting::Waiting;
 use lay_doc::Doc;
 use lay_frag::{Frag, Tree};
 use lay_style::Computed;
@@ -37,21 +37,23 @@ pub fn hit(
         at,
     };
     let noted = noted(alloc, &q)?;
-    let around = nearest_nodes(alloc, &q)?;
-    let fronts = fronts(alloc, &q, &around, &noted)?;
+    let fronts = fronts(alloc, &q, &noted)?;
     Ok(frontmost(&q, &noted, &fronts))
 }
 
 /// From the root on, the frontmost node that has a piece at the point.
-fn frontmost(q: &Question<'_>, noted: &[Option<Frag>], fronts: &[usize]) -> Option<Frag>
+fn frontmost(q: &Question<'_>, noted: &[Option<Frag>], fronts: &[Waiting]) -> Option<Frag>
+    requires styles { length q.now.styles.now ≡ length q.now.doc.now.nodes }
     requires valid { IsDocument q.now.doc.now }
     requires noted { AreNoted q.now (frags_of q.now.tree.now) noted.now }
-    requires fronts { AreFrontsFrom q.now fronts.now 1 }
+    requires fronts { AreWaiting q.now fronts.now 1 }
     ensures { result ≡ hit_of q.now.doc.now q.now.styles.now q.now.tree.now q.now.at.x.0 q.now.at.y.0 }
 {
     let mut at = 0;
-    while fronts[at] != 0 {
-        at = fronts[at];
+    let mut next = front_at(q, fronts, at);
+    while next != 0 {
+        at = next;
+        next = front_at(q, fronts, at);
     }
     noted[at]
 }

@@ -3,7 +3,7 @@
 ghost use Rattle.std.specs.Prelude.{◌≡◌, ◌<◌, length, true, false};
 ghost use Rattle.lay_doc.specs.NewNodes.{is_text};
 ghost use Rattle.lay_boxgen.specs.Display.{used_display_of, is_floated, flow_of};
-ghost use Rattle.lay_hit.specs.PaintKinds.{is_positioned, stack_level, kind_in_flow, is_stacking, forms_group, is_inline, is_replaced, is_out_of_flow, paint_kind, kind_at, level_of, level_at};
+ghost use Rattle.lay_hit.specs.PaintKinds.{is_positioned, stack_level, kind_in_flow, is_stacking, forms_group, is_inline, is_replaced, is_out_of_flow, paint_kind, kind_at, level_of};
 
 use lay_boxgen::used_display_of;
 use lay_doc::{Kind, Node};
@@ -133,7 +133,7 @@ pub(crate) fn kind_at(nodes: &[Node], styles: &[Style], place: usize) -> PaintKi
 }
 
 /// The level of a node that is painted so.
-fn level_of(kind: PaintKind, style: &Style) -> i64
+pub(crate) fn level_of(kind: PaintKind, style: &Style) -> i64
     ensures { result ≡ level_of kind style.now }
 {
     if !kind.is_stacking() {
@@ -143,13 +143,4 @@ fn level_of(kind: PaintKind, style: &Style) -> i64
         Some(level) => level,
         None => 0,
     }
-}
-
-/// The level of the node at a place.
-pub(crate) fn level_at(nodes: &[Node], styles: &[Style], place: usize) -> i64
-    requires node { place < length nodes.now }
-    requires style { place < length styles.now }
-    ensures { result ≡ level_at nodes.now styles.now place }
-{
-    level_of(kind_at(nodes, styles, place), &styles[place])
 }

@@ -6,7 +6,6 @@
 //! says so.
 #![tactic(auto)]
 
-mod around;
 mod fronts;
 mod hit_testing;
 mod kinds;
@@ -16,6 +15,7 @@ mod noted;
 mod point;
 mod question;
 mod rank;
+mod waiting;
 
 pub use hit_testing::hit;
 pub use kinds::{PaintKind, paint_kind};

@@ -2,7 +2,7 @@
 
 ghost use Rattle.std.specs.Prelude.{◌≡◌, ◌<◌, ◌+ℤ◌, Some, length, slice_get, IfSome};
 ghost use Rattle.lay_units.specs.Units.{IsPosition, IsSum};
-ghost use Rattle.lay_frag.specs.Pieces.{page_pieces, IsContextInRange, IsRectInRange};
+ghost use Rattle.lay_frag.specs.Pieces.{page_pieces, moved, IsContextInRange, IsRectInRange};
 ghost use Rattle.lay_hit.specs.Hits.{holds, is_from, is_in};
 
 use lay_frag::{Frag, Placed};
@@ -21,7 +21,22 @@ pub(crate) fn holds_at(placed: &Placed, k: usize, at: Point) -> bool
     requires place { k < length placed.now.pieces }
     ensures { IfSome (slice_get (page_pieces placed.now) k) (λ f. result ≡ holds at.x.0 at.y.0 f) }
 {
-    is_in(at, page_rect(placed, k))
+    let rect = placed.rect();
+    if k == 0 {
+        return is_in(at, rect);
+    }
+    let down = further(rect.y, placed.shift());
+    is_in_moved(at, piece_at(placed.pieces(), k), rect.x, down)
+}
+
+/// Whether a piece holds the point that stands so far to the right and down. Most pieces of a page stand above the point or
+/// below it.
+fn is_in_moved(at: Point, piece: &Frag, right: Unit, down: Unit) -> bool
+    requires range { IsRectInRange (moved right.0 down.0 piece.now).rect }
+    ensures { result ≡ holds at.x.0 at.y.0 (moved right.0 down.0 piece.now) }
+{
+    is_from(further(down, piece.rect.y), piece.rect.h, at.y)
+        && is_from(further(right, piece.rect.x), piece.rect.w, at.x)
 }
 
 /// Whether a rectangle holds the point.
@@ -41,41 +56,11 @@ fn is_from(edge: Unit, length: Unit, v: Unit) -> bool
     edge.0 <= v.0 && v.0 < edge.0 + length.0
 }
 
-/// The rectangle of the piece with this number, on the page.
-fn page_rect(placed: &Placed, k: usize) -> Rect
-    requires range { IsContextInRange placed.now }
-    requires place { k < length placed.now.pieces }
-    ensures rect { IfSome (slice_get (page_pieces placed.now) k) (λ f. result ≡ f.rect) }
-    ensures range { IsRectInRange result }
-{
-    let rect = placed.rect();
-    if k == 0 {
-        return rect;
-    }
-    moved(
-        piece_at(placed.pieces(), k).rect,
-        rect.x,
-        further(rect.y, placed.shift()),
-    )
-}
-
 fn piece_at(pieces: &[Frag], k: usize) -> &Frag
     requires { k < length pieces.now }
     ensures { slice_get pieces.now k ≡ Some result.now }
 {
     &pieces[k]
-}
-
-fn moved(rect: Rect, right: Unit, down: Unit) -> Rect
-    requires right { IsPosition (right.0 +ℤ rect.x.0) }
-    requires down { IsPosition (down.0 +ℤ rect.y.0) }
-    ensures { result ≡ record { x = record { 0 = right.0 +ℤ rect.x.0 }; y = record { 0 = down.0 +ℤ rect.y.0 }; w = rect.w; h = rect.h } }
-{
-    Rect {
-        x: further(right, rect.x),
-        y: further(down, rect.y),
-        ..rect
-    }
 }
 
 fn further(from: Unit, by: Unit) -> Unit

@@ -1,13 +1,12 @@
 //! Where a node is painted among those that the same node paints.
 
 ghost use Rattle.std.specs.Prelude.{◌≡◌, ◌<◌, length};
-ghost use Rattle.lay_hit.specs.Ranks.{is_of_owner, is_under, painter_at, rank_at, step_of};
-ghost use Rattle.lay_hit.specs.Questions.{AreAround, page};
+ghost use Rattle.lay_hit.specs.Ranks.{is_of_owner, is_under, rank_at, step_of};
+ghost use Rattle.lay_hit.specs.Fronts.{is_behind};
+ghost use Rattle.lay_hit.specs.Questions.{page};
 
-use crate::around::{Around, around_at};
-use crate::kinds::{PaintKind, kind_at, level_at};
+use crate::kinds::{PaintKind, kind_at, level_of};
 use crate::question::Question;
-use lay_doc::parent_at;
 
 /// The step of painting, and in it the level.
 #[derive(Clone, Copy)]
@@ -45,41 +44,28 @@ fn rank_at(q: &Question<'_>, place: usize) -> Rank
     requires place { place < length q.now.doc.now.nodes }
     ensures { result ≡ rank_at (page q.now) place }
 {
-    let nodes = q.doc.nodes();
-    let level = level_at(nodes, q.styles, place);
+    let kind = kind_at(q.doc.nodes(), q.styles, place);
+    let level = level_of(kind, &q.styles[place]);
     Rank {
-        step: step_of(kind_at(nodes, q.styles, place), level),
+        step: step_of(kind, level),
         level,
     }
 }
 
-/// Whether the node at j is painted no later than that at k.
-pub(crate) fn is_painted_under(q: &Question<'_>, j: usize, k: usize) -> bool
+/// Whether the node at j is painted no later than that at k, and stands first if they are of equal rank.
+pub(crate) fn is_behind(q: &Question<'_>, j: usize, k: usize) -> bool
     requires styles { length q.now.styles.now ≡ length q.now.doc.now.nodes }
     requires low { j < length q.now.doc.now.nodes }
     requires high { k < length q.now.doc.now.nodes }
-    ensures { result ≡ is_under (rank_at (page q.now) j) (rank_at (page q.now) k) }
+    ensures { result ≡ is_behind (page q.now) j k }
 {
-    rank_at(q, j).is_under(rank_at(q, k))
+    let first = rank_at(q, j);
+    let second = rank_at(q, k);
+    first.is_under(second) && (!second.is_under(first) || j <= k)
 }
 
-/// The node that paints the one at a place, which isn't the root.
-pub(crate) fn painter_at(q: &Question<'_>, around: &[Around], place: usize) -> usize
-    requires styles { length q.now.styles.now ≡ length q.now.doc.now.nodes }
-    requires place { place < length q.now.doc.now.nodes }
-    requires known { AreAround q.now around.now (length q.now.doc.now.nodes) }
-    ensures { result ≡ painter_at (page q.now) place }
-{
-    let nodes = q.doc.nodes();
-    let outer = around_at(around, parent_at(nodes, place));
-    if is_of_owner(kind_at(nodes, q.styles, place)) {
-        outer.owner
-    } else {
-        outer.group
-    }
-}
-
-fn is_of_owner(kind: PaintKind) -> bool
+/// Whether the owner of a node of this kind paints it, and not its group.
+pub(crate) fn is_of_owner(kind: PaintKind) -> bool
     ensures { result ≡ is_of_owner kind }
 {
     matches!(kind, PaintKind::Stacking | PaintKind::Layered)
