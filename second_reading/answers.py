@@ -12,8 +12,8 @@ NATURAL = '(?:0|[1-9][0-9]*)'
 WHOLE = '(?:0|-?[1-9][0-9]*)'
 # a text is narrower than nothing where its letters stand closer than they are wide, and so is what holds it alone
 PIECE = re.compile('(?:box|line|text) [1-9][0-9]* %s %s %s %s %s' % (NATURAL, WHOLE, WHOLE, WHOLE, NATURAL))
-ENTRY = re.compile('edit ([1-9][0-9]*) (%s) (?:accepted [1-9][0-9]*|refused E(?:[1-9]|10|11))'
-                   '|(?:latest|sync) ([1-9][0-9]*) (%s) %s' % (NATURAL, NATURAL, NATURAL))
+ENTRY = re.compile('edit ([1-9][0-9]*) (%s) (?:accepted [1-9][0-9]*|refused E(?:[1-9]|10|11)(?: at %s)?)'
+                   '|(?:latest|sync) ([1-9][0-9]*) (%s) %s' % (NATURAL, NATURAL, NATURAL, NATURAL))
 PUBLISH = re.compile('publish (%s)' % NATURAL)
 HIT = re.compile('hit (?:none|(?:box|text) [1-9][0-9]* %s)\n' % NATURAL)
 OPTIONS = {'run': {'--workers': (1, 16, False)},

@@ -9,12 +9,14 @@ RUN is the file of a run document. The cases are reports of random runs as they 
 the same with a byte changed, or a line dropped, doubled or exchanged, each with the verdict of this reading.
 """
 import argparse
+import copy
 import json
 import pathlib
 import random
 import re
 import sys
 
+from batches import edits_of, refusal
 from histories import READS, Checker, Illegal, reading_tree, require
 from run_documents import possible_report, run_document
 
@@ -37,7 +39,8 @@ class Auditor(Checker):
         is_read = command['do'] in READS
         require(kind == (command['do'] if is_read else 'edit'), 'another command')
         if not is_read:
-            fault = self.document.fault(command)
+            edits = edits_of(command)
+            fault = self.document.fault(edits[0]) if len(edits) == 1 else None
             require(not fault, 'it has the fault %s' % fault)
         self.place += 1
 
@@ -96,12 +99,14 @@ def answer(checker, command, who, rng):
     """The lines of an answer to a command that may be."""
     kind = command['do']
     if kind not in READS:
-        fault = checker.document.fault(command)
-        if fault:
-            return ['edit %s refused %s' % (who, fault)]
-        if rng.random() < 0.1:
+        edits = edits_of(command)
+        document = copy.deepcopy(checker.document)
+        fault = document.take(edits)
+        if fault and (len(edits) == 1 or rng.random() < 0.9):
+            return ['edit %s %s' % (who, refusal(edits, *fault))]
+        if fault or rng.random() < 0.1:
             return ['edit %s nomemory' % who]
-        checker.document.apply(command)
+        checker.document = document
         checker.accepted += 1
         return ['edit %s accepted %d' % (who, checker.accepted)]
     if rng.random() < 0.2:

@@ -1,11 +1,14 @@
 """Documents that edits change, and the faults of edits.
 
-An edit is a command of a run document: `set`, `clear`, `text`, `insert` or `remove`.
+An edit is a command of a run document: `set`, `clear`, `text`, `insert` or `remove`. A list of edits is taken whole or not at all.
 """
+import copy
+
+from batches import MOST_NODES
 from cascade import styled
 from declarations import declaration_fault
 
-GREATEST_DEPTH, MOST_NODES = 128, 16384
+GREATEST_DEPTH = 128
 MOST_BYTES_OF_A_TEXT, MOST_BYTES = 65536, 1048576
 TREE_FIELDS = ('do', 'index', 'parent')
 
@@ -105,6 +108,17 @@ class Document:
         return 'E6' if node is self.root else None
 
     # -- changes
+
+    def take(self, edits):
+        """Makes all edits of a list, or none where one has a fault: the first fault and its place, or None."""
+        later = copy.deepcopy(self) if len(edits) > 1 else self
+        for place, edit in enumerate(edits):
+            fault = later.fault(edit)
+            if fault:
+                return fault, place
+            later.apply(edit)
+        vars(self).update(vars(later))
+        return None
 
     def apply(self, edit):
         """Makes an edit that has no fault."""

@@ -8,9 +8,11 @@ The draws are those of a small generator of numbers, settled by the seed.
 import json
 import sys
 
+from batches import READS_BATCHES, edits_of
 from report import report
 
 EDITORS = 4
+EDITS_OF_A_BATCH = 64
 
 
 class Draws:
@@ -42,26 +44,31 @@ def section(draws, number):
 
 
 def generated_run(size, seed):
-    """The run document: each editor sets a padding in every fourth section, and then syncs."""
+    """The run document: each editor sets a padding in every fourth section, in batches where these are read, and then syncs."""
     draws = Draws(seed)
     nodes = [{'id': 1, 'parent': 0, 'kind': 'element', 'style': {'display': 'block'}}]
     for number in range(size):
         nodes += section(draws, number)
     editors = []
     for editor in range(EDITORS):
-        commands = [{'do': 'set', 'node': 4 + 4 * number, 'property': 'padding-left', 'value': draws.pixels(0, 30)}
-                    for number in range(editor, size, EDITORS)]
-        editors.append(commands + [{'do': 'sync'}])
+        edits = [{'do': 'set', 'node': 4 + 4 * number, 'property': 'padding-left', 'value': draws.pixels(0, 30)}
+                 for number in range(editor, size, EDITORS)]
+        editors.append((batches_of(edits) if READS_BATCHES else edits) + [{'do': 'sync'}])
     return {'viewport': [800, 600], 'nodes': nodes, 'editors': editors}
 
 
+def batches_of(edits):
+    """Commands with these edits, the last one with what is left."""
+    return [{'do': 'batch', 'edits': edits[first:first + EDITS_OF_A_BATCH]} for first in range(0, len(edits), EDITS_OF_A_BATCH)]
+
+
 def edited(run):
-    """The document after all edits of a generated run; no two of them touch one node."""
-    values = {command['node']: command['value'] for commands in run['editors'] for command in commands
-              if command['do'] == 'set'}
+    """The document after all edits of a generated run, no two of which touch one node, and how many commands are accepted."""
+    commands = [command for script in run['editors'] for command in script if command['do'] != 'sync']
+    values = {edit['node']: edit['value'] for command in commands for edit in edits_of(command)}
     nodes = [dict(node, style={**node['style'], 'padding-left': values[node['id']]}) if node['id'] in values else node
              for node in run['nodes']]
-    return {'viewport': run['viewport'], 'nodes': nodes}, len(values)
+    return {'viewport': run['viewport'], 'nodes': nodes}, len(commands)
 
 
 def mark(pieces):

@@ -14,10 +14,11 @@ import re
 import subprocess
 import sys
 
+from batches import edits_of, refusal
 from edits import Document
 from report import context_count, report
 
-EDIT = re.compile(r'edit ([0-9]+) ([0-9]+) (accepted|refused) (E?[0-9]+)')
+EDIT = re.compile(r'edit ([0-9]+) ([0-9]+) (?:accepted [0-9]+|refused E[0-9]+(?: at [0-9]+)?)')
 COMMAND = re.compile(r'^(?:edit|latest|sync) ([0-9]+) ([0-9]+) ', re.M)
 READ = re.compile(r'(latest|sync) ([0-9]+) ([0-9]+) ([0-9]+)')
 LACK = re.compile(r'(edit|latest|sync) ([0-9]+) ([0-9]+) nomemory')
@@ -107,21 +108,19 @@ class Checker:
         return self.scripts[editor - 1][index]
 
     def edit(self):
-        editor, index, verdict, number = self.fields(EDIT)
-        edit = self.command(editor, index)
-        require(edit['do'] not in READS, 'the command is no edit')
-        fault = self.document.fault(edit)
-        if fault:
-            require([verdict, number] == ['refused', fault], 'it has the fault %s' % fault)
-        else:
-            require([verdict, number] == ['accepted', self.accepted + 1], 'it is accepted as %d' % (self.accepted + 1))
-            self.document.apply(edit)
-            self.accepted += 1
+        editor, index = self.fields(EDIT)
+        command = self.command(editor, index)
+        require(command['do'] not in READS, 'the command is no edit')
+        edits = edits_of(command)
+        fault = self.document.take(edits)
+        self.accepted += not fault
+        answer = refusal(edits, *fault) if fault else 'accepted %d' % self.accepted
+        require(self.line() == 'edit %d %d %s' % (editor, index, answer), 'it is %s' % answer)
         self.place += 1
 
     def publish(self):
         version, = self.fields(PUBLISH)
-        require(version == self.accepted, '%d edits are accepted' % self.accepted)
+        require(version == self.accepted, '%d are accepted' % self.accepted)
         require(self.published != version, 'it was published before')
         self.published, self.published_tree = version, self.tree(self.document.as_run())
         self.place += 1
@@ -130,7 +129,7 @@ class Checker:
         kind, editor, index, version = self.fields(READ)
         require(self.command(editor, index)['do'] == kind, 'another command')
         require(self.published == version, 'what was published last is %s' % self.published)
-        require(kind == 'latest' or version == self.accepted, '%d edits are accepted' % self.accepted)
+        require(kind == 'latest' or version == self.accepted, '%d are accepted' % self.accepted)
         self.place += 1
         self.tree_lines()
 
@@ -145,7 +144,7 @@ class Checker:
     def final(self):
         version, = self.fields(FINAL)
         require(self.next_commands == list(map(len, self.scripts)), 'commands are left')
-        require(version == self.accepted, '%d edits are accepted' % self.accepted)
+        require(version == self.accepted, '%d are accepted' % self.accepted)
         require(self.published == version, 'what was published last is %s' % self.published)
         self.place += 1
         self.tree_lines()

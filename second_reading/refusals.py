@@ -6,11 +6,12 @@ import json
 import re
 import sys
 
+from batches import COMMANDS_WITH_EDITS, EDITS, MOST_EDITS, MOST_NODES
 from cascade import MOST_SELECTORS, selector_count
 from declarations import declaration_fault
 
 MOST_BYTES, MOST_LEVELS = 16777216, 127
-MOST_NODES, MOST_DEPTH, MOST_TEXT, MOST_TEXTS = 16384, 128, 65536, 1048576
+MOST_DEPTH, MOST_TEXT, MOST_TEXTS = 128, 65536, 1048576
 MOST_EDITORS, MOST_COMMANDS, MOST_READS, MOST_PAIRS = 16, 8192, 256, 65536
 MOST_ID, MOST_SIDE, MOST_SPAN, MOST_MEASURE, MOST_CODE_POINT = 2 ** 32 - 1, 1000000, 64, 10000, 1114111
 MEASURES = ('default', 'ascent', 'descent', 'xheight', 'normal')
@@ -200,12 +201,23 @@ class Tree:
         self.bytes_of_texts += length
 
 
-def read_command(command, place):
-    """What a command does."""
+def read_batch(command, place):
+    edits = of_type(list, needed(command, 'edits', place), 'edits', place)
+    require(edits, 'I3', 'edits', place)
+    if len(edits) > MOST_EDITS:
+        raise Refused(place.replace('command', 'I10'))
+    for edit in edits:
+        read_command(edit, place, EDITS)
+
+
+def read_command(command, place, actions=COMMANDS_WITH_EDITS + READS):
+    """What a command does, which may do these things."""
     of_type(dict, command, 'do', place)
     action = needed_text(command, 'do', place)
-    require(action in ('set', 'clear', 'text', 'insert', 'remove') + READS, 'I4', 'do', place)
-    if action == 'insert':
+    require(action in actions, 'I4', 'do', place)
+    if action == 'batch':
+        read_batch(command, place)
+    elif action == 'insert':
         needed_number(command, 0, MOST_ID, 'index', place)
         node_form(command, place)
     elif action not in READS:

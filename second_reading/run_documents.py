@@ -3,11 +3,13 @@
 
 usage: run_documents.py COUNT SEED      prints the documents 0 .. COUNT - 1 of a seed, one a line
 
-Several editors change the same few nodes, so that whether an edit has a fault depends on the order of the history.
+Several editors change the same few nodes, so that whether an edit has a fault depends on the order of the history. With
+`LAY_BATCHES=1` in the environment some commands are batches.
 """
 import random
 
 from atomic_documents import atomic_document
+from batches import READS_BATCHES, edits_of, refusal
 from documents import document, print_documents
 from edits import Document
 from positioned_documents import positioned_document
@@ -18,6 +20,9 @@ from text_documents import text_document
 DRAWS = (document, text_document, atomic_document, table_document, table_document, positioned_document)
 EDITORS = [0, 1, 1, 2, 2, 3, 4, 16]
 COMMANDS = [0, 1, 2, 3, 4, 5, 6, 8]
+EDITS = ['set'] * 6 + ['clear'] * 2 + ['text'] * 2 + ['insert'] * 3 + ['remove'] * 2
+BATCHES = ['batch'] * 6 if READS_BATCHES else []
+EDITS_OF_A_BATCH = [1, 2, 2, 3, 3, 4, 6, 12]
 BAD_DECLARATIONS = [('colour', 'red'), ('Width', '1px'), ('width', '10'), ('width', '-1px'), ('display', 'flex'),
                     ('margin-top', '1 px'), ('line-height', '-1'), ('float', ''), ('', ''), ('font-size', '1.px')]
 GOOD_DECLARATIONS = [('z-index', '-3'), ('visibility', 'hidden'), ('border-spacing', '1px 2px'), ('width', ' AUTO\n'),
@@ -46,8 +51,7 @@ class RunDocument:
         return dict(self.base, editors=editors)
 
     def command(self):
-        kinds = ['set'] * 6 + ['clear'] * 2 + ['text'] * 2 + ['insert'] * 3 + ['remove'] * 2 + ['latest', 'sync'] * 2
-        return getattr(self, self.choice(kinds))()
+        return getattr(self, self.choice(EDITS + ['latest', 'sync'] * 2 + BATCHES))()
 
     def node(self, kind=None):
         """The id of a node, of this kind where there is one; now and then of none."""
@@ -89,6 +93,20 @@ class RunDocument:
 
     def remove(self):
         return {'do': 'remove', 'node': self.node() if self.hit(90) else 1}
+
+    def batch(self):
+        edits = []
+        for _ in range(self.choice(EDITS_OF_A_BATCH)):
+            edits.append(getattr(self, self.choice(EDITS))())
+            if edits[-1]['do'] in ('insert', 'remove') and self.hit(40):
+                edits.append(self.follow(edits[-1]))
+        return {'do': 'batch', 'edits': edits}
+
+    def follow(self, edit):
+        """An insertion below the node that was put in, or with the id of the one that was taken out."""
+        if edit['do'] == 'insert':
+            return dict(self.insert(), parent=edit['id'], index=0)
+        return dict(self.insert(), id=edit['node'])
 
     def latest(self):
         return {'do': 'latest'}
@@ -147,11 +165,10 @@ def possible_report(run, rng):
                 lines.append('publish %d' % published)
             lines += ['%s %d %d %d' % (kind, editor + 1, index, published)] + tree
             continue
-        fault = current.fault(command)
-        if not fault:
-            current.apply(command)
-            accepted += 1
-        verdict = 'refused %s' % fault if fault else 'accepted %d' % accepted
+        edits = edits_of(command)
+        fault = current.take(edits)
+        accepted += not fault
+        verdict = refusal(edits, *fault) if fault else 'accepted %d' % accepted
         lines.append('edit %d %d %s' % (editor + 1, index, verdict))
     if published != accepted:
         tree = tree_of(current)

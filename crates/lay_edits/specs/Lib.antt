@@ -1,0 +1,3 @@
+pub mod EditLists
+pub mod Answers
+pub mod Laws
