@@ -1,2 +1,3 @@
 pub mod OneStyledReading
+pub mod OneStyledCheck
 pub mod Naming

@@ -11,7 +11,7 @@ use Rattle.lay_json.specs.declared.fault.InputFault.TheVariants.{TooLong}
 use Rattle.lay_json.specs.declared.sheet_in.SheetIn.{SheetIn}
 use Rattle.lay_json.proofs.OneInput.{one_in, input_too_long}
 use Rattle.lay_input.specs.NamesByPlace.{names_by_place}
-use Rattle.lay_input.specs.StyledReading.{IsStyledRun, IsStyledBy, IsStyledReading, too_many, by_sheet, refused, plain, with_sheet}
+use Rattle.lay_input.specs.StyledReading.{IsStyledRun, IsStyledBy, IsStyledInput, too_many, by_sheet, plain, with_sheet, IsStyledReading, read, refused}
 use Rattle.lay_input.specs.Laws.{OneStyledReading}
 
 abbrev Said : Type 0
@@ -56,27 +56,22 @@ one_by run text names a b (by_sheet r new s m w p) (by_sheet t other u n v q) =
     let e = one_sheet_lem text r t s u in
     p ∙ ap Ok (one_run run t names new other (subst (λ z. IsStyledRun run z names new) e w) v) ∙ sym q
 
+pub one_styled_input : (run : Run) (sheet : SheetIn) (a b : Result Run InputFault) → IsStyledInput run sheet a → IsStyledInput run sheet b → a ≡ b
+one_styled_input run sheet a b (plain n p) (plain m q) = p ∙ sym q
+one_styled_input run sheet a b (plain n p) (with_sheet text s q) = absurd (none_text text (sym n ∙ s))
+one_styled_input run sheet a b (with_sheet text s p) (plain m q) = absurd (none_text text (sym m ∙ s))
+one_styled_input run sheet a b (with_sheet text s p) (with_sheet words t q) =
+    one_by run words sheet.names a b (subst (λ z. IsStyledBy run z sheet.names a) (some_text text words (sym s ∙ t)) p) q
+
 pub one_styled_reading_lem : OneStyledReading
 one_styled_reading_lem bytes a b (refused e x p) (refused f y q) = p ∙ ap Err (same_fault e f (one_in bytes (refusing e) (refusing f) x y)) ∙ sym q
-one_styled_reading_lem bytes a b (refused e x p) (plain run sheet y n q) = absurd (no_both run sheet e (one_in bytes (saying run sheet) (refusing e) y x))
-one_styled_reading_lem bytes a b (refused e x p) (with_sheet run sheet text y s q) = absurd (no_both run sheet e (one_in bytes (saying run sheet) (refusing e) y x))
-one_styled_reading_lem bytes a b (plain run sheet x n p) (refused f y q) = absurd (no_both run sheet f (one_in bytes (saying run sheet) (refusing f) x y))
-one_styled_reading_lem bytes a b (plain run sheet x n p) (plain other more y m q) = p ∙ ap Ok (same_run run other sheet more (one_in bytes (saying run sheet) (saying other more) x y)) ∙ sym q
-one_styled_reading_lem bytes a b (plain run sheet x n p) (with_sheet other more text y s q) =
-    let e = same_sheet run other sheet more (one_in bytes (saying run sheet) (saying other more) x y) in
-    absurd (none_text text (sym n ∙ ap (λ (z : SheetIn). z.sheet) e ∙ s))
-one_styled_reading_lem bytes a b (with_sheet run sheet text x s p) (refused f y q) = absurd (no_both run sheet f (one_in bytes (saying run sheet) (refusing f) x y))
-one_styled_reading_lem bytes a b (with_sheet run sheet text x s p) (plain other more y m q) =
-    let e = same_sheet run other sheet more (one_in bytes (saying run sheet) (saying other more) x y) in
-    absurd (none_text text (sym m ∙ ap (λ (z : SheetIn). z.sheet) (sym e) ∙ s))
-one_styled_reading_lem bytes a b (with_sheet run sheet text x s p) (with_sheet other more words y t q) =
+one_styled_reading_lem bytes a b (refused e x p) (read run sheet y s) = absurd (no_both run sheet e (one_in bytes (saying run sheet) (refusing e) y x))
+one_styled_reading_lem bytes a b (read run sheet x s) (refused f y q) = absurd (no_both run sheet f (one_in bytes (saying run sheet) (refusing f) x y))
+one_styled_reading_lem bytes a b (read run sheet x s) (read other more y t) =
     let both = one_in bytes (saying run sheet) (saying other more) x y in
     let e = same_run run other sheet more both in
     let f = same_sheet run other sheet more both in
-    let g = some_text text words (sym s ∙ ap (λ (z : SheetIn). z.sheet) f ∙ t) in
-    one_by other words more.names a b
-    (subst (λ z. IsStyledBy other words z a) (ap (λ (z : SheetIn). z.names) f)
-    (subst (λ z. IsStyledBy other z sheet.names a) g (subst (λ z. IsStyledBy z text sheet.names a) e p))) q
+    one_styled_input other more a b (subst (λ z. IsStyledInput other z a) f (subst (λ z. IsStyledInput z sheet a) e s)) t
 
 pub styled_too_long : (bytes : List ℕ) → 16777216 < length bytes → IsStyledReading bytes (Err TooLong)
 styled_too_long bytes more = refused TooLong (input_too_long bytes more) refl

@@ -1,3 +1,4 @@
 pub mod NamesByPlace
 pub mod StyledReading
+pub mod StyledChecks
 pub mod Laws

@@ -25,9 +25,12 @@ pub data IsStyledBy (run : Run) (text : List ℕ) (names : List Names) (outcome 
   by_sheet : (rules : List RuleValue) (new : Run) → IsSheet text rules → selector_count rules ≤ 4096 → IsStyledRun run rules names new → outcome ≡ Ok new →
       IsStyledBy run text names outcome
 
+-- a run, styled by its sheet where it has one, or that the sheet has too many selectors
+pub data IsStyledInput (run : Run) (sheet : SheetIn) (outcome : Result Run InputFault) : Type 0 where
+  plain : sheet.sheet ≡ None → outcome ≡ Ok run → IsStyledInput run sheet outcome
+  with_sheet : (text : List ℕ) → sheet.sheet ≡ Some text → IsStyledBy run text sheet.names outcome → IsStyledInput run sheet outcome
+
 -- the bytes say this run, or have this first fault
 pub data IsStyledReading (bytes : List ℕ) (outcome : Result Run InputFault) : Type 0 where
   refused : (fault : InputFault) → IsInput bytes (Err fault) → outcome ≡ Err fault → IsStyledReading bytes outcome
-  plain : (run : Run) (sheet : SheetIn) → IsInput bytes (Ok (run, sheet)) → sheet.sheet ≡ None → outcome ≡ Ok run → IsStyledReading bytes outcome
-  with_sheet : (run : Run) (sheet : SheetIn) (text : List ℕ) → IsInput bytes (Ok (run, sheet)) → sheet.sheet ≡ Some text → IsStyledBy run text sheet.names outcome →
-      IsStyledReading bytes outcome
+  read : (run : Run) (sheet : SheetIn) → IsInput bytes (Ok (run, sheet)) → IsStyledInput run sheet outcome → IsStyledReading bytes outcome

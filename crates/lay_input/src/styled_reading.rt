@@ -1,8 +1,7 @@
 //! The run that bytes say, styled by their sheet.
 
-ghost use Rattle.std.specs.Prelude.{◌≢◌, ℕ, List, Ok, Err, IfOk};
-ghost use Rattle.lay_json.specs.Reading.{IsInput};
-ghost use Rattle.lay_input.specs.StyledReading.{IsStyledRun, IsStyledBy, IsStyledReading};
+ghost use Rattle.std.specs.Prelude.{◌≢◌, Err, IfOk};
+ghost use Rattle.lay_input.specs.StyledReading.{IsStyledRun, IsStyledBy, IsStyledInput, IsStyledReading};
 
 use crate::by_place::by_place;
 use lay_json::{InputFault, SheetIn, read_input};
@@ -50,8 +49,8 @@ fn styled_by(
 }
 
 /// The run, styled by its sheet where it has one.
-fn styled_input(alloc: Global, run: RunDoc, input: SheetIn) -> Result<RunDoc, InputFault>
-    ensures { result ≢ Err InputFault.NoMemory → (bytes : List ℕ) → IsInput bytes (Ok (run, input)) → IsStyledReading bytes result }
+pub(crate) fn styled_input(alloc: Global, run: RunDoc, input: SheetIn) -> Result<RunDoc, InputFault>
+    ensures { result ≢ Err InputFault.NoMemory → IsStyledInput run input result }
 {
     let SheetIn { sheet, names } = input;
     match sheet {

@@ -6,7 +6,7 @@ use Rattle.std.specs.Prelude.{ℕ, suc, ◌≡◌, ◌≢◌, ◌&&◌, List, Bo
 use Rattle.serde_json.specs.Data.{Data, Items, no_items, item, Members}
 use Rattle.serde_json.specs.Find.{get, at, as_number, as_u64, as_str, as_array, as_object}
 use Rattle.lay_json.specs.declared.fault.Field.{Field}
-use Rattle.lay_json.specs.declared.fault.Field.TheVariants.{Run, Viewport, Face, Advance, Default, Ascent, Descent, XHeight, Normal, Nodes, Editors, Id, Parent, Kind, Style, Colspan, Rowspan, Text, Natural, Do, Node, Property, Value, Index, Sheet, Tag, Label, Classes}
+use Rattle.lay_json.specs.declared.fault.Field.TheVariants.{Run, Viewport, Face, Advance, Default, Ascent, Descent, XHeight, Normal, Nodes, Editors, Id, Parent, Kind, Style, Colspan, Rowspan, Text, Natural, Do, Node, Property, Value, Index, Sheet, Tag, Label, Classes, Check, Report}
 use Rattle.lay_json.specs.declared.fault.Spot.{Spot}
 use Rattle.lay_json.specs.declared.fault.InputFault.{InputFault}
 use Rattle.lay_json.specs.declared.fault.InputFault.TheVariants.{Missing, WrongKind, BadNumber, NoMemory}
@@ -41,6 +41,8 @@ name_of Sheet = codes "sheet"
 name_of Tag = codes "tag"
 name_of Label = codes "label"
 name_of Classes = codes "classes"
+name_of Check = codes "check"
+name_of Report = codes "report"
 
 -- what the next part of a document gives, or the fault of the part before it
 abbrev pub then_read : {A B E : Type 0} → Result A E → (A → Result B E) → Result B E

@@ -8,7 +8,8 @@ use Rattle.lay_json.specs.declared.fault.InputFault.{InputFault}
 use Rattle.lay_json.specs.Nodes.{root_of, put_node}
 use Rattle.lay_run.specs.Runs.{Run}
 use Rattle.lay_json.specs.declared.sheet_in.SheetIn.{SheetIn}
-use Rattle.lay_json.specs.Reading.{IsReading, AreNames, IsInput}
+use Rattle.lay_json.specs.declared.check_in.CheckIn.{CheckIn}
+use Rattle.lay_json.specs.Reading.{IsReading, AreNames, IsInput, IsCheck, HoldsBoth}
 
 -- bytes have one reading
 abbrev pub OneReading : Type 0
@@ -25,3 +26,14 @@ abbrev pub OneInput : Type 0
 OneInput =
     ((bytes : List ℕ) (a b : Result SheetIn InputFault) → AreNames bytes a → AreNames bytes b → a ≡ b)
     × ((bytes : List ℕ) (a b : Result (Run × SheetIn) InputFault) → IsInput bytes a → IsInput bytes b → a ≡ b)
+
+-- bytes say one check
+abbrev pub OneCheck : Type 0
+OneCheck = (bytes : List ℕ) (a b : Result CheckIn InputFault) → IsCheck bytes a → IsCheck bytes b → a ≡ b
+
+-- A run document reads the same by itself and beside a report: the object of both says the run and the sheet that the run
+-- document says, with the report.
+abbrev pub RunsReadBesideReports : Type 0
+RunsReadBesideReports =
+    (bytes report both : List ℕ) (run : Run) (sheet : SheetIn) → HoldsBoth bytes report both → IsInput bytes (Ok (run, sheet))
+    → IsCheck both (Ok (record { run = run; sheet = sheet; report = report }))

@@ -7,5 +7,6 @@ pub mod Editors
 pub mod Listing
 pub mod RunDocument
 pub mod SheetNames
+pub mod CheckDocuments
 pub mod Reading
 pub mod Laws

@@ -1,14 +1,17 @@
 -- What bytes say: more than 16,777,216 are too long (I1); else they are a JSON text (RFC 8259) of a value
 -- nested at most 127 deep, or not (I2); and the value is a run document, or has a first fault.
-use Rattle.std.specs.Prelude.{ℕ, ◌≡◌, ◌<◌, ◌≤◌, List, length, Some, None, Result, Ok, Err, IsUtf8}
-use Rattle.serde_json.specs.Data.{Data}
+use Rattle.std.specs.Prelude.{ℕ, ◌≡◌, ◌<◌, ◌≤◌, List, codes, length, Some, None, Result, Ok, Err, IsUtf8}
+use Rattle.serde_json.specs.Data.{Data, string}
+use Rattle.serde_json.specs.Find.{get}
 use Rattle.serde_json.specs.Read.{read}
 use Rattle.lay_json.specs.declared.fault.InputFault.{InputFault}
 use Rattle.lay_json.specs.declared.fault.InputFault.TheVariants.{TooLong, BadJson}
 use Rattle.lay_json.specs.declared.sheet_in.SheetIn.{SheetIn}
+use Rattle.lay_json.specs.declared.check_in.CheckIn.{CheckIn}
 use Rattle.lay_json.specs.Fields.{map_read}
 use Rattle.lay_json.specs.RunDocument.{run_of}
 use Rattle.lay_json.specs.SheetNames.{sheet_of}
+use Rattle.lay_json.specs.CheckDocuments.{check_of}
 use Rattle.lay_run.specs.Runs.{Run}
 
 -- the bytes are a JSON text of this value, nested at most 127 deep
@@ -36,3 +39,19 @@ pub data IsInput (bytes : List ℕ) (outcome : Result (Run × SheetIn) InputFaul
   no_run : (fault : InputFault) → IsReading bytes (Err fault) → outcome ≡ Err fault → IsInput bytes outcome
   with_run : (run : Run) (names : Result SheetIn InputFault) → IsReading bytes (Ok run) → AreNames bytes names →
       outcome ≡ map_read (λ sheet. (run, sheet)) names → IsInput bytes outcome
+
+-- the bytes are of an object that holds the run document which other bytes are of, and this report
+pub record HoldsBoth (bytes report both : List ℕ) : Type 0 where
+  pub document : Data
+  pub check : Data
+  pub is_document : IsJson bytes document
+  pub is_check : IsJson both check
+  pub few : length both ≤ 16777216
+  pub run_at : get (codes "run") check ≡ Some document
+  pub report_at : get (codes "report") check ≡ Some (string report)
+
+-- the bytes say this check, or have this first fault
+pub data IsCheck (bytes : List ℕ) (outcome : Result CheckIn InputFault) : Type 0 where
+  check_too_long : 16777216 < length bytes → outcome ≡ Err TooLong → IsCheck bytes outcome
+  check_bad_json : length bytes ≤ 16777216 → IsNoJson bytes → outcome ≡ Err BadJson → IsCheck bytes outcome
+  check_json : (value : Data) → length bytes ≤ 16777216 → IsJson bytes value → outcome ≡ check_of value → IsCheck bytes outcome

@@ -6,7 +6,8 @@ ghost use Rattle.lay_json.specs.Fields.{name_of};
 use lay_doc::EditFault;
 use lay_units::NoMemory;
 
-/// A field of a run document, of a face, of a node or of a command. `Run` is the run document itself.
+/// A field of a run document, of a face, of a node, of a command or of a check. `Run` is the run document itself, and `Check`
+/// the whole of what a check is asked of.
 #[derive(Clone, Copy, PartialEq, Eq)]
 pub enum Field {
     Run,
@@ -37,6 +38,8 @@ pub enum Field {
     Tag,
     Label,
     Classes,
+    Check,
+    Report,
 }
 
 impl Field {
@@ -73,6 +76,8 @@ impl Field {
             Field::Tag => "tag",
             Field::Label => "label",
             Field::Classes => "classes",
+            Field::Check => "check",
+            Field::Report => "report",
         }
     }
 }
@@ -80,7 +85,7 @@ impl Field {
 /// Where a field stands.
 #[derive(Clone, Copy, PartialEq, Eq)]
 pub enum Spot {
-    /// In the run document itself, or in its face.
+    /// In the run document itself, in its face, or beside it.
     Run,
     /// In this node of the list `nodes`, counted from 0.
     Node(u32),

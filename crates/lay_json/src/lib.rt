@@ -8,9 +8,12 @@
 //! (`specs/Commands.antt`, `specs/Editors.antt`).
 //!
 //! `read_names` answers the style sheet of a run document and what its nodes are called (`specs/SheetNames.antt`), and
-//! `read_input` the run with both, of one reading of the bytes.
+//! `read_input` the run with both, of one reading of the bytes. `read_check` answers these and a report that stands beside the
+//! run document (`specs/CheckDocuments.antt`).
 #![tactic(auto)]
 
+mod check;
+mod check_in;
 mod command;
 mod editors;
 mod face_fields;
@@ -26,7 +29,8 @@ mod run;
 mod sheet_in;
 mod sheet_names;
 
+pub use check_in::CheckIn;
 pub use fault::{Field, InputFault, Spot};
-pub use laws::{nodes_are_counted, one_input, one_reading};
-pub use reading::{read_input, read_names, read_run};
+pub use laws::{nodes_are_counted, one_check, one_input, one_reading, runs_read_beside_reports};
+pub use reading::{read_check, read_input, read_names, read_run};
 pub use sheet_in::SheetIn;

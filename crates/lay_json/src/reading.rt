@@ -4,8 +4,10 @@ ghost use Rattle.std.specs.Prelude.{◌≡◌, ◌≢◌, Err};
 ghost use Rattle.serde_json.specs.View.{view};
 ghost use Rattle.lay_json.specs.Fields.{Gives};
 ghost use Rattle.lay_json.specs.SheetNames.{input_of};
-ghost use Rattle.lay_json.specs.Reading.{IsReading, AreNames, IsInput};
+ghost use Rattle.lay_json.specs.Reading.{IsReading, AreNames, IsInput, IsCheck};
 
+use crate::check::check_of;
+use crate::check_in::CheckIn;
 use crate::fault::InputFault;
 use crate::run::run_of;
 use crate::sheet_in::SheetIn;
@@ -46,7 +48,7 @@ pub fn read_names(alloc: Global, bytes: &[u8]) -> Result<SheetIn, InputFault>
 }
 
 /// The run with its sheet and names that a value says.
-fn input_of(alloc: Global, value: &Value) -> Result<(RunDoc, SheetIn), InputFault>
+pub(crate) fn input_of(alloc: Global, value: &Value) -> Result<(RunDoc, SheetIn), InputFault>
     ensures { Gives result (input_of (view value.now)) }
 {
     let run = run_of(alloc, value)?;
@@ -63,6 +65,20 @@ pub fn read_input(alloc: Global, bytes: &[u8]) -> Result<(RunDoc, SheetIn), Inpu
     }
     match Value::from_slice(alloc, bytes) {
         Ok(value) => input_of(alloc, &value),
+        Err(fault) if fault.classify() == Category::Memory => Err(InputFault::NoMemory),
+        Err(_) => Err(InputFault::BadJson),
+    }
+}
+
+/// The run, sheet and report that the bytes of a check say, or their first fault.
+pub fn read_check(alloc: Global, bytes: &[u8]) -> Result<CheckIn, InputFault>
+    ensures { result ≢ Err InputFault.NoMemory → IsCheck bytes.now result }
+{
+    if bytes.len() > MOST_BYTES {
+        return Err(InputFault::TooLong);
+    }
+    match Value::from_slice(alloc, bytes) {
+        Ok(value) => check_of(alloc, &value),
         Err(fault) if fault.classify() == Category::Memory => Err(InputFault::NoMemory),
         Err(_) => Err(InputFault::BadJson),
     }

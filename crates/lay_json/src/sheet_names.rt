@@ -15,7 +15,7 @@ use serde_json::Value;
 use std::alloc::Global;
 
 /// An equal text.
-fn copied(alloc: Global, text: &str) -> Result<Text, NoMemory>
+pub(crate) fn copied(alloc: Global, text: &str) -> Result<Text, NoMemory>
     ensures { IfOk result (λ t. t ≡ text.now) }
 {
     Ok(Text::new(String::from_str(alloc, text)?))

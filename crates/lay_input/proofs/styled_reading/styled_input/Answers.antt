@@ -3,7 +3,7 @@ use Rattle.lay_input.specs.StyledReading.{plain, with_sheet}
 use Rattle.lay_input.proofs.styled_reading.styled_input.Goals as goal
 
 pub returns-in-Some : goal.returns-in-Some
-returns-in-Some c = λ named bytes is. with_sheet c.args.run c.args.input c.in-Some.text is c.in-Some.is (c.styled_by.ensures named)
+returns-in-Some c = λ named. with_sheet c.in-Some.text c.in-Some.is (c.styled_by.ensures named)
 
 pub returns-in-None : goal.returns-in-None
-returns-in-None c = λ named bytes is. plain c.args.run c.args.input is c.in-None.is refl
+returns-in-None c = λ named. plain c.in-None.is refl
