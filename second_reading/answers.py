@@ -5,7 +5,7 @@
 import re
 
 from generator import summary
-from refusals import first_fault
+from refusals import first_fault, read_check, read_run
 
 DIGITS = re.compile('[0-9]{1,10}')
 NATURAL = '(?:0|[1-9][0-9]*)'
@@ -16,10 +16,11 @@ ENTRY = re.compile('edit ([1-9][0-9]*) (%s) (?:accepted [1-9][0-9]*|refused E(?:
                    '|(?:latest|sync) ([1-9][0-9]*) (%s) %s' % (NATURAL, NATURAL, NATURAL, NATURAL))
 PUBLISH = re.compile('publish (%s)' % NATURAL)
 HIT = re.compile('hit (?:none|(?:box|text) [1-9][0-9]* %s)\n' % NATURAL)
+VERDICT = re.compile('yes\n|no ([1-9][0-9]*)\n')
 OPTIONS = {'run': {'--workers': (1, 16, False)},
            'gen': {'--size': (1, 1000, True), '--seed': (0, 2147483647, True), '--workers': (1, 16, False)},
            'hit': {'--x': (0, 1000000, True), '--y': (0, 1000000, True)},
-           'scratch': {}}
+           'check': {}, 'scratch': {}}
 LAID_OUT, REFUSED, USAGE, NOT_READ, NOT_WRITTEN, NO_MEMORY = range(6)
 
 
@@ -89,12 +90,23 @@ def history_fault(text, counts):
     return None
 
 
+def verdict_fault(report, text):
+    """What is wrong with an answer of `check`: the first bad line is one of the report or its end (`compare_checks` says more)."""
+    found = VERDICT.fullmatch(text)
+    if not found:
+        return 'no answer of check'
+    lines = report.count('\n') + (report != '' and not report.endswith('\n'))
+    return None if not found.group(1) or int(found.group(1)) <= lines + 1 else 'a bad line behind the end'
+
+
 def laid_out_fault(form, given, run, text):
     """What is wrong with an answer of status 0."""
     if form == 'gen':
         return None if given['--size'] > 3 or text == summary(given['--size'], given['--seed']) else 'another summary'
     if form == 'hit':
         return None if HIT.fullmatch(text) else 'no answer of hit'
+    if form == 'check':
+        return verdict_fault(run['report'], text)
     if form == 'run':
         return history_fault(text, [len(commands) for commands in run.get('editors', [])])
     return report_fault(text, {node['id'] for node in run['nodes']})
@@ -105,7 +117,7 @@ def fault_of(words, data, run_of, status, out):
     form = options_of(words)
     if form is None:
         return None if (status, out) == (USAGE, b'usage\n') else 'the words are wrong, and the answer is no usage'
-    refusal = first_fault(data) if form[0] != 'gen' else None
+    refusal = first_fault(data, read_check if form[0] == 'check' else read_run) if form[0] != 'gen' else None
     if status == NO_MEMORY:
         return None
     if refusal:

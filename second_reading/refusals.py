@@ -1,6 +1,6 @@
-"""The first fault of a run document, from its bytes: the line `refused ..`, or None (docs/INPUT.md, docs/REPORT.md).
+"""The first fault of a run document, or of one beside a report, from its bytes: the line `refused ..`, or None (docs/INPUT.md, docs/REPORT.md).
 
-usage: refusals.py < DOCUMENT
+usage: refusals.py [--check] < DOCUMENT
 """
 import json
 import re
@@ -257,11 +257,15 @@ def read_names(run):
             text_where_given(fields, 'label', place)
             classes = of_type(list, fields.get('classes', []), 'classes', place)
             require(all(isinstance(name, str) for name in classes), 'I4', 'classes', place)
-    if selector_count(run['sheet']) > MOST_SELECTORS:
+
+
+def judge_selectors(run):
+    """The last fault of all."""
+    if 'sheet' in run and selector_count(run['sheet']) > MOST_SELECTORS:
         raise Refused('I11')
 
 
-def read_run(run):
+def read_fields(run):
     of_type(dict, run, 'run', 'run')
     needed_sides(run, 'viewport', 'run')
     if 'face' in run:
@@ -276,23 +280,37 @@ def read_run(run):
     read_names(run)
 
 
-def first_fault(data):
-    """The line that refuses these bytes, or None."""
+def read_run(run):
+    read_fields(run)
+    judge_selectors(run)
+
+
+def read_check(check):
+    of_type(dict, check, 'check', 'run')
+    run = needed(check, 'run', 'run')
+    read_fields(run)
+    of_type(str, needed(check, 'report', 'run'), 'report', 'run')
+    judge_selectors(run)
+
+
+def first_fault(data, read=read_run):
+    """The line that refuses these bytes, or None; `read_check` reads those of a check."""
     try:
         if len(data) > MOST_BYTES:
             raise Refused('I1')
         try:
-            run = json_of(data)
+            value = json_of(data)
         except ValueError:
             raise Refused('I2') from None
-        read_run(run)
+        read(value)
     except Refused as refused:
         return 'refused %s\n' % refused
     return None
 
 
 def main():
-    sys.stdout.write(first_fault(sys.stdin.buffer.read()) or 'nothing found\n')
+    read = read_check if sys.argv[1:] == ['--check'] else read_run
+    sys.stdout.write(first_fault(sys.stdin.buffer.read(), read) or 'nothing found\n')
 
 
 if __name__ == '__main__':

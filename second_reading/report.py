@@ -83,8 +83,8 @@ How open places of the standard are read
 - 17.3 and 17.5: a column that spans several stands for as many columns of its kind, also where borders collapse. The
   first row is that which comes to stand first.
 - 17.4: the wrapper has margins, float, position and offsets, and the table box all else, `clear`, `overflow` and
-  `vertical-align` among it; so these have no effect. A caption doesn't make a table wider. Percentages of the table box
-  are of the wrapper's containing block; those of cells, of the table box.
+  `vertical-align` among it; so these have no effect. A caption makes no table of the fixed layout wider. Percentages of
+  the table box are of the wrapper's containing block; those of cells, of the table box.
 - 17.5.2: a table has the fixed layout where it is `fixed` and its width isn't `auto`, but may be in percent; so an
   anonymous table never has. Without `AUTOMATIC_TABLES` each table has it.
 - 17.5.2.1: percentages of columns and of cells of the first row, of paddings of these too, are of the width that the
@@ -121,8 +121,8 @@ from offsets import offset_of_inlines
 from page import Page, Rect
 
 MOST_FRAMES = 10000
-# Whether tables have the automatic layout unless they are fixed and have a width. The program has the fixed one for all.
-AUTOMATIC_TABLES = False
+# Whether tables have the automatic layout unless they are fixed and have a width. Without it all have the fixed one.
+AUTOMATIC_TABLES = True
 
 
 def pieces(box):

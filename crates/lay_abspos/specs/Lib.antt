@@ -11,6 +11,5 @@ pub mod OneProof
 pub mod OwnOffsets
 pub mod PlaceLaws
 pub mod SettingLaws
-pub mod ShrinkingRooms
 pub mod StandInputs
 pub mod ViewportBounds

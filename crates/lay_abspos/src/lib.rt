@@ -1,8 +1,7 @@
 //! Absolutely positioned boxes beside what each is given from outside (CSS 2.2, 10.3.7, 10.3.8, 10.4, 10.6.4 and 10.7).
 //!
 //! - `IsUsedAxis` of `specs/AbsoluteAxis.antt` is the equation of offsets, margins and size along one axis, a relation for both
-//!   axes, which has one value for each box (`specs/Laws.antt`). A table shrinks to fit into `shrinking_room` of
-//!   `specs/ShrinkingRooms.antt`.
+//!   axes, which has one value for each box (`specs/Laws.antt`).
 //! - `AbsoluteSetting` is what a box is given: its containing block and its static position. Beside it stand its used sizes
 //!   (`IsAbsoluteSized` of `specs/AbsoluteSizes.antt`, of a table `specs/AbsoluteTables.antt`) and its offset (`IsOffset` of
 //!   `specs/Offsets.antt`).
@@ -20,7 +19,6 @@ mod offsets;
 mod own_offsets;
 mod own_place;
 mod place_laws;
-mod room;
 mod root_box;
 mod setting;
 mod setting_laws;
@@ -36,9 +34,8 @@ pub use offsets::absolute_offset;
 pub use own_offsets::own_offset;
 pub use own_place::OwnPlace;
 pub use place_laws::one_own_place;
-pub use room::shrinking_room;
 pub use setting::{AbsoluteSetting, block_in};
 pub use setting_laws::{one_absolute_sizes, one_offset, one_stretched_height, one_table_left};
 pub use sizes::{AbsoluteSizes, absolute_sizes, stretched_height};
 pub use stand_input::StandInput;
-pub use tables::{table_left, table_room};
+pub use tables::table_left;

@@ -17,7 +17,7 @@ const TURNS_AT_ONCE: u32 = 131_072;
 /// Has the editors of a run take turns: the first command of each, in rising order of editors, then the second ones, and so on. The first
 /// claim of all is begun before the first call, and its layout is held until the last call has ended. So nothing is cleaned beside the
 /// editors but what they lay out themselves, and whatever runs first, the report is the same. Where nothing is to be laid out before the
-/// first edit no claim is waited for, and none is held.
+/// first edit no claim is waited for, and none is held. It holds one worker, so a run under it has one (`--workers 1`).
 #[derive(Drop)]
 pub(crate) struct TurnGate {
     /// How many commands each editor has.

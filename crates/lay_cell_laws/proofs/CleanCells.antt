@@ -3,7 +3,7 @@ use Rattle.std.proofs.Common.{◌≡◌, ◌<◌, ◌+◌, ◌-◌, ◌==◌, �
 use Rattle.std.proofs.lemmas.List.FromFn.{get_or-map-range_with_len, length-map-range_with_len}
 use Rattle.std.proofs.lemmas.Option.{slice_get-get_or}
 use Rattle.lay_layout.proofs.lay_boxgen.NodeColumns.{length-parents}
-use Rattle.lay_layout.specs.measure.MeasureInValue.{no_widths}
+use Rattle.lay_layout.specs.context_sizes.MeasuredContexts.{not_measured}
 use Rattle.lay_layout.specs.cells.Shapes.{IsIn}
 use Rattle.lay_layout.specs.cells.Reads.{AllClean}
 use Rattle.lay_layout.specs.cells.Rows.{Solved}
@@ -30,7 +30,7 @@ use Rattle.lay_layout.specs.context.Workings.{Workings}
 use Rattle.lay_cell_work.specs.CellInputs.{CellInput, RootInput}
 use Rattle.lay_cell_work.specs.shape.declared.cell_key.CellKey.{CellKey}
 use Rattle.lay_cell_work.specs.CellLocal.{IsCellLocal, whole_input}
-use Rattle.lay_cell_work.specs.CellValues.{CellValue, Places, Sizes, Widths, own_places, own_sizes, own_widths, phase_of, root_value}
+use Rattle.lay_cell_work.specs.CellValues.{CellValue, Places, Sizes, Widths, own_measured, own_places, own_sizes, phase_of, root_value}
 use Rattle.lay_cell_work.specs.KeptValues.{is_key, is_phase, kept_value, kept_workings, value_or_none, value_under, workings_of}
 use Rattle.lay_cell_work.specs.PresentInputs.{key_of, present_input, root_count, root_input}
 use Rattle.lay_cell_laws.specs.SoundCells.{AreCellsOf, CellRow, CellState, CleanCellsSolve, input_now}
@@ -39,7 +39,7 @@ use Rattle.lay_cell_laws.proofs.RootsOfContexts.{AreCalm, IsOf, own_number}
 use Rattle.lay_cell_laws.proofs.WholeInputs.{placed_at, sizes_at, whole_is, widths_at}
 
 -- the part of a root
-measure_part : (v : CellValue) (r : ℕ) → phase_of v ≡ phase.Measure → root_value v r ≡ value.Measure (widths_in (own_widths v) r)
+measure_part : (v : CellValue) (r : ℕ) → phase_of v ≡ phase.Measure → root_value v r ≡ value.Measure (widths_in (own_measured v) r)
 measure_part (Widths ws) r e = refl
 measure_part (Sizes zs) r e = absurd cc
 measure_part (Places ps) r e = absurd cc
@@ -93,7 +93,7 @@ module _ (medium : Medium) (contexts : List Context) (all : List FormattingConte
 
   pub has_counts : HasCounts all W
   has_counts = record {
-    widths = counted no_widths contexts (λ c. own_widths (kept c phase.Measure)) (length contexts) ∙ sym of.count;
+    widths = counted not_measured contexts (λ c. own_measured (kept c phase.Measure)) (length contexts) ∙ sym of.count;
     sizes = counted not_sized contexts (λ c. own_sizes (kept c phase.Size)) (length contexts) ∙ sym of.count;
     places = counted not_placed contexts (λ c. own_places (kept c phase.Place)) (length contexts) ∙ sym of.count;
   }

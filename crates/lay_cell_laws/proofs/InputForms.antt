@@ -4,6 +4,7 @@ use Rattle.lay_layout.specs.frag.declared.frag.Frag.{Frag}
 use Rattle.lay_layout.specs.box_tree.declared.box_tree.BoxNode.{BoxNode}
 use Rattle.lay_layout.specs.measure.MeasureInValue.{no_widths}
 use Rattle.lay_layout.specs.measure.declared.preferred_widths.PreferredWidths.{PreferredWidths}
+use Rattle.lay_layout.specs.context_sizes.MeasuredContexts.{MeasuredContext}
 use Rattle.lay_layout.specs.sizes.declared.own_boxes.OwnBox.{OwnBox}
 use Rattle.lay_layout.specs.sizes.OwnBoxes.{no_own_box}
 use Rattle.lay_layout.specs.table_sizes.TableSizesValue.{TableSizesValue}
@@ -33,7 +34,7 @@ use Rattle.lay_layout.specs.context.Workings.{Workings}
 use Rattle.lay_cell_work.specs.declared.root_spot.RootSpot.{RootSpot}
 use Rattle.lay_cell_work.specs.CellColumns.{links_of, links_or_none, masked}
 use Rattle.lay_cell_work.specs.CellInputs.{RootInput}
-use Rattle.lay_cell_work.specs.CellValues.{own_places, own_sizes, own_widths}
+use Rattle.lay_cell_work.specs.CellValues.{own_measured, own_places, own_sizes}
 use Rattle.lay_cell_work.specs.PresentInputs.{root_input, root_input_as, spot_in}
 use Rattle.lay_cell_laws.specs.SameContexts.{IsTable, Table, workings_in}
 use Rattle.lay_cell_laws.proofs.RootForms.{boxes_are, given_at, link_at, links_are, masked_are, members, own_anonymous, own_some}
@@ -46,8 +47,8 @@ measured_root true boxes inner links medium = record { given = input.Measure (re
 measured_root false boxes inner links medium = record { given = input.Unmeasured; links = []; around = None }
 
 -- to be sized
-abbrev pub sized_root : List BoxNode → PreferredWidths → Setting → Option RootSpot → RootInput
-sized_root boxes widths setting around = record { given = input.Size (record { boxes = boxes; widths = widths; setting = setting }); links = []; around = around }
+abbrev pub sized_root : List BoxNode → MeasuredContext → Setting → Option RootSpot → RootInput
+sized_root boxes widths setting around = record { given = input.Size (record { boxes = boxes; measured = widths; setting = setting }); links = []; around = around }
 
 -- and to be placed
 abbrev pub placed_root : List BoxNode → SizedContext → List OwnBox → List (List Frag) → List (Option ℕ) → OwnPlace → Medium → RootInput
@@ -69,7 +70,7 @@ pub measured_root_same : (p q : Bool) (m n : List BoxNode) (x y : List Preferred
     → measured_root p m x k medium ≡ measured_root q n y l medium
 measured_root_same p q m n x y k l medium measured boxes inner links = rw (measured, boxes, inner, links) refl
 
-pub sized_root_same : (m n : List BoxNode) (x y : PreferredWidths) (s t : Setting) (k l : Option RootSpot) → m ≡ n → x ≡ y → s ≡ t → k ≡ l → sized_root m x s k ≡ sized_root n y t l
+pub sized_root_same : (m n : List BoxNode) (x y : MeasuredContext) (s t : Setting) (k l : Option RootSpot) → m ≡ n → x ≡ y → s ≡ t → k ≡ l → sized_root m x s k ≡ sized_root n y t l
 sized_root_same m n x y s t k l boxes widths setting around = rw (boxes, widths, setting, around) refl
 
 pub placed_root_same : (m n : List BoxNode) (s t : SizedContext) (x y : List OwnBox) (p q : List (List Frag)) (k l : List (Option ℕ)) (o u : OwnPlace) (medium : Medium) → m ≡ n → s ≡ t → x ≡ y → p ≡ q → k ≡ l → o ≡ u
@@ -78,7 +79,7 @@ placed_root_same m n s t x y p q k l o u medium boxes sizes inner pieces links p
 
 -- what the cell of a context gives the one around
 abbrev pub measure_cell : Table → ℕ → PreferredWidths
-measure_cell t p = widths_in (own_widths (t.kept p phase.Measure)) 0
+measure_cell t p = (widths_in (own_measured (t.kept p phase.Measure)) 0).widths
 
 abbrev pub place_cell : Table → ℕ → OwnBox
 place_cell t p = (placed_in (own_places (t.kept p phase.Place)) 0).placement.own
@@ -118,8 +119,8 @@ module _ (t : Table) (is : IsTable t) where
   gives_widths : (p : ℕ) → 0 < p → p < length t.contexts → inner_widths_in W.widths (first_number t.contexts p) ≡ measure_cell t p
   gives_widths p some lt =
       widths_some W.widths (first_number t.contexts p) (own_some t.contexts All table_are is.are_formatting_contexts table_calm table_keeps p some lt)
-      ∙ widths_at t.contexts t.kept p (first_number t.contexts p) lt (first_is_of p lt)
-      ∙ ap (widths_in (own_widths (t.kept p phase.Measure))) (no_step (first_number t.contexts p))
+      ∙ ap (λ (m : MeasuredContext). m.widths) (widths_at t.contexts t.kept p (first_number t.contexts p) lt (first_is_of p lt)
+      ∙ ap (widths_in (own_measured (t.kept p phase.Measure))) (no_step (first_number t.contexts p)))
 
   gives_box : (p : ℕ) → 0 < p → p < length t.contexts → own_box_in W.places (first_number t.contexts p) ≡ place_cell t p
   gives_box p some lt =
@@ -181,8 +182,8 @@ module _ (t : Table) (is : IsTable t) where
     pub placed_form : placed_in W.places M ≡ placed_in (own_places (t.kept c phase.Place)) (roots_before B r)
     placed_form = placed_at t.contexts t.kept c M lt root_is_of ∙ ap (placed_in (own_places (t.kept c phase.Place))) ordinal
 
-    pub own_widths_form : widths_in W.widths M ≡ widths_in (own_widths (t.kept c phase.Measure)) (roots_before B r)
-    own_widths_form = widths_at t.contexts t.kept c M lt root_is_of ∙ ap (widths_in (own_widths (t.kept c phase.Measure))) ordinal
+    pub own_widths_form : widths_in W.widths M ≡ widths_in (own_measured (t.kept c phase.Measure)) (roots_before B r)
+    own_widths_form = widths_at t.contexts t.kept c M lt root_is_of ∙ ap (widths_in (own_measured (t.kept c phase.Measure))) ordinal
 
     as_measured : (medium : Medium) (b : Bool) → root_input_as (links_of All First M) (spot_in All First M) (measure_as b (measure_input medium All W M))
         ≡ measured_root b (boxes_of All M) (masked no_widths (links_of All First M) (inner_widths All W.widths M)) (links_of All First M) medium

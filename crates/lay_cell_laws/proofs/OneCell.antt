@@ -4,8 +4,7 @@ use Rattle.std.proofs.Common.{◌≡◌, ◌<◌, ◌≤◌, ◌+◌, ℕ, zero,
 use Rattle.std.proofs.lemmas.Bool.{cases_lt}
 use Rattle.std.proofs.lemmas.Option.{slice_get-get_or}
 use Rattle.lay_layout.proofs.lay_doc.OneStyles.{same_list}
-use Rattle.lay_layout.specs.measure.MeasureInValue.{no_widths}
-use Rattle.lay_layout.specs.measure.declared.preferred_widths.PreferredWidths.{PreferredWidths}
+use Rattle.lay_layout.specs.context_sizes.MeasuredContexts.{MeasuredContext, not_measured}
 use Rattle.lay_layout.specs.context_sizes.ContextSizes.{SizedContext, not_sized}
 use Rattle.lay_layout.specs.context.declared.input.Input.{Input}
 use Rattle.lay_layout.specs.context.declared.input.Input.TheVariants as input
@@ -39,13 +38,13 @@ module _ (one : OneLocal) (i : CellInput) (leads : LeadsInward i) where
       let e : whole_input i.roots v x ≡ whole_input i.roots w x = same_whole i.roots v w x.links x.around x.given (same x there) in
       one (whole_input i.roots v x) (root_value v r) (root_value w r) (a.each r x there) (subst (λ (g : Input). IsLocal g (root_value w r)) (sym e) (b.each r x there))
 
-  module _ (ws us : List PreferredWidths) (a : IsCellLocal i (Widths ws)) (b : IsCellLocal i (Widths us)) where
+  module _ (ws us : List MeasuredContext) (a : IsCellLocal i (Widths ws)) (b : IsCellLocal i (Widths us)) where
     widths_same : (d r : ℕ) → length i.roots ≤ r + d → widths_in ws r ≡ widths_in us r
-    widths_same zero r le = past ws r no_widths (let c = a.count in omega (arith, c, le)) ∙ sym (past us r no_widths (let c = b.count in omega (arith, c, le)))
+    widths_same zero r le = past ws r not_measured (let c = a.count in omega (arith, c, le)) ∙ sym (past us r not_measured (let c = b.count in omega (arith, c, le)))
     widths_same (suc d) r le = elim (cases_lt r (length i.roots)) [
       | inl lt ↦ width_value (widths_in ws r) (widths_in us r) (one_at (Widths ws) (Widths us) r a b lt (λ x there. widths_alike i.roots x.links x.around ws us (λ k l e.
           widths_same d l (let more = leads.links r k l x there e in omega (arith, le, more)))))
-      | inr high ↦ past ws r no_widths (let c = a.count in omega (arith, c, high)) ∙ sym (past us r no_widths (let c = b.count in omega (arith, c, high)))
+      | inr high ↦ past ws r not_measured (let c = a.count in omega (arith, c, high)) ∙ sym (past us r not_measured (let c = b.count in omega (arith, c, high)))
     ]
 
   module _ (ps qs : List PlacedContext) (a : IsCellLocal i (Places ps)) (b : IsCellLocal i (Places qs)) where
@@ -67,7 +66,7 @@ module _ (one : OneLocal) (i : CellInput) (leads : LeadsInward i) where
     ]
 
   one_value : (v w : CellValue) → IsCellLocal i v → IsCellLocal i w → phase_of v ≡ phase_of w → v ≡ w
-  one_value (Widths ws) (Widths us) a b e = ap Widths (same_list no_widths ws us (a.count ∙ sym b.count) (λ r lt. widths_same ws us a b (length i.roots) r (omega arith)))
+  one_value (Widths ws) (Widths us) a b e = ap Widths (same_list not_measured ws us (a.count ∙ sym b.count) (λ r lt. widths_same ws us a b (length i.roots) r (omega arith)))
   one_value (Sizes zs) (Sizes ys) a b e = ap Sizes (same_list not_sized zs ys (a.count ∙ sym b.count) (λ r lt. sizes_same zs ys a b (suc r) r (omega arith)))
   one_value (Places ps) (Places qs) a b e = ap Places (same_list not_placed ps qs (a.count ∙ sym b.count) (λ r lt. places_same ps qs a b (length i.roots) r (omega arith)))
   one_value (Widths ws) (Sizes ys) a b e = absurd cc

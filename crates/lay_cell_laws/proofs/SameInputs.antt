@@ -30,7 +30,7 @@ use Rattle.lay_layout.specs.context.Settings.{flow_place, flow_setting, laid, ow
 use Rattle.lay_cell_work.specs.declared.root_spot.RootSpot.{RootSpot}
 use Rattle.lay_cell_work.specs.CellColumns.{links_or_none}
 use Rattle.lay_cell_work.specs.CellLocal.{masked_setting}
-use Rattle.lay_cell_work.specs.CellValues.{CellValue, own_sizes, own_widths, own_places}
+use Rattle.lay_cell_work.specs.CellValues.{CellValue, own_measured, own_sizes, own_places}
 use Rattle.lay_cell_work.specs.PresentInputs.{spot_in}
 use Rattle.lay_cell_laws.specs.SameContexts.{AreSameInside, IsSameAround, IsSameContext, IsSameToMeasure, IsTable, MeasureInputsAreKept, Table, input_in, is_out_of_flow, workings_in}
 use Rattle.lay_cell_laws.proofs.InputForms.{measure_cell, measure_form, measured_root_same, own_widths_form, place_cell, place_form, placed_root_same, sized_root_same, sizes_form, table_are, table_calm, table_keeps}
@@ -63,7 +63,7 @@ module _ (one_home : OneHome) (where_shrunk : MeasuredWhereShrunk) (medium : Med
       let IA : List ℕ = (context_at a.contexts c).inner in
       let IB : List ℕ = (context_at b.contexts e).inner in
       let column = column_same one_home a b is_a is_b c e same no_widths (measure_cell a) (measure_cell b) (none_same a b is_a is_b c e same)
-      (λ k lt some anchor. ap (λ (v : CellValue). widths_in (own_widths v) 0) (inside k lt some anchor)) r in
+      (λ k lt some anchor. ap (λ (v : CellValue). (widths_in (own_measured v) 0).widths) (inside k lt some anchor)) r in
       measure_form a is_a c same.within r within root medium
       ∙ measured_root_same (is_measured a.formatting_contexts (number_of a.contexts c r)) (is_measured b.formatting_contexts (number_of b.contexts e r)) (boxes_of_root BA HA r) (boxes_of_root BB HB r)
       (no_widths ∷ map (given_at no_widths (measure_cell a) BA IA) (members BA HA r)) (no_widths ∷ map (given_at no_widths (measure_cell b) BB IB) (members BB HB r))
@@ -90,8 +90,8 @@ module _ (one_home : OneHome) (where_shrunk : MeasuredWhereShrunk) (medium : Med
         let x = spot_is a is_a c same.within r within root in
         let y = spot_is b is_b e same.there r within_b root_b in
         let own : widths_in (workings_in a).widths m ≡ widths_in (workings_in b).widths n =
-        own_widths_form a is_a c same.within r within root ∙ ap (λ (v : CellValue). widths_in (own_widths v) (roots_before (boxes_in a.contexts c) r)) widths
-        ∙ ap (widths_in (own_widths (b.kept e phase.Measure))) (ordinals_same one_home a b is_a is_b c e same r) ∙ sym (own_widths_form b is_b e same.there r within_b root_b) in
+        own_widths_form a is_a c same.within r within root ∙ ap (λ (v : CellValue). widths_in (own_measured v) (roots_before (boxes_in a.contexts c) r)) widths
+        ∙ ap (widths_in (own_measured (b.kept e phase.Measure))) (ordinals_same one_home a b is_a is_b c e same r) ∙ sym (own_widths_form b is_b e same.there r within_b root_b) in
         let spots = x ∙ spots_same one_home a b is_a is_b c e same r ∙ sym y in
         let settings = setting_by_spot r (spot_in a.formatting_contexts (first_number a.contexts c) m) (spot_in b.formatting_contexts (first_number b.contexts e) n)
         (setting_of medium.viewport a.formatting_contexts (workings_in a) m) (setting_of medium.viewport b.formatting_contexts (workings_in b) n) x y

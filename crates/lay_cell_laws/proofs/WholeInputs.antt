@@ -6,6 +6,7 @@ use Rattle.lay_layout.specs.frag.declared.frag.Frag.{Frag}
 use Rattle.lay_layout.specs.box_tree.declared.box_tree.BoxNode.{BoxNode}
 use Rattle.lay_layout.specs.measure.MeasureInValue.{no_widths}
 use Rattle.lay_layout.specs.measure.declared.preferred_widths.PreferredWidths.{PreferredWidths}
+use Rattle.lay_layout.specs.context_sizes.MeasuredContexts.{MeasuredContext, not_measured}
 use Rattle.lay_layout.specs.sizes.declared.own_boxes.OwnBox.{OwnBox}
 use Rattle.lay_layout.specs.sizes.OwnBoxes.{no_own_box}
 use Rattle.lay_layout.specs.sizes.declared.sizing.ContainingBlock.{ContainingBlock}
@@ -34,7 +35,7 @@ use Rattle.lay_cell_work.specs.declared.root_spot.RootSpot.{RootSpot}
 use Rattle.lay_cell_work.specs.CellColumns.{filled, link_to, links_of, masked}
 use Rattle.lay_cell_work.specs.CellInputs.{RootInput}
 use Rattle.lay_cell_work.specs.CellLocal.{boxes_given, filled_input, filled_setting, masked_input, masked_setting, setting_at, sized_boxes, whole_input}
-use Rattle.lay_cell_work.specs.CellValues.{CellValue, own_boxes, own_pieces, own_places, own_sizes, own_widths}
+use Rattle.lay_cell_work.specs.CellValues.{CellValue, own_boxes, own_pieces, own_measured, own_places, own_sizes, own_widths}
 use Rattle.lay_cell_work.specs.KeptValues.{end_to_end, workings_of}
 use Rattle.lay_cell_work.specs.PresentInputs.{asked_links, asked_spot, present_input, root_count, root_input, spot_in}
 use Rattle.lay_cell_laws.proofs.EndToEnd.{stands}
@@ -72,7 +73,7 @@ flow_by false x j e some = e
 pub flow_is : (all : List FormattingContext) (x j : ℕ) → flow_number all x ≡ j → 0 < j → x ≡ j
 flow_is all x j e some = flow_by (is_absolute all x) x j e some
 
-pub widths_some : (ws : List PreferredWidths) (j : ℕ) → 0 < j → inner_widths_in ws j ≡ widths_in ws j
+pub widths_some : (ws : List MeasuredContext) (j : ℕ) → 0 < j → inner_widths_in ws j ≡ (widths_in ws j).widths
 widths_some ws zero some = absurd (omega (arith, some))
 widths_some ws (suc j) some = refl
 
@@ -104,8 +105,8 @@ at {X} nothing contexts column c j lt is =
 
 module _ (contexts : List Context) (kept : ℕ → Phase → CellValue) where
   pub widths_at : (c j : ℕ) → c < length contexts → IsOf contexts c j
-      → widths_in (workings_of contexts kept).widths j ≡ widths_in (own_widths (kept c phase.Measure)) (j - first_number contexts c)
-  widths_at c j lt is = at no_widths contexts (λ d. own_widths (kept d phase.Measure)) c j lt is
+      → widths_in (workings_of contexts kept).widths j ≡ widths_in (own_measured (kept c phase.Measure)) (j - first_number contexts c)
+  widths_at c j lt is = at not_measured contexts (λ d. own_measured (kept d phase.Measure)) c j lt is
 
   pub sizes_at : (c j : ℕ) → c < length contexts → IsOf contexts c j → sizes_in (workings_of contexts kept).sizes j ≡ sizes_in (own_sizes (kept c phase.Size)) (j - first_number contexts c)
   sizes_at c j lt is = at not_sized contexts (λ d. own_sizes (kept d phase.Size)) c j lt is
@@ -136,7 +137,9 @@ module _ (medium : Medium) (contexts : List Context) (all : List FormattingConte
     widths_agree k r within e =
         let j : ℕ = slice_index (flow_numbers all m) k in
         let l = link_is all First j r e in
-        widths_some W.widths j l.some ∙ widths_at contexts kept n.context j n.before (linked_of k r within e) ∙ ap (λ (i : ℕ). widths_in (own_widths (kept n.context phase.Measure)) i) (sym l.is)
+        let own : List MeasuredContext = own_measured (kept n.context phase.Measure) in
+        widths_some W.widths j l.some ∙ ap (λ (m : MeasuredContext). m.widths) (widths_at contexts kept n.context j n.before (linked_of k r within e) ∙ ap (λ (i : ℕ). widths_in own i) (sym l.is))
+        ∙ sym (map_at (λ (m : MeasuredContext). m.widths) own r not_measured)
 
     boxes_agree : Agrees no_own_box (own_boxes (kept n.context phase.Place)) (link_to all First) (own_box_in W.places) (flow_numbers all m)
     boxes_agree k r within e =

@@ -4,8 +4,8 @@ ghost use Rattle.lay_cell_laws.specs.Laws.{OneCellLocal, PresentInputsFit, Prese
 ghost use Rattle.lay_cell_laws.specs.SameContexts.{CounterpartsAreOfOneNode, MeasureInputsAreKept, PlaceInputsAreKept, SizeInputsAreKept};
 ghost use Rattle.lay_cell_laws.specs.SoundCells.{CleanCellsSolve};
 ghost use Rattle.lay_layout.specs.context_sizes.ContextSizes.{SizedContext};
+ghost use Rattle.lay_layout.specs.context_sizes.MeasuredContexts.{MeasuredContext};
 ghost use Rattle.lay_layout.specs.context.PlacedContexts.{PlacedContext};
-ghost use Rattle.lay_layout.specs.measure.declared.preferred_widths.PreferredWidths.{PreferredWidths};
 
 use lay_layout::context::{measured_where_shrunk, one_local};
 use lay_layout::contexts::{anonymous_boxes_are_in_flow, one_home};
@@ -13,7 +13,7 @@ use lay_layout::positioned::{one_nearest_holder, settings_are_values, settings_c
 
 /// Values that are laid end to end stand at the numbers of their formatting contexts.
 pub fn values_stand_at_numbers()
-    ensures widths { ValuesStandAtNumbers PreferredWidths }
+    ensures widths { ValuesStandAtNumbers MeasuredContext }
     ensures sizes { ValuesStandAtNumbers SizedContext }
     ensures places { ValuesStandAtNumbers PlacedContext }
 {}

@@ -1,8 +1,10 @@
 -- A context after an edit is untouched, or has a reached node among its own.
-use Rattle.std.proofs.Common.{◌≡◌, ◌⊎◌, ⊎_elim, inl, inr, ◌<◌, ℕ, suc, Bool, true, false, List, [], ◌∷◌, length, slice_index, Option, None, Some, refl, ap, sym, subst, ◌∙◌, arith}
+use Rattle.std.proofs.Common.{◌≡◌, ◌⊎◌, ⊎_elim, inl, inr, ◌<◌, ℕ, suc, Bool, true, false, not, ◌&&◌, List, [], ◌∷◌, length, slice_index, Option, None, Some, refl, ap, sym, subst, ◌∙◌, arith}
 use Rattle.std.specs.Prelude.{◌↔◌}
 use Rattle.std.proofs.lemmas.Bool.{cases_lt}
 use Rattle.lay_layout.specs.style.declared.style.Style.{Style}
+use Rattle.lay_layout.specs.style.declared.style_words.TableLayout.{TableLayout}
+use Rattle.lay_layout.specs.style.declared.style_words.TableLayout.TheVariants.{Auto}
 use Rattle.lay_layout.specs.style.Places.{place_of}
 use Rattle.lay_layout.specs.doc.Document.{Document, ids_of}
 use Rattle.lay_layout.specs.doc.Edits.{after}
@@ -19,10 +21,11 @@ use Rattle.lay_layout.proofs.lay_contexts.ContextNumbers.{are_contexts}
 use Rattle.lay_layout.proofs.lay_contexts.OneStand.{marked-true, within}
 use Rattle.lay_layout.proofs.lay_contexts.RootNumbers.{first_le}
 use Rattle.lay_layout.specs.context_sizes.ShrinkToFit.{shrinks, shrinks_to_fit}
+use Rattle.lay_table_bounds.specs.TableLayouts.{asks_fixed, has_width, is_fixed}
 use Rattle.lay_layout.specs.context.Laws.{MeasuredWhereShrunk}
 use Rattle.lay_layout.specs.context.Measured.{ShrinksOutward, around, is_measured, own}
 use Rattle.lay_layout.specs.own_nodes.Bound.{EditsTouchNoOthers, IsUntouched, id_of}
-use Rattle.lay_layout.specs.own_nodes.Shrinking.{AreListsOf, IsWithinOutward, SparesAnonymous, first, outward}
+use Rattle.lay_layout.specs.own_nodes.Shrinking.{AreListsOf, IsWithinOutward, TakesAnonymousTables, first, outward}
 use Rattle.lay_layout.specs.own_nodes.Touched.{EditsTouchReachedContexts, HasReached}
 use Rattle.lay_layout.proofs.lay_own_nodes.NamedPlaces.{place-is, place-reads}
 use Rattle.lay_layout.proofs.lay_own_nodes.StayingOutward.{place-there}
@@ -98,12 +101,15 @@ module _ (d : Document) (styles : List Style) (contexts : List Context) (all : L
       omega (arith, low, up, lists.all_are.count)
 
 -- the own box of some boxes may shrink to fit
-shrinks_is : (boxes : List BoxNode) → shrinks_to_fit boxes ≡ shrinks (box_at boxes 0).flow (box_at boxes 0).kind
+shrinks_is : (boxes : List BoxNode) → shrinks_to_fit boxes ≡ shrinks (box_at boxes 0).flow (box_at boxes 0).kind (box_at boxes 0).style
 shrinks_is [] = refl
 shrinks_is (b ∷ boxes) = refl
 
-shrinks_spares : SparesAnonymous shrinks
-shrinks_spares = record { wrapper = refl; cell = λ colspan rowspan. refl }
+automatic : (s : Style) → s.table.layout ≡ Auto → not (is_fixed s) ≡ true
+automatic s e = ap (λ (l : TableLayout). not (asks_fixed l && has_width s.sizing.width)) e
+
+shrinks_takes : TakesAnonymousTables shrinks
+shrinks_takes = record { wrapper = automatic; inline_wrapper = automatic; cell = λ colspan rowspan s. refl }
 
 to_within : (all : List FormattingContext) (m : ℕ) → ShrinksOutward all m → IsWithinOutward shrinks all m
 to_within all m (own k e) = first m (sym (shrinks_is (boxes_of all m)) ∙ e)
@@ -148,7 +154,7 @@ touched_contexts_are_reached_lem shrunk reach others_stay d edit styles others c
     let id : ℕ = id_of (after d edit) later j in
     elim (reach d edit styles others id edits (inr (has_id (after d edit) others later rest later_lists j lt))) [
       | inl kept ↦ (let n = numbered d styles contexts all lists id kept.before in
-          elim (others_stay shrinks d edit styles others contexts later all rest shrinks_spares edits lists later_lists n.number n.before) [
+          elim (others_stay shrinks d edit styles others contexts later all rest shrinks_takes edits lists later_lists n.number n.before) [
             | inl u ↦ inl (
               n.number,
               untouched shrunk d (after d edit) styles others contexts later all rest lists later_lists n.number u.0 j n.before

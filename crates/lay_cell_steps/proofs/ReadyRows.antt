@@ -6,7 +6,7 @@ use Rattle.std.proofs.lemmas.List.FromFn.{get_or-map-range_with_len, length-map-
 use Rattle.std.proofs.lemmas.Option.{slice_get-get_or}
 use Rattle.lay_layout.specs.doc.Document.{Document}
 use Rattle.lay_layout.specs.face.FaceValue.{FaceValue}
-use Rattle.lay_layout.specs.measure.MeasureInValue.{no_widths}
+use Rattle.lay_layout.specs.context_sizes.MeasuredContexts.{not_measured}
 use Rattle.lay_layout.specs.table_borders.GridLaws.{GridsAreOfBoxes}
 use Rattle.lay_layout.specs.cells.Looks.{IsClean, Looks}
 use Rattle.lay_layout.specs.cells.Reads.{AllClean}
@@ -42,7 +42,7 @@ use Rattle.lay_shape_laws.proofs.lay_shape.Members.{in_map}
 use Rattle.lay_shape_laws.specs.NeedLaws.{IsShapedNeed, NeedsAreShaped}
 use Rattle.lay_cell_laws.specs.cell_work.CellInputs.{CellInput, RootInput}
 use Rattle.lay_cell_laws.specs.cell_work.CellLocal.{IsCellLocal, whole_input}
-use Rattle.lay_cell_laws.specs.cell_work.CellValues.{CellValue, Places, Sizes, Widths, own_places, own_sizes, own_widths, phase_of, root_value}
+use Rattle.lay_cell_laws.specs.cell_work.CellValues.{CellValue, Places, Sizes, Widths, own_measured, own_places, own_sizes, phase_of, root_value}
 use Rattle.lay_cell_laws.specs.cell_work.KeptValues.{kept_value, kept_workings, value_or_none}
 use Rattle.lay_cell_laws.specs.cell_work.PresentInputs.{key_of, present_input, root_count, root_input}
 use Rattle.lay_cell_laws.specs.DocumentCells.{AreDocumentCells}
@@ -57,7 +57,7 @@ use Rattle.lay_cell_steps.proofs.RowsOfContexts.{needs_are, value_is}
 
 pub kept_values_are_counted_lem : KeptValuesAreCounted
 kept_values_are_counted_lem contexts all rows of = record {
-  widths = values_counted no_widths contexts (λ c. own_widths (kept_value rows contexts c phase.Measure)) (length contexts) ∙ sym of.count;
+  widths = values_counted not_measured contexts (λ c. own_measured (kept_value rows contexts c phase.Measure)) (length contexts) ∙ sym of.count;
   sizes = values_counted not_sized contexts (λ c. own_sizes (kept_value rows contexts c phase.Size)) (length contexts) ∙ sym of.count;
   places = values_counted not_placed contexts (λ c. own_places (kept_value rows contexts c phase.Place)) (length contexts) ∙ sym of.count;
 }

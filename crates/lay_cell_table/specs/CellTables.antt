@@ -3,6 +3,7 @@ use Rattle.std.specs.Prelude.{ℕ, ◌≡◌, Bool, List}
 use Rattle.lay_layout.specs.context.MeasuredFlags.{AreMeasured}
 use Rattle.lay_layout.specs.context.PlacedContexts.{PlacedContext, not_placed}
 use Rattle.lay_layout.specs.context_sizes.ContextSizes.{SizedContext, not_sized}
+use Rattle.lay_layout.specs.context_sizes.MeasuredContexts.{MeasuredContext, not_measured}
 use Rattle.lay_layout.specs.contexts.Contexts.{AreContexts, Context}
 use Rattle.lay_layout.specs.contexts.FormattingContexts.{FormattingContext}
 use Rattle.lay_layout.specs.contexts.FormattingContextList.{AreFormattingContextsOf}
@@ -28,6 +29,7 @@ pub record TableColumns : Type 0 where
   pub cells : List ContextPhase
   pub places : List CellPlaces
   -- what is read of a cell that keeps nothing
+  pub no_widths : MeasuredContext
   pub no_sizes : SizedContext
   pub no_place : PlacedContext
 
@@ -38,5 +40,6 @@ pub record AreTableColumns (t : CellTable) (columns : TableColumns) : Type 0 whe
   pub roots : AreRootColumns t.contexts t.formatting_contexts columns.roots columns.firsts
   pub cells : columns.cells ≡ cells_of t.contexts
   pub places : ArePlaces t.contexts columns.places
+  pub no_widths : columns.no_widths ≡ not_measured
   pub no_sizes : columns.no_sizes ≡ not_sized
   pub no_place : columns.no_place ≡ not_placed

@@ -6,6 +6,7 @@ ghost use Rattle.lay_layout.specs.context.Measured.{is_measured};
 ghost use Rattle.lay_layout.specs.context.MeasuredFlags.{AreMeasured};
 ghost use Rattle.lay_layout.specs.context.PlacedContexts.{not_placed};
 ghost use Rattle.lay_layout.specs.context_sizes.ContextSizes.{not_sized};
+ghost use Rattle.lay_layout.specs.context_sizes.MeasuredContexts.{not_measured};
 ghost use Rattle.lay_cell_steps.specs.cell_work.PresentInputs.{root_count};
 ghost use Rattle.lay_cell_steps.specs.shape.Dependencies.{in_phase};
 ghost use Rattle.lay_cell_steps.specs.shape.Keys.{AreOfOwnNodes, key_of, node_of};
@@ -18,7 +19,7 @@ use crate::root_columns::{RootColumns, number_in, root_columns};
 use lay_cell_steps::shape::{CellKey, ContextPhase, cells_of, shape};
 use lay_layout::cells::Shape;
 use lay_layout::context::{Phase, PlacedContext, measured_flags, no_pieces, not_placed, not_sized};
-use lay_layout::context_sizes::SizedContext;
+use lay_layout::context_sizes::{MeasuredContext, SizedContext};
 use lay_layout::contexts::{Contexts, FormattingContexts, formatting_contexts};
 use lay_layout::doc::NodeId;
 use lay_layout::units::NoMemory;
@@ -35,6 +36,7 @@ pub struct CellTable {
     roots: RootColumns,
     cells: Vec<ContextPhase>,
     places: Vec<CellPlaces>,
+    no_widths: MeasuredContext,
     no_sizes: SizedContext,
     no_place: PlacedContext,
 }
@@ -52,6 +54,7 @@ impl Model for CellTable {
       firsts = t.roots.firsts.items;
       cells = t.cells.items;
       places = t.places.items;
+      no_widths = t.no_widths;
       no_sizes = t.no_sizes;
       no_place = t.no_place;
     }) };
@@ -78,6 +81,7 @@ impl CellTable {
             roots,
             cells,
             places,
+            no_widths: MeasuredContext::none(),
             no_sizes,
             no_place,
         })
@@ -184,6 +188,13 @@ impl CellTable {
         ensures { IfOk result (λ s. s ≡ shape_of self.now.contexts) }
     {
         shape(alloc, &self.contexts)
+    }
+
+    /// What is read of the preferred widths of a context that has none.
+    pub(crate) fn no_widths(&self) -> &MeasuredContext
+        ensures { result.now ≡ not_measured }
+    {
+        &self.no_widths
     }
 
     /// What is read of the sizes of a context that has none.

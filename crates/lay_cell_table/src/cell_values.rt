@@ -7,7 +7,7 @@ ghost use Rattle.lay_layout.specs.context.PlacedContexts.{placed_in};
 ghost use Rattle.lay_layout.specs.context.Settings.{sizes_in};
 ghost use Rattle.lay_layout.specs.context.declared.task.Phase.TheVariants as phase;
 ghost use Rattle.lay_cell_steps.specs.shape.Shapes.{shape_of};
-ghost use Rattle.lay_cell_steps.specs.cell_work.CellValues.{own_places, own_sizes, own_widths};
+ghost use Rattle.lay_cell_steps.specs.cell_work.CellValues.{own_measured, own_places, own_sizes};
 ghost use Rattle.lay_cell_steps.specs.cell_work.KeptValues.{kept_value, kept_workings};
 ghost use Rattle.lay_cell_table.specs.KeptCells.{kept_or_none};
 ghost use Rattle.lay_cell_table.specs.RootColumns.{IsRootOf};
@@ -19,8 +19,7 @@ use lay_cell_steps::cell_work::{CellValue, Layout};
 use lay_cell_steps::kept_values_are_counted;
 use lay_layout::cells::{Cells, Done};
 use lay_layout::context::{Phase, PlacedContext, Values};
-use lay_layout::context_sizes::SizedContext;
-use lay_layout::measure::{NO_WIDTHS, PreferredWidths};
+use lay_layout::context_sizes::{MeasuredContext, SizedContext};
 
 /// The values that the cells of these contexts keep, which are known by the numbers of the formatting contexts. Where a cell keeps
 /// nothing they are empty.
@@ -45,14 +44,14 @@ impl<'a> CellValues<'a> {
         }
     }
 
-    /// The preferred widths of a root.
-    fn kept_widths(&self, root: ContextRoot) -> PreferredWidths
+    /// The preferred widths of a root, with the bounds of a table.
+    fn kept_widths(&self, root: ContextRoot) -> &MeasuredContext
         requires { root.context < length self.now.table.now.contexts }
-        ensures { result ≡ widths_in (own_widths (kept_value self.now.cells.now.rows self.now.table.now.contexts root.context phase.Measure)) root.root }
+        ensures { result.now ≡ widths_in (own_measured (kept_value self.now.cells.now.rows self.now.table.now.contexts root.context phase.Measure)) root.root }
     {
         match self.kept(root.context, Phase::Measure) {
-            Some(value) => widths_or_none(value, root.root),
-            None => NO_WIDTHS,
+            Some(value) => widths_or(value, root.root, self.table.no_widths()),
+            None => self.table.no_widths(),
         }
     }
 
@@ -92,7 +91,7 @@ impl Values for CellValues<'_> {
 
     ghost workings = { λ v. kept_workings v.cells.now.rows v.table.now.contexts };
 
-    fn widths(&self, i: usize) -> PreferredWidths {
+    fn widths(&self, i: usize) -> &MeasuredContext {
         kept_values_are_counted();
         values_stand_at_numbers();
         let _ = self.table.formatting_contexts();
@@ -120,13 +119,13 @@ fn value_in(done: &Done<Layout>) -> &CellValue
     done.value()
 }
 
-/// The preferred widths of the root r; none where that isn't there.
-fn widths_or_none(value: &CellValue, r: usize) -> PreferredWidths
-    ensures { result ≡ widths_in (own_widths value.now) r }
+/// The preferred widths of the root r, and these where that isn't there.
+fn widths_or<'a>(value: &'a CellValue, r: usize, none: &'a MeasuredContext) -> &'a MeasuredContext
+    ensures { result.now ≡ slice_index_or (own_measured value.now) r none.now }
 {
     match value.widths(r) {
         Some(widths) => widths,
-        None => NO_WIDTHS,
+        None => none,
     }
 }
 

@@ -73,7 +73,8 @@ pub(crate) fn inner_size_input(
     kept_values_are_counted();
     let context = values.table.formatting_contexts().at(i);
     let boxes = context.boxes().share()?;
-    let given = SizeInput::new(boxes, values.widths(i), no_setting());
+    let measured = values.widths(i).share()?;
+    let given = SizeInput::new(boxes, measured, no_setting());
     let around = RootSpot {
         root: context.outer().saturating_sub(first),
         place: context.outer_box(),

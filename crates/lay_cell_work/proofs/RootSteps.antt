@@ -4,8 +4,7 @@ use Rattle.std.proofs.Common.{◌≡◌, ◌≢◌, ◌<◌, ◌≤◌, ◌+◌,
 use Rattle.std.proofs.lemmas.Bool.{cases_eq, cases_lt}
 use Rattle.std.proofs.lemmas.Grind.{elements}
 use Rattle.std.proofs.lemmas.Option.{get_or_from_slice_get, slice_get-get_or}
-use Rattle.lay_layout.specs.measure.MeasureInValue.{no_widths}
-use Rattle.lay_layout.specs.measure.declared.preferred_widths.PreferredWidths.{PreferredWidths}
+use Rattle.lay_layout.specs.context_sizes.MeasuredContexts.{MeasuredContext, not_measured}
 use Rattle.lay_layout.specs.sizes.declared.sizing.BoxSizes.{BoxSizes}
 use Rattle.lay_layout.specs.units.declared.length.Unit.{Unit as Length}
 use Rattle.lay_layout.specs.table_sizes.TableSizesValue.{TableSizesValue}
@@ -84,17 +83,17 @@ sized_of roots zs links around (input.Place i at) z local = absurd local
 sized_of roots zs links around (input.PlaceTable i at) z local = absurd local
 
 module _ (i : CellInput) (fits : CellInputFits i) (r : ℕ) (lt : r < length i.roots) where
-  pub one_more_widths : (ws : List PreferredWidths) (w : PreferredWidths) → length ws ≡ length i.roots → IsRightAt i.roots (Widths ws) r (value.Measure w)
+  pub one_more_widths : (ws : List MeasuredContext) (w : MeasuredContext) → length ws ≡ length i.roots → IsRightAt i.roots (Widths ws) r (value.Measure w)
       → AreRightFrom i.roots (Widths ws) (r + 1) → AreRightFrom i.roots (Widths (slice_set ws r w)) r
   one_more_widths ws w count local right s y is le =
-      let us : List PreferredWidths = slice_set ws r w in
+      let us : List MeasuredContext = slice_set ws r w in
       let alike : AreSame i.roots (Widths ws) (Widths us) y.links y.around =
-      widths_alike i.roots y.links y.around ws us (λ k l e. sym (set_other ws r l w no_widths (let more = fits.inward.links s k l y is e in λ same. absurd (omega (arith, more, le, same))))) in
+      widths_alike i.roots y.links y.around ws us (λ k l e. sym (set_other ws r l w not_measured (let more = fits.inward.links s k l y is e in λ same. absurd (omega (arith, more, le, same))))) in
       elim (cases_eq r s) [
         | inl same ↦ carried i.roots (Widths ws) (Widths us) y (value.Measure w) (value.Measure (widths_in us s)) alike
-            (ap value.Measure (sym (set_here ws r w no_widths (omega (arith, lt, count))) ∙ ap (widths_in us) same)) (local y (ap (slice_get i.roots) same ∙ is))
+            (ap value.Measure (sym (set_here ws r w not_measured (omega (arith, lt, count))) ∙ ap (widths_in us) same)) (local y (ap (slice_get i.roots) same ∙ is))
         | inr other ↦ carried i.roots (Widths ws) (Widths us) y (value.Measure (widths_in ws s)) (value.Measure (widths_in us s)) alike
-            (ap value.Measure (sym (set_other ws r s w no_widths other))) (right s y is (omega (arith, le, other)))
+            (ap value.Measure (sym (set_other ws r s w not_measured other))) (right s y is (omega (arith, le, other)))
       ]
 
   pub one_more_places : (ps : List PlacedContext) (p : PlacedContext) → length ps ≡ length i.roots → IsRightAt i.roots (Places ps) r (value.Place p)

@@ -6,6 +6,7 @@ use Rattle.lay_layout.specs.measure.declared.preferred_widths.PreferredWidths.{P
 use Rattle.lay_layout.specs.sizes.declared.own_boxes.OwnBox.{OwnBox}
 use Rattle.lay_layout.specs.sizes.OwnBoxes.{no_own_box}
 use Rattle.lay_layout.specs.context_sizes.ContextSizes.{SizedContext}
+use Rattle.lay_layout.specs.context_sizes.MeasuredContexts.{MeasuredContext, not_measured}
 use Rattle.lay_layout.specs.context_sizes.declared.setting.Setting.{Setting}
 use Rattle.lay_layout.specs.context.declared.input.Input.{Input}
 use Rattle.lay_layout.specs.context.declared.input.Input.TheVariants as input
@@ -50,7 +51,7 @@ module _ (roots : List RootInput) (v w : CellValue) (links : List (Option ℕ)) 
       ap (λ (inner : List OwnBox). put inner (filled [] (own_pieces v) links i.pieces)) (same.boxes i.inner) ∙ ap (put (filled no_own_box (own_boxes w) links i.inner)) (same.pieces i.pieces)
 
 -- settings come of sizes alone
-pub widths_set : (roots : List RootInput) (ws us : List PreferredWidths) (around : Option RootSpot) (given : Setting) → filled_setting roots (Widths ws) around given ≡ filled_setting roots (Widths us) around given
+pub widths_set : (roots : List RootInput) (ws us : List MeasuredContext) (around : Option RootSpot) (given : Setting) → filled_setting roots (Widths ws) around given ≡ filled_setting roots (Widths us) around given
 widths_set roots ws us None given = refl
 widths_set roots ws us (Some spot) given = refl
 
@@ -72,14 +73,17 @@ map_at f (x ∷ xs) (suc r) d = map_at f xs r d
 abbrev own_of : PlacedContext → OwnBox
 own_of p = p.placement.own
 
+abbrev widths_of : MeasuredContext → PreferredWidths
+widths_of m = m.widths
+
 abbrev pieces_of : PlacedContext → List Frag
 pieces_of p = p.placement.pieces
 
 -- all of it is the same where the values of the roots are that it comes of
 module _ (roots : List RootInput) (links : List (Option ℕ)) (around : Option RootSpot) where
-  pub widths_alike : (ws us : List PreferredWidths) → ((k l : ℕ) → slice_get links k ≡ Some (Some l) → widths_in ws l ≡ widths_in us l) → AreSame roots (Widths ws) (Widths us) links around
+  pub widths_alike : (ws us : List MeasuredContext) → ((k l : ℕ) → slice_get links k ≡ Some (Some l) → widths_in ws l ≡ widths_in us l) → AreSame roots (Widths ws) (Widths us) links around
   widths_alike ws us linked = record {
-    widths = λ given. filled_same no_widths ws us links given linked;
+    widths = λ given. filled_same no_widths (own_widths (Widths ws)) (own_widths (Widths us)) links given (λ k l e. map_at widths_of ws l not_measured ∙ ap widths_of (linked k l e) ∙ sym (map_at widths_of us l not_measured));
     boxes = λ given. refl;
     pieces = λ given. refl;
     settings = λ given. widths_set roots ws us around given;

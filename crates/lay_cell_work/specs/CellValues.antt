@@ -4,6 +4,7 @@ use Rattle.lay_layout.specs.frag.declared.frag.Frag.{Frag}
 use Rattle.lay_layout.specs.measure.declared.preferred_widths.PreferredWidths.{PreferredWidths}
 use Rattle.lay_layout.specs.sizes.declared.own_boxes.OwnBox.{OwnBox}
 use Rattle.lay_layout.specs.context_sizes.ContextSizes.{SizedContext}
+use Rattle.lay_layout.specs.context_sizes.MeasuredContexts.{MeasuredContext}
 use Rattle.lay_layout.specs.context.declared.task.Phase.{Phase}
 use Rattle.lay_layout.specs.context.declared.task.Phase.TheVariants as phase
 use Rattle.lay_layout.specs.context.declared.value.Value.{Value}
@@ -13,7 +14,7 @@ use Rattle.lay_layout.specs.context.PlacedContexts.{PlacedContext, placed_in}
 use Rattle.lay_layout.specs.context.Settings.{sizes_in}
 
 pub data CellValue : Type 0 where
-  Widths : List PreferredWidths → CellValue
+  Widths : List MeasuredContext → CellValue
   Sizes : List SizedContext → CellValue
   Places : List PlacedContext → CellValue
 
@@ -35,9 +36,9 @@ root_value (Sizes zs) r = value.Size (sizes_in zs r)
 root_value (Places ps) r = value.Place (placed_in ps r)
 
 -- as columns over the roots; of another phase there are none
-abbrev pub own_widths : CellValue → List PreferredWidths
-own_widths (Widths ws) = ws
-own_widths _ = []
+abbrev pub own_measured : CellValue → List MeasuredContext
+own_measured (Widths ws) = ws
+own_measured _ = []
 
 abbrev pub own_sizes : CellValue → List SizedContext
 own_sizes (Sizes zs) = zs
@@ -47,7 +48,10 @@ abbrev pub own_places : CellValue → List PlacedContext
 own_places (Places ps) = ps
 own_places _ = []
 
--- and of the placed ones their own boxes and their pieces
+-- of the measured ones the preferred widths, and of the placed ones their own boxes and their pieces
+abbrev pub own_widths : CellValue → List PreferredWidths
+own_widths v = map (λ m. m.widths) (own_measured v)
+
 abbrev pub own_boxes : CellValue → List OwnBox
 own_boxes v = map (λ p. p.placement.own) (own_places v)
 

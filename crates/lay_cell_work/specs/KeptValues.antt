@@ -1,17 +1,17 @@
 -- The values that cells keep, laid end to end: of each context a value for each of its roots, so that the value of a formatting context
 -- stands at its number.
 use Rattle.std.specs.Prelude.{ℕ, zero, suc, ◌==◌, ◌&&◌, Bool, true, false, List, [], ◌∷◌, ◌++◌, length, Option, None, Some, if◌then◌else◌}
-use Rattle.lay_layout.specs.measure.MeasureInValue.{no_widths}
 use Rattle.lay_layout.specs.cells.Rows.{Row, Solved}
 use Rattle.lay_layout.specs.contexts.Contexts.{Context}
 use Rattle.lay_layout.specs.context_sizes.ContextSizes.{not_sized}
+use Rattle.lay_layout.specs.context_sizes.MeasuredContexts.{not_measured}
 use Rattle.lay_layout.specs.context.declared.task.Phase.{Phase}
 use Rattle.lay_layout.specs.context.declared.task.Phase.TheVariants as phase
 use Rattle.lay_layout.specs.context.PlacedContexts.{not_placed}
 use Rattle.lay_layout.specs.context.Workings.{Workings}
 use Rattle.lay_cell_work.specs.CellInputs.{CellInput}
 use Rattle.lay_shape.specs.declared.cell_key.CellKey.{CellKey}
-use Rattle.lay_cell_work.specs.CellValues.{CellValue, no_value, own_places, own_sizes, own_widths}
+use Rattle.lay_cell_work.specs.CellValues.{CellValue, no_value, own_measured, own_places, own_sizes}
 use Rattle.lay_cell_work.specs.PresentInputs.{key_of, root_count}
 
 -- so many values of what is kept, which is of as many unless the context has changed
@@ -28,7 +28,7 @@ end_to_end nothing contexts kept (suc n) = end_to_end nothing contexts kept n ++
 -- the values of all formatting contexts, where `kept` says what the cell of a context keeps for a phase
 abbrev pub workings_of : List Context → (ℕ → Phase → CellValue) → Workings
 workings_of contexts kept = record {
-  widths = end_to_end no_widths contexts (λ c. own_widths (kept c phase.Measure)) (length contexts);
+  widths = end_to_end not_measured contexts (λ c. own_measured (kept c phase.Measure)) (length contexts);
   sizes = end_to_end not_sized contexts (λ c. own_sizes (kept c phase.Size)) (length contexts);
   places = end_to_end not_placed contexts (λ c. own_places (kept c phase.Place)) (length contexts);
 }

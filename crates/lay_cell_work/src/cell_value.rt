@@ -1,12 +1,11 @@
 //! What a cell answers.
 
 ghost use Rattle.std.specs.Prelude.{◌≡◌, option_map, slice_get};
-ghost use Rattle.lay_cell_work.specs.CellValues.{Places, Sizes, Widths, own_places, own_sizes, own_widths, phase_of, root_count_of};
+ghost use Rattle.lay_cell_work.specs.CellValues.{Places, Sizes, Widths, own_measured, own_places, own_sizes, phase_of, root_count_of};
 
 use crate::root_values::{RootPlaces, RootSizes, RootValues, RootWidths};
 use lay_layout::context::{Phase, PlacedContext};
-use lay_layout::context_sizes::SizedContext;
-use lay_layout::measure::PreferredWidths;
+use lay_layout::context_sizes::{MeasuredContext, SizedContext};
 use std::marker::Model;
 
 /// A value of one phase for each root of a context: first for its own box, then for the anonymous tables and cells in the order of their
@@ -26,8 +25,8 @@ impl Model for CellValue {
 }
 
 impl CellValue {
-    /// These preferred widths.
-    pub fn of_widths(widths: Vec<PreferredWidths>) -> CellValue
+    /// These preferred widths, with the bounds of tables.
+    pub fn of_widths(widths: Vec<MeasuredContext>) -> CellValue
         ensures { result ≡ Widths widths.items }
     {
         CellValue {
@@ -75,12 +74,12 @@ impl CellValue {
         }
     }
 
-    /// The preferred widths of the root r. There are none past the last root and of another phase.
-    pub fn widths(&self, r: usize) -> Option<PreferredWidths>
-        ensures { result ≡ slice_get (own_widths self.now) r }
+    /// The preferred widths of the root r, with the bounds of a table. There are none past the last root and of another phase.
+    pub fn widths(&self, r: usize) -> Option<&MeasuredContext>
+        ensures { option_map (λ m. m.now) result ≡ slice_get (own_measured self.now) r }
     {
         match &self.values {
-            RootValues::Widths(widths) => widths.as_slice().get(r).copied(),
+            RootValues::Widths(widths) => widths.as_slice().get(r),
             _ => None,
         }
     }

@@ -6,9 +6,10 @@ ghost use Rattle.lay_layout.specs.pieces.InnerPieces.{inner_pieces_at, pieces_or
 ghost use Rattle.lay_layout.specs.pieces.NearPieces.{AreNearPieces};
 ghost use Rattle.lay_layout.specs.sizes.OwnBoxes.{OwnBoxFits, no_own_box, own_box_at};
 ghost use Rattle.lay_cell_work.specs.CellColumns.{filled, filled_at};
-ghost use Rattle.lay_cell_work.specs.CellValues.{Places, own_boxes, own_pieces};
+ghost use Rattle.lay_cell_work.specs.CellValues.{Places, Widths, own_boxes, own_pieces, own_widths};
 
 use lay_layout::context::{PlacedContext, SharedPieces};
+use lay_layout::context_sizes::MeasuredContext;
 use lay_layout::frag::Pieces;
 use lay_layout::measure::{NO_WIDTHS, PreferredWidths};
 use lay_layout::pieces::OwnBoxes;
@@ -22,9 +23,9 @@ pub(crate) fn filled_widths(
     alloc: Global,
     given: &[PreferredWidths],
     links: &[Option<usize>],
-    own: &[PreferredWidths],
+    own: &[MeasuredContext],
 ) -> Result<Vec<PreferredWidths>, NoMemory>
-    ensures { IfOk result (λ v. v.items ≡ filled no_widths own.now links.now given.now) }
+    ensures { IfOk result (λ v. v.items ≡ filled no_widths (own_widths (Widths own.now)) links.now given.now) }
 {
     let mut widths = Vec::with_capacity(alloc, given.len())?;
     for k in 0..given.len() {
@@ -36,11 +37,11 @@ pub(crate) fn filled_widths(
 fn widths_at(
     given: &[PreferredWidths],
     links: &[Option<usize>],
-    own: &[PreferredWidths],
+    own: &[MeasuredContext],
     k: usize,
 ) -> PreferredWidths
     requires { k < length given.now }
-    ensures { result ≡ filled_at no_widths own.now (slice_get links.now k) (slice_index_or given.now k no_widths) }
+    ensures { result ≡ filled_at no_widths (own_widths (Widths own.now)) (slice_get links.now k) (slice_index_or given.now k no_widths) }
 {
     match links.get(k) {
         Some(Some(r)) => widths_of(own, *r),
@@ -49,13 +50,13 @@ fn widths_at(
 }
 
 /// The preferred widths of the root r; none where that isn't there.
-fn widths_of(own: &[PreferredWidths], r: usize) -> PreferredWidths
-    ensures { result ≡ slice_index_or own.now r no_widths }
+fn widths_of(own: &[MeasuredContext], r: usize) -> PreferredWidths
+    ensures { result ≡ slice_index_or (own_widths (Widths own.now)) r no_widths }
 {
-    if r < own.len() {
-        return own[r];
+    match own.get(r) {
+        Some(measured) => measured.widths(),
+        None => NO_WIDTHS,
     }
-    NO_WIDTHS
 }
 
 /// The own boxes that are given, with those of the roots that are linked.

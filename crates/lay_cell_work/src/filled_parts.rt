@@ -4,11 +4,11 @@ ghost use Rattle.std.specs.Prelude.{◌≡◌, [], IfOk};
 ghost use Rattle.lay_layout.specs.measure.MeasureInValue.{no_widths};
 ghost use Rattle.lay_layout.specs.sizes.OwnBoxes.{no_own_box};
 ghost use Rattle.lay_cell_work.specs.CellColumns.{filled};
-ghost use Rattle.lay_cell_work.specs.CellValues.{Places, own_boxes, own_pieces};
+ghost use Rattle.lay_cell_work.specs.CellValues.{Places, Widths, own_boxes, own_pieces, own_widths};
 
 use crate::columns::{filled_boxes, filled_pieces, filled_widths};
 use lay_layout::context::{FlowParts, MeasureParts, PlacedContext, TableParts};
-use lay_layout::measure::PreferredWidths;
+use lay_layout::context_sizes::MeasuredContext;
 use lay_layout::units::NoMemory;
 use std::alloc::Global;
 
@@ -17,9 +17,9 @@ pub(crate) fn filled_measure(
     alloc: Global,
     parts: &MeasureParts,
     links: &[Option<usize>],
-    own: &[PreferredWidths],
+    own: &[MeasuredContext],
 ) -> Result<MeasureParts, NoMemory>
-    ensures { IfOk result (λ i. i ≡ record parts.now { inner = filled no_widths own.now links.now parts.now.inner }) }
+    ensures { IfOk result (λ i. i ≡ record parts.now { inner = filled no_widths (own_widths (Widths own.now)) links.now parts.now.inner }) }
 {
     let boxes = parts.boxes().share()?;
     let inner = filled_widths(alloc, parts.inner(), links, own)?;

@@ -1,6 +1,6 @@
 //! The preferred widths of the roots of a context.
 
-ghost use Rattle.std.specs.Prelude.{◌≡◌, IfOk, List};
+ghost use Rattle.std.specs.Prelude.{◌≡◌, IfOk, List, length};
 ghost use Rattle.lay_layout.specs.context.Local.{IsLocal};
 ghost use Rattle.lay_layout.specs.context.declared.task.Phase.TheVariants.{Measure};
 ghost use Rattle.lay_layout.specs.context.declared.value.Value.TheVariants.{Measure as measured};
@@ -13,7 +13,7 @@ use crate::cell_input::CellInput;
 use crate::filled_parts::filled_measure;
 use crate::root_input::RootInput;
 use lay_layout::context::{Input, Value, value_of_measure};
-use lay_layout::measure::{NO_WIDTHS, PreferredWidths};
+use lay_layout::context_sizes::MeasuredContext;
 use lay_layout::units::NoMemory;
 use std::alloc::Global;
 
@@ -21,13 +21,13 @@ use std::alloc::Global;
 pub(crate) fn widths_of_roots(
     alloc: Global,
     input: &CellInput,
-) -> Result<Vec<PreferredWidths>, NoMemory>
+) -> Result<Vec<MeasuredContext>, NoMemory>
     requires { input.now.key.phase ≡ Measure }
     ensures { IfOk result (λ v. IsCellLocal input.now (Widths v.items)) }
 {
     let roots = input.roots();
     let count = roots.len();
-    let mut widths = vec![in alloc; NO_WIDTHS; count]?;
+    let mut widths = unmeasured(alloc, count)?;
     for done in 0..count {
         let r = count - 1 - done;
         let own = widths_of_root(alloc, &roots[r], widths.as_slice())?;
@@ -36,12 +36,23 @@ pub(crate) fn widths_of_roots(
     Ok(widths)
 }
 
+/// Nothing of so many.
+fn unmeasured(alloc: Global, count: usize) -> Result<Vec<MeasuredContext>, NoMemory>
+    ensures { IfOk result (λ v. length v.items ≡ count) }
+{
+    let mut widths = Vec::with_capacity(alloc, count)?;
+    for _unmeasured in 0..count {
+        widths.push(MeasuredContext::none())?;
+    }
+    Ok(widths)
+}
+
 /// Those of one root, where those of the roots in it are known.
 fn widths_of_root(
     alloc: Global,
     root: &RootInput,
-    own: &[PreferredWidths],
-) -> Result<PreferredWidths, NoMemory>
+    own: &[MeasuredContext],
+) -> Result<MeasuredContext, NoMemory>
     requires { phase_given root.now.given ≡ Measure }
     ensures { IfOk result (λ w. (roots : List RootInput) → IsLocal (whole_input roots (Widths own.now) root.now) (measured w)) }
 {
@@ -53,7 +64,7 @@ fn widths_of_root(
             };
             Ok(widths)
         }
-        Input::Unmeasured => Ok(NO_WIDTHS),
+        Input::Unmeasured => Ok(MeasuredContext::none()),
         _ => unreachable!(),
     }
 }

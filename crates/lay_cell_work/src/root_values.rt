@@ -3,33 +3,32 @@
 ghost use Rattle.std.specs.Prelude.{◌≡◌};
 
 use lay_layout::context::PlacedContext;
-use lay_layout::context_sizes::SizedContext;
-use lay_layout::measure::PreferredWidths;
+use lay_layout::context_sizes::{MeasuredContext, SizedContext};
 use std::marker::Model;
 
-/// The preferred widths of each root.
+/// The preferred widths of each root, with the bounds of a table.
 #[derive(Drop)]
 pub(crate) struct RootWidths {
-    items: Vec<PreferredWidths>,
+    items: Vec<MeasuredContext>,
 }
 
 impl Model for RootWidths {
     ghost use Rattle.std.specs.Prelude.{List};
-    ghost use Rattle.lay_layout.specs.measure.declared.preferred_widths.PreferredWidths.{PreferredWidths};
+    ghost use Rattle.lay_layout.specs.context_sizes.MeasuredContexts.{MeasuredContext as Measured};
 
-    ghost Value = { List PreferredWidths };
+    ghost Value = { List Measured };
 
     ghost view = { λ w. w.items.items };
 }
 
 impl RootWidths {
-    pub(crate) fn new(items: Vec<PreferredWidths>) -> RootWidths
+    pub(crate) fn new(items: Vec<MeasuredContext>) -> RootWidths
         ensures { result ≡ items.items }
     {
         RootWidths { items }
     }
 
-    pub(crate) fn as_slice(&self) -> &[PreferredWidths]
+    pub(crate) fn as_slice(&self) -> &[MeasuredContext]
         ensures { result.now ≡ self.now }
     {
         self.items.as_slice()

@@ -92,7 +92,8 @@ fn sizes_in(alloc: Global, given: &SizeInput, setting: Setting) -> Result<SizedC
     ensures { IfOk result (λ z. IsLocal (size_given (record given.now { setting = setting })) (sized z)) }
 {
     let boxes = given.context_boxes().share()?;
-    let input = SizeInput::new(boxes, given.widths(), setting);
+    let measured = given.measured().share()?;
+    let input = SizeInput::new(boxes, measured, setting);
     let Value::Size(sizes) = value_of_size(alloc, &input)? else {
         unreachable!()
     };

@@ -6,7 +6,11 @@ use Rattle.lay_input.proofs.OneStyledReading.{one_styled_reading_lem}
 use Rattle.lay_drive.specs.editing_core.State.{State}
 use Rattle.lay_words.specs.declared.form.Form.{Form}
 use Rattle.lay_words.specs.declared.form.Form.TheVariants as form
+use Rattle.lay_input.specs.declared.check.Check.{Check}
+use Rattle.lay_input.specs.StyledChecks.{IsStyledCheck}
+use Rattle.lay_input.proofs.OneStyledCheck.{one_styled_check_lem}
 use Rattle.lay_cli.specs.Answers.{IsAskedWell, IsRefusal, IsRefused, OfRun, Refuses, Reports}
+use Rattle.lay_cli.specs.Checks.{IsCheckRefusal}
 use Rattle.lay_cli.specs.Endings.{Ends, SinkValue}
 use Rattle.lay_cli.specs.declared.status.Status.{Status}
 use Rattle.lay_cli.specs.declared.status.Status.TheVariants.{Ok as ok, Refused as refused, Usage as usage, ReadFault as read_fault, WriteFault as write_fault, NoMemory as no_memory}
@@ -15,12 +19,17 @@ not_both : (bytes line : List ℕ) (run : Run) → IsStyledReading bytes (Ok run
 not_both bytes line run reading refusal =
     let e : Ok run ≡ Err refusal.fault = one_styled_reading_lem bytes (Ok run) (Err refusal.fault) reading refusal.reading in absurd cc
 
+not_both_checked : (bytes line : List ℕ) (check : Check) → IsStyledCheck bytes (Ok check) → IsCheckRefusal bytes line → ⊥
+not_both_checked bytes line check reading refusal =
+    let e : Ok check ≡ Err refusal.fault = one_styled_check_lem bytes (Ok check) (Err refusal.fault) reading refusal.reading in absurd cc
+
 -- words that ask well of these bytes aren't refused
 never_refused : (asked : Form) (bytes line : List ℕ) → IsAskedWell asked bytes → Refuses asked (Some bytes) line → ⊥
 never_refused form.Scratch bytes line well refusal = not_both bytes line well.0 well.1 refusal
 never_refused (form.Run workers) bytes line well refusal = not_both bytes line well.0 well.1 refusal
 never_refused (form.Gen size seed workers) bytes line well refusal = refusal
 never_refused (form.Hit x y) bytes line well refusal = not_both bytes line well.0 well.1 refusal
+never_refused form.Check bytes line well refusal = not_both_checked bytes line well.check well.spells refusal
 
 -- bytes that are refused have no report
 of_run : (bytes line : List ℕ) (P : Run → Type 0) → OfRun bytes P → IsRefusal bytes line → ⊥
@@ -32,6 +41,7 @@ never_reported (form.Run workers) bytes line text None report refusal = report
 never_reported (form.Run workers) bytes line text (Some s) report refusal = of_run bytes line _ report.driven refusal
 never_reported (form.Gen size seed workers) bytes line text kept report refusal = refusal
 never_reported (form.Hit x y) bytes line text kept report refusal = of_run bytes line _ report.1.seen refusal
+never_reported form.Check bytes line text kept report refusal = not_both_checked bytes line report.1.judged.check report.1.judged.spells refusal
 
 -- a run is reported
 pub reported : (asked : Form) (left : Option (List ℕ)) (status : Status) (s t : SinkValue) (kept : Option State) → Ends (Reports asked left) (Refuses asked left) status s t kept

@@ -117,7 +117,7 @@ scratch_reports left run spells core text is =
 
 pub run_reports : (workers : ℕ) (left : Option (List ℕ)) (run : Run) → IfSome left (λ bytes. Spells bytes run) → (core : Option State) (text : List ℕ) → OfKept core (λ s. IsRunReport run s text) → Reports (form.Run workers) left core text
 run_reports workers left run spells None text is = absurd is
-run_reports workers left run spells (Some s) text is = record { text_is = is.text_is; whole = is.driven.whole; driven = of_bytes left run (λ r. IsDriven r s) spells is.driven }
+run_reports workers left run spells (Some s) text is = record { text_is = is.text_is; within = is.within; whole = is.driven.whole; driven = of_bytes left run (λ r. IsDriven r s) spells is.driven }
 
 pub none_refused : (G : List ℕ → Type 0) (line : List ℕ) → ⊥ → G line
 none_refused G line n = absurd n

@@ -2,9 +2,10 @@
 -- `scratch`, `run` and `hit` read a run document, or else the bytes are refused with one line, for the first fault that they have.
 -- The report of `scratch` is that of a tree which solves the document, its editors taken as none. The report of `run` is
 -- that of one legal history which answers each editor's commands once and in order, with trees that solve the documents
--- of their versions. `hit` names the piece that is seen at a point, of a tree as `scratch` reports it. `gen` reads nothing
--- and writes the summary of such a history of the run that the generator makes.
-use Rattle.std.specs.Prelude.{ℕ, ◌≡◌, ◌≢◌, ◌⊎◌, List, length, map, string_bytes, String, Option, Some, None, IfSome, Ok, Err}
+-- of their versions. `hit` names the piece that is seen at a point, of a tree as `scratch` reports it. `check` reads a run
+-- document beside a report, and judges the report. `gen` reads nothing and writes the summary of such a history of the run
+-- that the generator makes.
+use Rattle.std.specs.Prelude.{ℕ, ◌≡◌, ◌≢◌, ◌⊎◌, ◌<◌, ◌^◌, List, length, map, string_bytes, String, Option, Some, None, IfSome, Ok, Err}
 use Rattle.std.specs.declared.alloc.Global.{Global}
 use Rattle.lay_layout.specs.frag.Pieces.{Context}
 use Rattle.lay_layout.specs.context.Solves.{Solves}
@@ -26,6 +27,8 @@ use Rattle.lay_words.specs.Grammar.{form_of}
 use Rattle.lay_layout.specs.frag.declared.frag.Frag.{Frag}
 use Rattle.lay_hit.specs.declared.point.Point.{Point}
 use Rattle.lay_hit.specs.HitLines.{hit_line}
+use Rattle.lay_check.specs.Judging.{SpellCheck}
+use Rattle.lay_cli.specs.Checks.{IsCheckRefusal, IsVerdictReport}
 use Rattle.lay_cli.specs.Hits.{IsSeen, point_at}
 use Rattle.lay_cli.specs.Input.{IsDrained}
 use Rattle.lay_cli.specs.Refusals.{fault_line}
@@ -70,6 +73,7 @@ pub record IsDriven (run : Run) (s : State) : Type 0 where
 -- the text is the report of a core that answered the run's editors
 pub record IsRunReport (run : Run) (s : State) (text : List ℕ) : Type 0 where
   pub driven : IsDriven run s
+  pub within : s.laid < 2 ^ 64
   pub text_is : text ≡ run_report s.history s.trees s.laid
 
 -- the text is the summary of a core whose last version has a tree
@@ -103,6 +107,7 @@ pub record IsTreeReport (left : Option (List ℕ)) (text : List ℕ) : Type 0 wh
 -- spell, where they are told
 pub record IsCoreReport (left : Option (List ℕ)) (s : State) (text : List ℕ) : Type 0 where
   pub text_is : text ≡ run_report s.history s.trees s.laid
+  pub within : s.laid < 2 ^ 64
   pub whole : IsWhole s.history
   pub driven : IfSome left (λ bytes. OfRun bytes (λ run. IsDriven run s))
 
@@ -119,6 +124,7 @@ Reports form.Scratch left kept text = (kept ≡ None) × IsTreeReport left text
 Reports (form.Run workers) left kept text = OfKept kept (λ s. IsCoreReport left s text)
 Reports (form.Gen size seed workers) left kept text = OfKept kept (λ s. IsSummary size seed s text)
 Reports (form.Hit x y) left kept text = (kept ≡ None) × IsPieceReport left (point_at x y) text
+Reports form.Check left kept text = (kept ≡ None) × IsVerdictReport left text
 
 -- the line says why the bytes are refused; `gen` reads none
 abbrev pub Refuses : Form → Option (List ℕ) → List ℕ → Type 0
@@ -126,13 +132,15 @@ Refuses form.Scratch left line = IfSome left (λ bytes. IsRefusal bytes line)
 Refuses (form.Run workers) left line = IfSome left (λ bytes. IsRefusal bytes line)
 Refuses (form.Gen size seed workers) left line = ⊥
 Refuses (form.Hit x y) left line = IfSome left (λ bytes. IsRefusal bytes line)
+Refuses form.Check left line = IfSome left (λ bytes. IsCheckRefusal bytes line)
 
--- the bytes spell a run; `gen` needs none
+-- the bytes spell a run, for `check` beside a report; `gen` needs none
 abbrev pub IsAskedWell : Form → List ℕ → Type 0
 IsAskedWell form.Scratch bytes = (run : Run) × Spells bytes run
 IsAskedWell (form.Run workers) bytes = (run : Run) × Spells bytes run
 IsAskedWell (form.Gen size seed workers) bytes = Unit {0}
 IsAskedWell (form.Hit x y) bytes = (run : Run) × Spells bytes run
+IsAskedWell form.Check bytes = SpellCheck bytes
 
 -- what was read of the bytes: the run that they spell, or why they are refused
 abbrev pub IsInput : List ℕ → Input → Type 0
@@ -150,6 +158,7 @@ AreRead form.Scratch left now = IsDrained left now
 AreRead (form.Run workers) left now = IsDrained left now
 AreRead (form.Gen size seed workers) left now = now ≡ left
 AreRead (form.Hit x y) left now = IsDrained left now
+AreRead form.Check left now = IsDrained left now
 
 abbrev pub IsRun : Input → Type 0
 IsRun (a_run run) = Unit {0}
@@ -161,6 +170,7 @@ IsRefused form.Scratch bytes line = IsRefusal bytes line
 IsRefused (form.Run workers) bytes line = IsRefusal bytes line
 IsRefused (form.Gen size seed workers) bytes line = ⊥
 IsRefused (form.Hit x y) bytes line = IsRefusal bytes line
+IsRefused form.Check bytes line = IsCheckRefusal bytes line
 
 -- words of this form read the source
 abbrev pub IsReader : Form → Type 0
@@ -168,3 +178,4 @@ IsReader form.Scratch = Unit {0}
 IsReader (form.Run workers) = Unit {0}
 IsReader (form.Gen size seed workers) = ⊥
 IsReader (form.Hit x y) = Unit {0}
+IsReader form.Check = Unit {0}

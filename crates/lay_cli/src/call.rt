@@ -10,6 +10,7 @@ ghost use Rattle.lay_cli.specs.Endings.{Ends, TookFrontOf, TookWhole};
 ghost use Rattle.lay_cli.specs.Input.{IsReadOut};
 
 use crate::at_point::hit;
+use crate::checking::check;
 use crate::drive::{Generation, Means, generate, run};
 use crate::from_scratch::scratch;
 use crate::status::Status;
@@ -23,8 +24,9 @@ use std::thread::Threads;
 
 /// Answers the words. `scratch` lays out the run document that the source has left, its editors taken as none; `run` drives
 /// its editors; `gen` drives those of the run that the generator makes, and reads nothing; `hit` lays out as `scratch` does,
-/// and names the piece that is seen at a point. The answer goes into the sink, or else the line of the bytes' first fault.
-/// After `run` and `gen` with the status Ok the core that the report is of is kept. Only these two start threads, and wait.
+/// and names the piece that is seen at a point; `check` judges the report that stands beside a run document. The answer goes
+/// into the sink, or else the line of the bytes' first fault. After `run` and `gen` with the status Ok the core that the report
+/// is of is kept. Only these two start threads, and wait.
 pub fn top<R: Threads + Wait + Sync, S: Source, K: Sink, G: Gate + Sync>(
     rt: &R,
     alloc: Global,
@@ -114,5 +116,6 @@ fn asked<R: Threads + Wait + Sync, S: Source, K: Sink, G: Gate + Sync>(
             generate(means, asked, sink, kept)
         }
         Form::Hit { x, y } => hit(means.alloc, x, y, source, sink),
+        Form::Check => check(means.alloc, source, sink),
     }
 }

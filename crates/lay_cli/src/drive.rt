@@ -82,13 +82,27 @@ fn driven<R: Threads + Wait + Sync, K: Sink, G: Gate + Sync>(
         Ok(core) => core,
         Err(_) => return Status::NoMemory,
     };
-    match write_run(means.alloc, core.history(), core.trees(), core.laid(), sink) {
+    match write_run(
+        means.alloc,
+        core.history(),
+        core.trees(),
+        claims_of(&core),
+        sink,
+    ) {
         Ok(()) => {
             *kept = Some(core);
             Status::Ok
         }
         Err(fault) => status_of(fault),
     }
+}
+
+/// How many claims a core granted.
+fn claims_of(core: &Core) -> u64
+    ensures value { result ≡ core.now.laid }
+    ensures within { core.now.laid < 2 ^ 64 }
+{
+    core.laid()
 }
 
 /// Drives the editors of the run that the generator makes, writes the summary and keeps the core.

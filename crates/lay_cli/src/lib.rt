@@ -2,16 +2,21 @@
 //!
 //! `top` reads the words (lay_words) and the source, takes the bytes for a run document (lay_json), lays it out from scratch
 //! (lay_context) or drives its editors on threads of their own beside workers (lay_drive), and writes the report (lay_report) into
-//! the sink, or which piece is seen at a point (lay_hit). Its contract is in the words of `specs/Answers.antt`: which text answers
-//! which words and bytes; `specs/Endings.antt` says what a status says of the sink. `scratch` and `hit` are the calls that it makes
-//! for these words: they are given no runtime, so they start no thread and wait for none, and they return.
+//! the sink, or which piece is seen at a point (lay_hit). Or it judges a report that stands beside a run document (lay_check). Its
+//! contract is in the words of `specs/Answers.antt`: which text answers which words and bytes; `specs/Endings.antt` says what a status
+//! says of the sink. `scratch`, `hit` and `check` are the calls that it makes for these words: they are given no runtime, so they start
+//! no thread and wait for none, and they return. The law `run_reports_are_answered_yes` says that the reports of `run` are answered
+//! `yes` by `check`.
 #![tactic(auto)]
 
 mod at_point;
 mod call;
+mod check_input;
+mod checking;
 mod drive;
 mod from_scratch;
 mod input;
+mod laws;
 mod refusal;
 mod run_input;
 mod status;
@@ -19,6 +24,8 @@ mod telling;
 
 pub use at_point::hit;
 pub use call::top;
+pub use checking::check;
 pub use from_scratch::scratch;
+pub use laws::run_reports_are_answered_yes;
 pub use lay_drive::editing_core as editing_core;
 pub use status::Status;

@@ -9,6 +9,7 @@ use Rattle.lay_units.specs.declared.records.Rect.{Rect}
 use Rattle.lay_box_tree.specs.declared.box_tree.BoxNode.{BoxNode}
 use Rattle.lay_box_tree.specs.Kinds.{is_wrapper}
 use Rattle.lay_measure.specs.declared.preferred_widths.PreferredWidths.{PreferredWidths}
+use Rattle.lay_context_sizes.specs.MeasuredContexts.{MeasuredContext}
 use Rattle.lay_sizes.specs.declared.sizing.BoxSizes.{BoxSizes}
 use Rattle.lay_sizes.specs.declared.sizing.ContainingBlock.{ContainingBlock}
 use Rattle.lay_sizes.specs.SizeColumns.{sizes_at}
@@ -165,8 +166,8 @@ record IsAcross (b : Bool) (s : AbsoluteSetting) (own : BoxNode) (widths : Prefe
   pub is : IsAxisAcross b s own widths width out
   pub left_is : left ≡ border_start out
 
-across_as : (b : Bool) (s : AbsoluteSetting) (boxes : List BoxNode) (widths : PreferredWidths) (sizes : List BoxSizes) (table : Option TableSizesValue) (left : Length)
-    → IsSizedAs b (record { boxes = boxes; widths = widths; setting = Absolute s }) sizes table left → IsAcross b s (box_at boxes 0) widths (sizes_at sizes 0).widths.width left
+across_as : (b : Bool) (s : AbsoluteSetting) (boxes : List BoxNode) (widths : MeasuredContext) (sizes : List BoxSizes) (table : Option TableSizesValue) (left : Length)
+    → IsSizedAs b (record { boxes = boxes; measured = widths; setting = Absolute s }) sizes table left → IsAcross b s (box_at boxes 0) widths.widths (sizes_at sizes 0).widths.width left
 across_as true s boxes widths sizes (Some table) left sized = record { out = sized.1.out; is = sized.1.across; left_is = sized.1.left_is }
 across_as true s boxes widths sizes None left sized = absurd sized
 across_as false s boxes widths sizes None left sized = record { out = sized.own.out; is = sized.own.across; left_is = sized.own.left_is }
@@ -191,15 +192,15 @@ module _ (medium : Medium) (p : PageLayout) (solved : IsSolved medium p) (i : �
   abbrev sized : SizedContext
   sized = sizes_in p.workings.sizes i
 
-  abbrev widths : PreferredWidths
+  abbrev widths : MeasuredContext
   widths = widths_in p.workings.widths i
 
-  has_sizes : HasSizes (record { boxes = boxes; widths = widths; setting = Absolute setting }) sized
+  has_sizes : HasSizes (record { boxes = boxes; measured = widths; setting = Absolute setting }) sized
   has_sizes =
       let e = chosen (is_absolute p.contexts i) (Absolute setting) (flow_setting medium.viewport p.contexts p.workings.sizes i) absolute in
-      subst (λ (s : Setting). HasSizes (record { boxes = boxes; widths = widths; setting = s }) sized) e (solved.done (record { context = i; phase = Size }) within).1
+      subst (λ (s : Setting). HasSizes (record { boxes = boxes; measured = widths; setting = s }) sized) e (solved.done (record { context = i; phase = Size }) within).1
 
-  across : IsAcross (is_table boxes) setting (box_at boxes 0) widths (sizes_at sized.boxes 0).widths.width sized.left
+  across : IsAcross (is_table boxes) setting (box_at boxes 0) widths.widths (sizes_at sized.boxes 0).widths.width sized.left
   across = across_as (is_table boxes) setting boxes widths sized.boxes sized.table sized.left has_sizes.boxes
 
   offset : IsOffset setting (box_at boxes 0) sized.left (placement_in p.workings.places i).own.height (placed_in p.workings.places i).offset
@@ -224,7 +225,7 @@ module _ (medium : Medium) (p : PageLayout) (solved : IsSolved medium p) (i : �
       record {
         across = out;
         down = down;
-        is_across = across_from (is_table boxes) o setting (box_at boxes 0) widths (sizes_at sized.boxes 0).widths.width out wide.is;
+        is_across = across_from (is_table boxes) o setting (box_at boxes 0) widths.widths (sizes_at sized.boxes 0).widths.width out wide.is;
         is_down = down_from (is_wrapper (box_at boxes 0).kind) o setting (box_at boxes 0) (placement_in p.workings.places i).own.height down offset.down;
         x = omega (arith, ints, x);
         y = omega (arith, ints, y);

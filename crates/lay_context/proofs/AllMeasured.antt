@@ -4,7 +4,6 @@ use Rattle.std.specs.Prelude.{Option, Some, None}
 use Rattle.lay_box_tree.specs.declared.box_tree.BoxNode.{BoxNode}
 use Rattle.lay_box_tree.specs.declared.box_tree.Flow.{Flow}
 use Rattle.lay_box_tree.specs.declared.box_tree.Flow.TheVariants.{Absolute as absolute, Floating as floating, InFlow as in_flow}
-use Rattle.lay_measure.specs.declared.preferred_widths.PreferredWidths.{PreferredWidths}
 use Rattle.lay_sizes.specs.declared.sizing.BoxSizes.{BoxSizes}
 use Rattle.lay_sizes.specs.declared.sizing.ContainingBlock.{ContainingBlock}
 use Rattle.lay_contexts.specs.FormattingContexts.{AreFormattingContexts, FormattingContext, boxes_in, formatting_context_at}
@@ -15,9 +14,10 @@ use Rattle.lay_positioned.specs.Settings.{absolute_setting}
 use Rattle.lay_table_sizes.specs.TableSizesValue.{TableSizesValue, cell_at}
 use Rattle.lay_table_sizes.specs.declared.cell_size.CellSize.{CellSize}
 use Rattle.lay_context_sizes.specs.ContextSizes.{HasSizes, SizedContext}
-use Rattle.lay_context_sizes.specs.ContextWidths.{HasWidths}
+use Rattle.lay_context_sizes.specs.ContextWidths.{IsMeasured}
 use Rattle.lay_context_sizes.specs.Inputs.{MeasureInput}
 use Rattle.lay_context_sizes.specs.Laws.{WidthsCountWhereShrunk, is_absolute_setting}
+use Rattle.lay_context_sizes.specs.MeasuredContexts.{MeasuredContext}
 use Rattle.lay_context_sizes.specs.ShrinkToFit.{shrinks, shrinks_to_fit}
 use Rattle.lay_context_sizes.specs.declared.setting.Setting.{Setting}
 use Rattle.lay_context_sizes.specs.declared.setting.Setting.TheVariants.{Absolute}
@@ -49,7 +49,7 @@ absolute_shrinks : (boxes : List BoxNode) → is_own_absolute boxes ≡ true →
 absolute_shrinks [] is = cc
 absolute_shrinks (b ∷ boxes) is = by b.flow is
   where
-    by : (flow : Flow) → is_absolute_flow flow ≡ true → shrinks flow b.kind ≡ true
+    by : (flow : Flow) → is_absolute_flow flow ≡ true → shrinks flow b.kind b.style ≡ true
     by absolute e = refl
     by floating e = refl
     by in_flow e = cc
@@ -72,7 +72,7 @@ not_absolute : (b : Bool) (x y : Setting) → b ≡ false → is_absolute_settin
 not_absolute true x y e is = cc
 not_absolute false x y e is = is
 
-measured_local : (b : Bool) (i : MeasureInput) (widths : PreferredWidths) → b ≡ true → IsLocal (measure_as b i) (value.Measure widths) → HasWidths i widths
+measured_local : (b : Bool) (i : MeasureInput) (widths : MeasuredContext) → b ≡ true → IsLocal (measure_as b i) (value.Measure widths) → IsMeasured i widths
 measured_local true i widths e local = local
 measured_local false i widths e local = cc
 
@@ -98,10 +98,10 @@ module _ (one : OneAnswer) (count : WidthsCountWhereShrunk) (medium : Medium) (c
       let inside = (flow_inside contexts i j (record { box = k; within = there; number = refl; some = some })).inside in
       let behind = are.behind i j lt inside in
       same_widths m j (omega (arith, behind, le)) (are.within i j lt inside) (measured_goes_inward_lem contexts i j are lt inside is))) in
-      let here : HasWidths (measure_input medium contexts v i) (widths_in v.widths i) =
+      let here : IsMeasured (measure_input medium contexts v i) (widths_in v.widths i) =
       measured_local (is_measured contexts i) (measure_input medium contexts v i) (widths_in v.widths i) is (a.done (record { context = i; phase = Measure }) lt) in
-      let there : HasWidths (measure_input medium contexts w i) (widths_in w.widths i) = b.done (record { context = i; phase = Measure }) lt in
-      let moved : HasWidths (measure_input medium contexts v i) (widths_in w.widths i) = rw inner there in
+      let there : IsMeasured (measure_input medium contexts w i) (widths_in w.widths i) = b.done (record { context = i; phase = Measure }) lt in
+      let moved : IsMeasured (measure_input medium contexts v i) (widths_in w.widths i) = rw inner there in
       one.widths (measure_input medium contexts v i) (widths_in v.widths i) (widths_in w.widths i) here moved
 
   -- those that count, with all other values
@@ -111,7 +111,7 @@ module _ (one : OneAnswer) (count : WidthsCountWhereShrunk) (medium : Medium) (c
   sized_by : (i : ℕ) → i < length contexts → (m : Bool) → is_measured contexts i ≡ m → HasSizes (size_input medium contexts kept i) (sizes_in w.sizes i)
   sized_by i lt true is =
       let same = same_widths (length contexts) i (omega arith) lt is in
-      subst (λ (x : PreferredWidths). HasSizes (record { boxes = boxes_in contexts i; widths = x; setting = setting_of medium.viewport contexts w i }) (sizes_in w.sizes i)) (sym same)
+      subst (λ (x : MeasuredContext). HasSizes (record { boxes = boxes_in contexts i; measured = x; setting = setting_of medium.viewport contexts w i }) (sizes_in w.sizes i)) (sym same)
       (b.done (record { context = i; phase = Size }) lt).1
   sized_by i lt false is =
       let shrunk : shrinks_to_fit (boxes_in contexts i) ≡ false = not_true (shrinks_to_fit (boxes_in contexts i)) (λ e. never (is_measured contexts i) (shrinks_here i contexts i e) is) in

@@ -1,6 +1,6 @@
 -- A placement is that of boxes in block flow, or of a table.
 use Rattle.std.proofs.Common.{◌≡◌, ℕ, zero, suc, Bool, true, false, [], ◌∷◌, length, length-append, refl, ap, subst, ◌∙◌, arith, Option, None, Some, option_map}
-use Rattle.lay_measure.specs.declared.preferred_widths.PreferredWidths.{PreferredWidths}
+use Rattle.lay_context_sizes.specs.MeasuredContexts.{MeasuredContext}
 use Rattle.lay_pieces.specs.Placements.{Placement}
 use Rattle.lay_flow_boxes.specs.PlaceInputs.{PlaceInput}
 use Rattle.lay_placement.specs.BoxStandings.{standing_of_box, standings_to}
@@ -28,7 +28,7 @@ pub measured_not_placed : (b : Bool) (i : MeasureInput) (placed : PlacedContext)
 measured_not_placed true i placed local = local
 measured_not_placed false i placed local = local
 
-pub not_measured : (flow : PlaceInput) (table : Option TableInput) (at : StandInput) (widths : PreferredWidths) → IsLocal (place_as flow table at) (value.Measure widths) → ⊥
+pub not_measured : (flow : PlaceInput) (table : Option TableInput) (at : StandInput) (widths : MeasuredContext) → IsLocal (place_as flow table at) (value.Measure widths) → ⊥
 not_measured flow None at widths local = local
 not_measured flow (Some table) at widths local = local
 

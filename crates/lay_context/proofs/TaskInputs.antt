@@ -4,6 +4,7 @@ use Rattle.lay_frag.specs.declared.frag.Frag.{Frag}
 use Rattle.lay_box_tree.specs.declared.box_tree.BoxNode.{BoxNode}
 use Rattle.lay_sizes.specs.declared.sizing.ContainingBlock.{ContainingBlock}
 use Rattle.lay_measure.specs.declared.preferred_widths.PreferredWidths.{PreferredWidths}
+use Rattle.lay_context_sizes.specs.MeasuredContexts.{MeasuredContext}
 use Rattle.lay_contexts.specs.FormattingContexts.{AreFormattingContexts, FormattingContext, formatting_context_at, boxes_in}
 use Rattle.lay_pieces.specs.Placements.{Placement}
 use Rattle.lay_positioned.specs.Absolute.{is_absolute, is_own_absolute}
@@ -36,7 +37,7 @@ use Rattle.lay_abspos.specs.declared.own_place.OwnPlace.TheVariants as own_place
 use Rattle.lay_context_sizes.specs.declared.setting.Setting.{Setting}
 use Rattle.lay_context_sizes.specs.declared.setting.Setting.TheVariants.{Absolute}
 
-pub width_value : (x y : PreferredWidths) → value.Measure x ≡ value.Measure y → x ≡ y
+pub width_value : (x y : MeasuredContext) → value.Measure x ≡ value.Measure y → x ≡ y
 width_value x y e = cc
 
 pub size_value : (x y : SizedContext) → value.Size x ≡ value.Size y → x ≡ y
@@ -46,11 +47,11 @@ pub place_value : (x y : PlacedContext) → value.Place x ≡ value.Place y → 
 place_value x y e = cc
 
 -- the preferred widths of inner ones are equal where all are
-inner_same : (x y : List PreferredWidths) (j : ℕ) → (0 < j → widths_in x j ≡ widths_in y j) → inner_widths_in x j ≡ inner_widths_in y j
+inner_same : (x y : List MeasuredContext) (j : ℕ) → (0 < j → widths_in x j ≡ widths_in y j) → inner_widths_in x j ≡ inner_widths_in y j
 inner_same x y zero same = refl
-inner_same x y (suc j) same = same (omega arith)
+inner_same x y (suc j) same = ap (λ (m : MeasuredContext). m.widths) (same (omega arith))
 
-pub widths_same : (x y : List PreferredWidths) (numbers : List ℕ) → ((k : ℕ) → k < length numbers → 0 < slice_index numbers k → widths_in x (slice_index numbers k) ≡ widths_in y (slice_index numbers k))
+pub widths_same : (x y : List MeasuredContext) (numbers : List ℕ) → ((k : ℕ) → k < length numbers → 0 < slice_index numbers k → widths_in x (slice_index numbers k) ≡ widths_in y (slice_index numbers k))
     → map (inner_widths_in x) numbers ≡ map (inner_widths_in y) numbers
 widths_same x y [] same = refl
 widths_same x y (j ∷ numbers) same =
@@ -117,10 +118,10 @@ measured_by medium boxes inner measured = measure_as measured (record { boxes = 
 measured_same : (medium : Medium) (m n : List BoxNode) (x y : List PreferredWidths) (p q : Bool) → m ≡ n → x ≡ y → p ≡ q → measured_by medium m x p ≡ measured_by medium n y q
 measured_same medium m n x y p q boxes inner measured = rw (boxes, inner, measured) refl
 
-abbrev sized_by : List BoxNode → PreferredWidths → Setting → Input
-sized_by boxes widths setting = input.Size (record { boxes = boxes; widths = widths; setting = setting })
+abbrev sized_by : List BoxNode → MeasuredContext → Setting → Input
+sized_by boxes widths setting = input.Size (record { boxes = boxes; measured = widths; setting = setting })
 
-sized_same : (m n : List BoxNode) (x y : PreferredWidths) (s t : Setting) → m ≡ n → x ≡ y → s ≡ t → sized_by m x s ≡ sized_by n y t
+sized_same : (m n : List BoxNode) (x y : MeasuredContext) (s t : Setting) → m ≡ n → x ≡ y → s ≡ t → sized_by m x s ≡ sized_by n y t
 sized_same m n x y s t boxes widths setting = rw (boxes, widths, setting) refl
 
 inside_same : (m n : List BoxNode) (s t : SizedContext) (k l : ℕ) → m ≡ n → s ≡ t → k ≡ l → setting_in m s k ≡ setting_in n t l

@@ -3,7 +3,7 @@ use Rattle.std.proofs.Common.{◌≡◌, ◌≢◌, ◌<◌, ◌≤◌, ℕ, ◌
 use Rattle.std.proofs.Math.Nat.{add-mul, one-mul}
 use Rattle.std.proofs.lemmas.Bool.{cases_lt}
 use Rattle.std.proofs.lemmas.Grind.{elements}
-use Rattle.lay_measure.specs.declared.preferred_widths.PreferredWidths.{PreferredWidths}
+use Rattle.lay_context_sizes.specs.MeasuredContexts.{MeasuredContext}
 use Rattle.lay_frag.specs.Pieces.{Context as PageContext}
 use Rattle.lay_table_borders.specs.GridLaws.{GridsAreOfBoxes}
 use Rattle.lay_contexts.specs.FormattingContexts.{FormattingContext, AreFormattingContexts, boxes_in}
@@ -29,10 +29,10 @@ use Rattle.lay_context.proofs.SizedFacts.{sizes_are_of_boxes}
 use Rattle.lay_context.proofs.TaskInputs.{input_again}
 use Rattle.lay_context.proofs.TaskOrder.{measured, needs_come_first_lem, placed, sized, turn_within}
 
-widths_other : (xs : List PreferredWidths) (i j : ℕ) (x : PreferredWidths) → i ≢ j → widths_in (slice_set xs i x) j ≡ widths_in xs j
+widths_other : (xs : List MeasuredContext) (i j : ℕ) (x : MeasuredContext) → i ≢ j → widths_in (slice_set xs i x) j ≡ widths_in xs j
 widths_other xs i j x other = grind (arith, elements, other)
 
-widths_here : (xs : List PreferredWidths) (i : ℕ) (x : PreferredWidths) → i < length xs → widths_in (slice_set xs i x) i ≡ x
+widths_here : (xs : List MeasuredContext) (i : ℕ) (x : MeasuredContext) → i < length xs → widths_in (slice_set xs i x) i ≡ x
 widths_here xs i x lt = grind (arith, elements, lt)
 
 sizes_other : (xs : List SizedContext) (i j : ℕ) (x : SizedContext) → i ≢ j → sizes_in (slice_set xs i x) j ≡ sizes_in xs j
@@ -47,7 +47,7 @@ places_other xs i j x other = grind (arith, elements, other)
 places_here : (xs : List PlacedContext) (i : ℕ) (x : PlacedContext) → i < length xs → placed_in (slice_set xs i x) i ≡ x
 places_here xs i x lt = grind (arith, elements, lt)
 
-widths_length : (xs : List PreferredWidths) (i : ℕ) (x : PreferredWidths) → length (slice_set xs i x) ≡ length xs
+widths_length : (xs : List MeasuredContext) (i : ℕ) (x : MeasuredContext) → length (slice_set xs i x) ≡ length xs
 widths_length xs i x = grind (arith, elements)
 
 sizes_length : (xs : List SizedContext) (i : ℕ) (x : SizedContext) → length (slice_set xs i x) ≡ length xs

@@ -7,6 +7,7 @@ use Rattle.lay_measure.specs.MeasureInValue.{no_widths}
 use Rattle.lay_measure.specs.declared.preferred_widths.PreferredWidths.{PreferredWidths}
 use Rattle.lay_sizes.specs.declared.own_boxes.OwnBox.{OwnBox}
 use Rattle.lay_sizes.specs.OwnBoxes.{no_own_box}
+use Rattle.lay_context_sizes.specs.MeasuredContexts.{MeasuredContext, not_measured}
 use Rattle.lay_contexts.specs.FormattingContexts.{FormattingContext, formatting_context_at}
 use Rattle.lay_pieces.specs.Placements.{Placement}
 use Rattle.lay_positioned.specs.Absolute.{is_absolute}
@@ -20,17 +21,17 @@ flow_number contexts j = if is_absolute contexts j then 0 else j
 abbrev pub flow_numbers : List FormattingContext → ℕ → List ℕ
 flow_numbers contexts i = map (flow_number contexts) (formatting_context_at contexts i).inner
 
--- the preferred widths of the formatting context with this number
-abbrev pub widths_in : List PreferredWidths → ℕ → PreferredWidths
-widths_in widths i = slice_index_or widths i no_widths
+-- the preferred widths of the formatting context with this number, with the bounds of a table
+abbrev pub widths_in : List MeasuredContext → ℕ → MeasuredContext
+widths_in widths i = slice_index_or widths i not_measured
 
--- those of the inner one with this number, where 0 stands for none
-abbrev pub inner_widths_in : List PreferredWidths → ℕ → PreferredWidths
+-- the preferred widths of the inner one with this number, where 0 stands for none
+abbrev pub inner_widths_in : List MeasuredContext → ℕ → PreferredWidths
 inner_widths_in widths zero = no_widths
-inner_widths_in widths (suc j) = widths_in widths (suc j)
+inner_widths_in widths (suc j) = (widths_in widths (suc j)).widths
 
 -- those of the ones inside the one with the number i, among its boxes
-abbrev pub inner_widths : List FormattingContext → List PreferredWidths → ℕ → List PreferredWidths
+abbrev pub inner_widths : List FormattingContext → List MeasuredContext → ℕ → List PreferredWidths
 inner_widths contexts widths i = map (inner_widths_in widths) (flow_numbers contexts i)
 
 -- the own box of the inner one with this number, where 0 stands for none

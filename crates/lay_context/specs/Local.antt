@@ -2,7 +2,6 @@
 -- is given is plain data, in which no document and no number of a formatting context stands, and the value is its answer to that
 -- alone.
 use Rattle.std.specs.Prelude.{ℕ, ◌≡◌, Bool, true, false, List, length, slice_set, Option, None, Some, option_map}
-use Rattle.lay_measure.specs.MeasureInValue.{no_widths}
 use Rattle.lay_box_tree.specs.ContextBoxes.{AreContextBoxes}
 use Rattle.lay_table_sizes.specs.TableSizesValue.{TableSizesValue}
 use Rattle.lay_contexts.specs.FormattingContexts.{FormattingContext, boxes_in}
@@ -18,7 +17,8 @@ use Rattle.lay_context.specs.declared.input.Input.TheVariants as input
 use Rattle.lay_context.specs.declared.value.Value.{Value}
 use Rattle.lay_context.specs.declared.value.Value.TheVariants as value
 use Rattle.lay_context_sizes.specs.ContextSizes.{HasSizes}
-use Rattle.lay_context_sizes.specs.ContextWidths.{HasWidths}
+use Rattle.lay_context_sizes.specs.ContextWidths.{IsMeasured}
+use Rattle.lay_context_sizes.specs.MeasuredContexts.{not_measured}
 use Rattle.lay_context.specs.DocumentLayout.{inner_boxes, inner_pieces, inner_widths, widths_in}
 use Rattle.lay_context_sizes.specs.Inputs.{MeasureInput, SizeInput}
 use Rattle.lay_context.specs.Measured.{is_measured}
@@ -32,8 +32,8 @@ use Rattle.lay_context.specs.Workings.{Workings}
 -- A value is right beside what its task is given. What is sized and what is placed in block flow are the boxes of a formatting context,
 -- the own box before what is in it.
 abbrev pub IsLocal : Input → Value → Type 0
-IsLocal (input.Measure i) (value.Measure widths) = HasWidths i widths
-IsLocal input.Unmeasured (value.Measure widths) = widths ≡ no_widths
+IsLocal (input.Measure i) (value.Measure widths) = IsMeasured i widths
+IsLocal input.Unmeasured (value.Measure widths) = widths ≡ not_measured
 IsLocal (input.Size i) (value.Size sizes) = AreContextBoxes i.boxes × HasSizes i sizes
 IsLocal (input.Place i at) (value.Place answer) =
     AreContextBoxes i.boxes × IsPlacement i answer.placement × IsOwnOffset at answer.placement.own answer.offset
@@ -58,7 +58,7 @@ measure_as false i = input.Unmeasured
 abbrev pub size_input : Medium → List FormattingContext → Workings → ℕ → SizeInput
 size_input medium contexts w i = record {
   boxes = boxes_in contexts i;
-  widths = widths_in w.widths i;
+  measured = widths_in w.widths i;
   setting = setting_of medium.viewport contexts w i;
 }
 

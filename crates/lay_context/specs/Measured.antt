@@ -1,5 +1,5 @@
--- Which formatting contexts are measured: those whose own box may shrink to fit, or one around it (CSS 2.2, 10.3.5). The preferred
--- widths of others count for nothing, so they have none.
+-- Which formatting contexts are measured: those whose own box may shrink to fit, or one around it (CSS 2.2, 10.3.5), so each table of the
+-- automatic layout with its cells and captions (17.5.2.2). The preferred widths of others count for nothing, so they have none.
 use Rattle.std.specs.Prelude.{ℕ, zero, suc, ◌≡◌, ◌<◌, Bool, true, ◌||◌, List}
 use Rattle.lay_contexts.specs.FormattingContexts.{FormattingContext, boxes_in, formatting_context_at}
 use Rattle.lay_context_sizes.specs.ShrinkToFit.{shrinks_to_fit}

@@ -13,10 +13,9 @@ use crate::placed_context::PlacedContext;
 use crate::table_parts::TableParts;
 use crate::value::Value;
 use lay_abspos::{StandInput, own_offset};
-use lay_context_sizes::{MeasureInput, SizeInput, context_sizes, context_widths};
+use lay_context_sizes::{MeasureInput, MeasuredContext, SizeInput, context_sizes, context_widths};
 use lay_flow_boxes::{Asked, PlaceInput, contents_of};
 use lay_items::InlineContents;
-use lay_measure::NO_WIDTHS;
 use lay_pieces::Placement;
 use lay_placement::placement;
 use lay_table::table_placement;
@@ -29,7 +28,7 @@ pub fn compute(alloc: Global, input: &Input) -> Result<Value, NoMemory>
 {
     match input {
         Input::Measure(parts) => value_of_measure(alloc, parts.share(alloc)?),
-        Input::Unmeasured => Ok(Value::Measure(NO_WIDTHS)),
+        Input::Unmeasured => Ok(Value::Measure(MeasuredContext::none())),
         Input::Size(input) => value_of_size(alloc, input),
         Input::Place(parts, stand) => value_of_flow(alloc, parts.share(alloc)?, stand),
         Input::PlaceTable(parts, stand) => value_of_table(alloc, parts.share(alloc)?, stand),
@@ -82,7 +81,7 @@ pub(crate) fn compute_with(
 {
     match input {
         Input::Measure(parts) => measured(alloc, &parts.into_input(contents.share()?)),
-        Input::Unmeasured => Ok(Value::Measure(NO_WIDTHS)),
+        Input::Unmeasured => Ok(Value::Measure(MeasuredContext::none())),
         Input::Size(input) => value_of_size(alloc, &input),
         Input::Place(parts, stand) => {
             placed_in_flow(alloc, &parts.into_input(contents.share()?), &stand)

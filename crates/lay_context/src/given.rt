@@ -96,7 +96,8 @@ fn size_input<V: Values>(medium: &Medium, ready: &ReadyToSize<'_, V>) -> Result<
     let at = &ready.at;
     let boxes = at.formatting_context().boxes().share()?;
     let setting = setting_of(medium, ready)?;
-    Ok(SizeInput::new(boxes, at.known.widths(at.number), setting))
+    let measured = at.known.widths(at.number).share()?;
+    Ok(SizeInput::new(boxes, measured, setting))
 }
 
 fn place_input<V: Values>(
@@ -224,7 +225,7 @@ fn inner_widths_in<V: Values>(at: &KnownContext<'_, V>) -> PreferredWidths
     if at.number == 0 {
         return NO_WIDTHS;
     }
-    at.known.widths(at.number)
+    at.known.widths(at.number).widths()
 }
 
 /// The own boxes of the formatting contexts inside this one.

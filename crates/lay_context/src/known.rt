@@ -7,8 +7,7 @@ use crate::nothing_known::{no_pieces, not_placed, not_sized};
 use crate::placed_context::PlacedContext;
 use crate::value::Value;
 use crate::values::Values;
-use lay_context_sizes::SizedContext;
-use lay_measure::{NO_WIDTHS, PreferredWidths};
+use lay_context_sizes::{MeasuredContext, SizedContext};
 use lay_units::NoMemory;
 use std::alloc::Global;
 use std::marker::Model;
@@ -16,7 +15,7 @@ use std::marker::Model;
 /// A value for each formatting context and phase; those that aren't known yet are empty.
 #[derive(Drop)]
 pub(crate) struct Known {
-    widths: Vec<PreferredWidths>,
+    widths: Vec<MeasuredContext>,
     sizes: Vec<SizedContext>,
     places: Vec<PlacedContext>,
 }
@@ -39,12 +38,13 @@ impl Known {
         ensures sizes { IfOk result (λ k. length k.sizes ≡ count) }
         ensures places { IfOk result (λ k. length k.places ≡ count) }
     {
-        let widths = vec![in alloc; NO_WIDTHS; count]?;
+        let mut widths = Vec::with_capacity(alloc, count)?;
         let mut sizes = Vec::with_capacity(alloc, count)?;
         let mut places = Vec::with_capacity(alloc, count)?;
         let not_sized = not_sized(alloc)?;
         let no_pieces = no_pieces(alloc)?;
         for _known in 0..count {
+            widths.push(MeasuredContext::none())?;
             sizes.push(not_sized.share()?)?;
             places.push(not_placed(alloc, &no_pieces)?)?;
         }
@@ -71,8 +71,8 @@ impl Known {
 impl Values for Known {
     ghost workings = { λ k. k };
 
-    fn widths(&self, i: usize) -> PreferredWidths {
-        self.widths[i]
+    fn widths(&self, i: usize) -> &MeasuredContext {
+        &self.widths[i]
     }
 
     fn sizes(&self, i: usize) -> &SizedContext {

@@ -7,18 +7,17 @@ ghost use Rattle.lay_context.specs.Settings.{sizes_in};
 ghost use Rattle.lay_context.specs.Workings.{Workings};
 
 use crate::placed_context::PlacedContext;
-use lay_context_sizes::SizedContext;
-use lay_measure::PreferredWidths;
+use lay_context_sizes::{MeasuredContext, SizedContext};
 
 /// Who knows the values of the tasks of a document's formatting contexts, which are known by their numbers.
 pub trait Values {
     /// All of them, in columns.
     ghost workings: { Self → Workings };
 
-    /// The preferred widths of the formatting context with this number.
-    fn widths(&self, i: usize) -> PreferredWidths
+    /// The preferred widths of the formatting context with this number, with the bounds of a table.
+    fn widths(&self, i: usize) -> &MeasuredContext
         requires { i < length (workings self.now).widths }
-        ensures { result ≡ widths_in (workings self.now).widths i };
+        ensures { result.now ≡ widths_in (workings self.now).widths i };
 
     /// The used sizes of the formatting context with this number.
     fn sizes(&self, i: usize) -> &SizedContext

@@ -20,7 +20,7 @@ use Rattle.lay_box_tree.proofs.ContainerSteps.{container_before}
 use Rattle.lay_pieces.specs.ContainingBlocks.{block_around, block_in, height_holder}
 use Rattle.lay_box_tree.specs.BoxColumns.{box_at}
 use Rattle.lay_abspos.proofs.OneAbsoluteBox.{one_absolute_sizes_lem, one_stretched_height_lem, one_table_left_lem}
-use Rattle.lay_context_sizes.specs.ContextSizes.{IsSizedAs, IsStretchedIn, IsWrapperLeft, SizedContext}
+use Rattle.lay_context_sizes.specs.ContextSizes.{IsSizedAs, IsStretchedIn, IsWrapperLeft, SizedContext, table_rule}
 use Rattle.lay_context_sizes.specs.FlowSizes.{HasFlowSizes, IsBoxSized, IsOwnSized, inside_rule, own_rule_of}
 use Rattle.lay_context_sizes.specs.Inputs.{SizeInput, containing_block_in}
 use Rattle.lay_context_sizes.specs.Laws.{OneContextSizes}
@@ -47,7 +47,7 @@ one_own one_cell (Absolute s) w boxes y z m n a b = one_absolute_sizes_lem s (bo
 
 module _ (one_cell : OneCellSizes) (i : SizeInput) (x y : List BoxSizes) (m n : Length) (are : AreContextBoxes i.boxes) (a : HasFlowSizes i x m) (b : HasFlowSizes i y n) where
   own_same : (sizes_at x 0 ≡ sizes_at y 0) × (m ≡ n)
-  own_same = one_own one_cell i.setting i.widths i.boxes (sizes_at x 0) (sizes_at y 0) m n a.own b.own
+  own_same = one_own one_cell i.setting i.measured.widths i.boxes (sizes_at x 0) (sizes_at y 0) m n a.own b.own
 
   -- a box that isn't that of an inner context has its sizes, and another has none
   size_by : (k : ℕ) → 0 < k → k < length i.boxes → ((j : ℕ) → j < k → sizes_at x j ≡ sizes_at y j) → (inner : Bool) → is_inner i.boxes k ≡ inner → sizes_at x k ≡ sizes_at y k
@@ -88,7 +88,7 @@ record Same (x y : List BoxSizes) (t u : Option TableSizesValue) (m n : Length) 
 
 one_as : OneTableSizes → OneCellSizes → (b : Bool) (i : SizeInput) (x y : List BoxSizes) (t u : Option TableSizesValue) (m n : Length) → AreContextBoxes i.boxes → IsSizedAs b i x t m → IsSizedAs b i y u n → Same x y t u m n
 one_as one_table one_cell true i x y (Some t) (Some u) m n are p q =
-    let both = one_table (containing_block_in i.setting) _ i.boxes x y t u p.0 q.0 in
+    let both = one_table (containing_block_in i.setting) (table_rule i.boxes) i.measured.table i.boxes x y t u p.0 q.0 in
     let other : IsWrapperLeft i.setting (box_at i.boxes 0) (sizes_at x 0) n = subst (λ z. IsWrapperLeft i.setting (box_at i.boxes 0) (sizes_at z 0) n) (sym both.0) q.1 in
     record { boxes = both.0; table = ap Some both.1; left = one_left i.setting (box_at i.boxes 0) (sizes_at x 0) m n p.1 other }
 one_as one_table one_cell true i x y (Some t) None m n are p q = absurd q

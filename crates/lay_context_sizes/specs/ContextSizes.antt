@@ -1,7 +1,7 @@
 -- What a formatting context answers of sizes: the used sizes of its boxes (CSS 2.2, 10.2 to 10.7), and of a table also its grid, the
 -- widths of its columns and what its cells are given (17.5.2). Of an absolutely positioned one it also answers where it stands across
 -- (10.3.7), and its height where that is between `top` and `bottom` (10.6.4).
-use Rattle.std.specs.Prelude.{◌≡◌, Bool, true, false, List, [], slice_get, Option, None, Some, IfSome}
+use Rattle.std.specs.Prelude.{◌≡◌, Bool, true, false, List, [], Option, None, Some, IfSome}
 use Rattle.lay_units.specs.Units.{IsUsedSize}
 use Rattle.lay_units.specs.declared.length.Unit.{Unit as Length}
 use Rattle.lay_box_tree.specs.declared.box_tree.BoxNode.{BoxNode}
@@ -9,18 +9,16 @@ use Rattle.lay_box_tree.specs.declared.box_tree.BoxKind.{BoxKind}
 use Rattle.lay_box_tree.specs.declared.box_tree.BoxKind.TheVariants as kind
 use Rattle.lay_box_tree.specs.declared.box_tree.Flow.{Flow}
 use Rattle.lay_box_tree.specs.declared.box_tree.Flow.TheVariants.{InFlow}
-use Rattle.lay_measure.specs.declared.preferred_widths.PreferredWidths.{PreferredWidths}
 use Rattle.lay_sizes.specs.SizeColumns.{sizes_at}
 use Rattle.lay_sizes.specs.UsedLengths.{no_length}
 use Rattle.lay_sizes.specs.declared.sizing.BoxSizes.{BoxSizes}
 use Rattle.lay_table_sizes.specs.TableSizes.{HasTableSizes}
 use Rattle.lay_table_sizes.specs.TableSizesValue.{TableSizesValue}
 use Rattle.lay_table_sizes.specs.declared.table_rule.TableRule.{TableRule}
-use Rattle.lay_table_sizes.specs.declared.table_rule.TableRule.TheVariants.{Fills, ShrinksInto, ShrinksToFit}
+use Rattle.lay_table_sizes.specs.declared.table_rule.TableRule.TheVariants as rule
 use Rattle.lay_box_tree.specs.BoxColumns.{box_at}
 use Rattle.lay_abspos.specs.AbsoluteSizes.{IsStretchedHeight}
-use Rattle.lay_abspos.specs.AbsoluteTables.{IsTableLeft, table_room}
-use Rattle.lay_abspos.specs.declared.setting.AbsoluteSetting.{AbsoluteSetting}
+use Rattle.lay_abspos.specs.AbsoluteTables.{IsTableLeft}
 use Rattle.lay_context_sizes.specs.FlowSizes.{HasFlowSizes}
 use Rattle.lay_context_sizes.specs.Inputs.{SizeInput, containing_block_in}
 use Rattle.lay_context_sizes.specs.TableContexts.{is_table}
@@ -39,28 +37,18 @@ pub record SizedContext : Type 0 where
 abbrev pub not_sized : SizedContext
 not_sized = record { boxes = []; table = None; left = no_length; stretched = None }
 
--- A block-level table in flow is as wide as its containing block lets it be (10.3.3, 17.5.2), and what floats or is inline-level
--- shrinks to fit (10.3.5, 10.3.9).
-abbrev pub table_rule_as : PreferredWidths → Flow → BoxKind → TableRule
-table_rule_as w InFlow kind.Wrapper = Fills
-table_rule_as w _ _ = ShrinksToFit w.minimum w.preferred
+-- The margins of a block-level table in flow are those of a block (10.3.3). Of what floats, is inline-level or absolutely positioned
+-- auto ones are 0 (10.3.5, 10.3.9, 10.3.7).
+abbrev pub table_rule_as : Flow → BoxKind → TableRule
+table_rule_as InFlow kind.Wrapper = rule.Block
+table_rule_as _ _ = rule.ShrinkToFit
 
-abbrev pub flow_table_rule : PreferredWidths → Option BoxNode → TableRule
-flow_table_rule w None = Fills
-flow_table_rule w (Some b) = table_rule_as w b.flow b.kind
-
--- what an absolutely positioned table shrinks into
-abbrev pub absolute_table_rule : AbsoluteSetting → PreferredWidths → BoxNode → TableRule
-absolute_table_rule s w own = ShrinksInto (table_room s own.style) w.minimum w.preferred
-
-abbrev pub table_rule : Setting → PreferredWidths → List BoxNode → TableRule
-table_rule (Absolute s) w boxes = absolute_table_rule s w (box_at boxes 0)
-table_rule (Block containing) w boxes = flow_table_rule w (slice_get boxes 0)
-table_rule (Cell containing cell) w boxes = flow_table_rule w (slice_get boxes 0)
+abbrev pub table_rule : List BoxNode → TableRule
+table_rule boxes = table_rule_as (box_at boxes 0).flow (box_at boxes 0).kind
 
 abbrev pub IsTableSized : SizeInput → List BoxSizes → TableSizesValue → Type 0
 IsTableSized i sizes table =
-    HasTableSizes (containing_block_in i.setting) (table_rule i.setting i.widths i.boxes) i.boxes sizes table
+    HasTableSizes (containing_block_in i.setting) (table_rule i.boxes) i.measured.table i.boxes sizes table
 
 -- where the wrapper of a table stands across, which has these sizes
 abbrev pub IsWrapperLeft : Setting → BoxNode → BoxSizes → (left : Length) → Type 0

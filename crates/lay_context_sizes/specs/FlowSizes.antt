@@ -73,5 +73,5 @@ pub record HaveInsideSizes (boxes : List BoxNode) (sizes : List BoxSizes) : Type
 
 -- and so has the own box in its setting
 pub record HasFlowSizes (i : SizeInput) (sizes : List BoxSizes) (left : Length) : Type 0 where
-  pub own : IsOwnSized i.setting i.widths i.boxes (sizes_at sizes 0) left
+  pub own : IsOwnSized i.setting i.measured.widths i.boxes (sizes_at sizes 0) left
   pub inside : HaveInsideSizes i.boxes sizes

@@ -1,6 +1,6 @@
 -- What the widths and sizes of one formatting context are worked out of: its boxes with the preferred widths of inner ones and the
--- face of texts for its own preferred widths (CSS 2.2, 10.3.5), and its boxes with these and the setting of its own box for sizes
--- (10.1).
+-- face of texts for its own preferred widths (CSS 2.2, 10.3.5), and its boxes with what these say and the setting of its own box for
+-- sizes (10.1).
 use Rattle.std.specs.Prelude.{List}
 use Rattle.lay_units.specs.Units.{IsPosition}
 use Rattle.lay_box_tree.specs.declared.box_tree.BoxNode.{BoxNode}
@@ -8,6 +8,7 @@ use Rattle.lay_face.specs.FaceValue.{FaceValue}
 use Rattle.lay_measure.specs.declared.preferred_widths.PreferredWidths.{PreferredWidths}
 use Rattle.lay_sizes.specs.declared.sizing.ContainingBlock.{ContainingBlock}
 use Rattle.lay_box_tree.specs.ContextBoxes.{AreContextBoxes}
+use Rattle.lay_context_sizes.specs.MeasuredContexts.{MeasuredContext}
 use Rattle.lay_context_sizes.specs.declared.setting.Setting.{Setting}
 use Rattle.lay_abspos.specs.AbsoluteSettings.{SettingFits, block_in}
 use Rattle.lay_context_sizes.specs.declared.setting.Setting.TheVariants.{Absolute, Block, Cell}
@@ -19,7 +20,7 @@ pub record MeasureInput : Type 0 where
 
 pub record SizeInput : Type 0 where
   pub boxes : List BoxNode
-  pub widths : PreferredWidths
+  pub measured : MeasuredContext
   pub setting : Setting
 
 -- the containing block of an own box (10.1)

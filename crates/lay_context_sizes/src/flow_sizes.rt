@@ -45,12 +45,12 @@ pub(crate) fn flow_sizes(alloc: Global, input: &SizeInput) -> Result<SizedFlow, 
 
 /// The used sizes of the own box.
 fn own_sizes(input: &SizeInput) -> AbsoluteSizes
-    ensures own { IsOwnSized input.now.setting input.now.widths input.now.boxes result.sizes result.left }
+    ensures own { IsOwnSized input.now.setting input.now.measured.widths input.now.boxes result.sizes result.left }
     ensures fits { SizeFits result.sizes }
     ensures left { IsStart result.left.0 }
 {
     let boxes = input.context_boxes();
-    let widths = input.widths();
+    let widths = input.measured().widths();
     match input.setting() {
         Setting::Block(containing) => {
             in_flow(box_sizes(containing, own_rule_of(widths, boxes), boxes.style(0)))

@@ -6,6 +6,7 @@ ghost use Rattle.lay_box_tree.specs.ContextBoxes.{AreContextBoxes};
 ghost use Rattle.lay_box_tree.specs.BoxColumns.{box_at};
 ghost use Rattle.lay_context_sizes.specs.Inputs.{SizeInputFits};
 
+use crate::measured_context::MeasuredContext;
 use crate::setting::Setting;
 use lay_box_tree::{BoxNode, ContextBoxes};
 use lay_face::Face;
@@ -82,11 +83,11 @@ impl MeasureInput {
     }
 }
 
-/// The boxes of a formatting context, its preferred widths, and the setting of its own box.
+/// The boxes of a formatting context, its preferred widths with the bounds of a table, and the setting of its own box.
 #[derive(Drop)]
 pub struct SizeInput {
     boxes: ContextBoxes,
-    widths: PreferredWidths,
+    measured: MeasuredContext,
     setting: Setting,
 }
 
@@ -95,19 +96,19 @@ impl Model for SizeInput {
 
     ghost Value = { Plain };
 
-    ghost view = { λ i. record { boxes = i.boxes; widths = i.widths; setting = i.setting } };
+    ghost view = { λ i. record { boxes = i.boxes; measured = i.measured; setting = i.setting } };
 
-    ghost invariant = { λ i. SizeInputFits (record { boxes = i.boxes; widths = i.widths; setting = i.setting }) };
+    ghost invariant = { λ i. SizeInputFits (record { boxes = i.boxes; measured = i.measured; setting = i.setting }) };
 }
 
 impl SizeInput {
-    pub fn new(boxes: ContextBoxes, widths: PreferredWidths, setting: Setting) -> SizeInput
-        requires { SizeInputFits (record { boxes = boxes; widths = widths; setting = setting }) }
-        ensures { result ≡ record { boxes = boxes; widths = widths; setting = setting } }
+    pub fn new(boxes: ContextBoxes, measured: MeasuredContext, setting: Setting) -> SizeInput
+        requires { SizeInputFits (record { boxes = boxes; measured = measured; setting = setting }) }
+        ensures { result ≡ record { boxes = boxes; measured = measured; setting = setting } }
     {
         SizeInput {
             boxes,
-            widths,
+            measured,
             setting,
         }
     }
@@ -134,11 +135,11 @@ impl SizeInput {
         &self.boxes.as_slice()[0]
     }
 
-    /// Its preferred widths.
-    pub fn widths(&self) -> PreferredWidths
-        ensures { result ≡ self.now.widths }
+    /// Its preferred widths, with the bounds of a table.
+    pub fn measured(&self) -> &MeasuredContext
+        ensures { result.now ≡ self.now.measured }
     {
-        self.widths
+        &self.measured
     }
 
     /// The setting of its own box.

@@ -9,6 +9,7 @@
 mod flow_sizes;
 mod inputs;
 mod laws;
+mod measured_context;
 mod measuring;
 mod setting;
 mod shrink_to_fit;
@@ -18,6 +19,7 @@ mod table_contexts;
 
 pub use inputs::{MeasureInput, SizeInput};
 pub use laws::{one_context_sizes, one_context_widths, widths_count_where_shrunk};
+pub use measured_context::MeasuredContext;
 pub use measuring::context_widths;
 pub use setting::Setting;
 pub use shrink_to_fit::shrinks_to_fit;

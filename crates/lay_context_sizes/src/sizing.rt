@@ -1,11 +1,10 @@
 //! The used sizes of one formatting context.
 
-ghost use Rattle.std.specs.Prelude.{◌≡◌, ◌<◌, true, IfOk, length, slice_get};
+ghost use Rattle.std.specs.Prelude.{◌≡◌, ◌<◌, true, IfOk, length};
 ghost use Rattle.lay_sizes.specs.SizeBounds.{SizeFits};
 ghost use Rattle.lay_sizes.specs.SizeColumns.{HaveSizeBounds, sizes_at};
 ghost use Rattle.lay_abspos.specs.OffsetBounds.{IsStart};
-ghost use Rattle.lay_abspos.specs.AbsoluteSettings.{SettingFits};
-ghost use Rattle.lay_context_sizes.specs.ContextSizes.{HasSizes, IsStretchedIn, IsWrapperLeft, absolute_table_rule, flow_table_rule, table_rule, table_rule_as};
+ghost use Rattle.lay_context_sizes.specs.ContextSizes.{HasSizes, IsStretchedIn, IsWrapperLeft, table_rule_as};
 ghost use Rattle.lay_context_sizes.specs.Inputs.{OwnSettingFits};
 ghost use Rattle.lay_context_sizes.specs.ContextSizes.{IsStretchedSize};
 ghost use Rattle.lay_context_sizes.specs.TableContexts.{is_table};
@@ -15,9 +14,8 @@ use crate::inputs::SizeInput;
 use crate::setting::Setting;
 use crate::sized_context::SizedContext;
 use crate::table_contexts::is_table;
-use lay_abspos::{AbsoluteSetting, stretched_height, table_left, table_room};
+use lay_abspos::{stretched_height, table_left};
 use lay_box_tree::{BoxKind, BoxNode, Flow};
-use lay_measure::PreferredWidths;
 use lay_pieces::ContextSizes;
 use lay_sizes::{BoxSizes, NO_SIZES};
 use lay_table_sizes::{SizedTable, TableRule, table_sizes};
@@ -43,8 +41,9 @@ fn sized_table(alloc: Global, input: &SizeInput) -> Result<SizedContext, NoMemor
 {
     let boxes = input.boxes();
     let setting = input.setting();
-    let rule = table_rule(setting, input.widths(), boxes);
-    let sized = table_sizes(alloc, boxes, setting.containing(), rule)?;
+    let rule = table_rule(input.own());
+    let bounds = input.measured().table();
+    let sized = table_sizes(alloc, boxes, setting.containing(), rule, bounds)?;
     let sizes = ContextSizes::new(alloc, sized.boxes)?;
     let left = wrapper_left(setting, input.own(), sizes_at(sizes.as_slice(), 0));
     let stretched = stretched_in(setting, input.own());
@@ -88,51 +87,12 @@ fn sizes_at(sizes: &[BoxSizes], k: usize) -> BoxSizes
     }
 }
 
-/// Which rule gives a table its width, where these are its preferred widths.
-fn table_rule(setting: Setting, widths: PreferredWidths, boxes: &[BoxNode]) -> TableRule
-    requires setting { OwnSettingFits setting }
-    requires boxes { 0 < length boxes.now }
-    ensures { result ≡ table_rule setting widths boxes.now }
+/// Which rule gives a table with this wrapper its margins.
+fn table_rule(own: &BoxNode) -> TableRule
+    ensures { result ≡ table_rule_as own.now.flow own.now.kind }
 {
-    match setting {
-        Setting::Absolute(setting) => absolute_table_rule(&setting, widths, &boxes[0]),
-        Setting::Block(_) | Setting::Cell { .. } => flow_table_rule(widths, boxes),
-    }
-}
-
-/// What an absolutely positioned table shrinks into.
-fn absolute_table_rule(
-    setting: &AbsoluteSetting,
-    widths: PreferredWidths,
-    own: &BoxNode,
-) -> TableRule
-    requires { SettingFits setting.now }
-    ensures { result ≡ absolute_table_rule setting.now widths own.now }
-{
-    TableRule::ShrinksInto {
-        room: table_room(setting, &own.style),
-        preferred_minimum: widths.minimum,
-        preferred: widths.preferred,
-    }
-}
-
-fn flow_table_rule(widths: PreferredWidths, boxes: &[BoxNode]) -> TableRule
-    ensures { result ≡ flow_table_rule widths (slice_get boxes.now 0) }
-{
-    match boxes.get(0) {
-        Some(node) => table_rule_as(widths, node.flow, &node.kind),
-        None => TableRule::Fills,
-    }
-}
-
-fn table_rule_as(widths: PreferredWidths, flow: Flow, kind: &BoxKind) -> TableRule
-    ensures { result ≡ table_rule_as widths flow kind.now }
-{
-    match (flow, kind) {
-        (Flow::InFlow, BoxKind::Wrapper) => TableRule::Fills,
-        _ => TableRule::ShrinksToFit {
-            preferred_minimum: widths.minimum,
-            preferred: widths.preferred,
-        },
+    match (own.flow, &own.kind) {
+        (Flow::InFlow, BoxKind::Wrapper) => TableRule::Block,
+        _ => TableRule::ShrinkToFit,
     }
 }

@@ -12,6 +12,5 @@ pub mod Shown
 pub mod ShownKept
 pub mod ShownTrees
 pub mod Trees
-pub mod TurnSteps
 pub use Rattle.lay_document_cells.proofs.lay_cell_work as lay_cell_work
 pub use Rattle.lay_document_cells.proofs.lay_shape as lay_shape

@@ -12,7 +12,13 @@ use Rattle.lay_core.specs.State.{State}
 use Rattle.lay_core.specs.Publishing.{PublishesUnless, RefreshesTo, is_last, with_tree}
 use Rattle.lay_core.specs.Steps.{ShowsLatest, ShowsPresent}
 use Rattle.lay_core.specs.Work.{ChangesCells, MaySettle}
-use Rattle.lay_core.specs.Rounds.{IsQuiet}
+
+-- no call is answered
+pub record IsQuiet (s t : State) : Type 0 where
+  pub init : t.init ≡ s.init
+  pub face : t.face ≡ s.face
+  pub left : t.calls_left ≡ s.calls_left
+  pub call : calls t.history ≡ calls s.history
 
 same_quiet : (s t : State) → t ≡ s → IsQuiet s t
 same_quiet s t e = record {

@@ -7,12 +7,11 @@ use Rattle.lay_layout.specs.doc.declared.history.Entry.TheVariants.{Latest, Sync
 use Rattle.lay_document_cells.specs.State.{IsOfDocument, State as DocumentCells}
 use Rattle.lay_core.specs.State.{HasNumbers, IsKept, State, document_cells, with_cells}
 use Rattle.lay_core.specs.Publishing.{Publishes, PublishesUnless, RefreshesTo, is_last, is_version}
-use Rattle.lay_core.specs.Rounds.{IsQuiet}
 use Rattle.lay_core.specs.Steps.{ShowsLatest, ShowsPresent, called, is_due}
 use Rattle.lay_core.specs.Work.{ChangesCells, MaySettle}
 use Rattle.lay_core.proofs.CellWork.{IsWork, settle_work, stop_work}
 use Rattle.lay_core.proofs.Kept.{call_room, read_keeps, tree_keeps, work_keeps}
-use Rattle.lay_core.proofs.Quiet.{latest_quiet, present_quiet}
+use Rattle.lay_core.proofs.Quiet.{IsQuiet, latest_quiet, present_quiet}
 use Rattle.lay_core.proofs.Shown.{latest_follows, sync_follows}
 
 -- the cells of a core are changed by work on them

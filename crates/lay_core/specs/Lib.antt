@@ -5,7 +5,6 @@ pub mod Steps
 pub mod Claims
 pub mod CellLaws
 pub mod Laws
-pub mod Rounds
 pub mod Changes
 pub mod Parts
 pub use Rattle.lay_document_cells.specs.cell_work as cell_work

@@ -7,10 +7,6 @@
 //! is published, and `specs/Work.antt` and `Claims.antt` what work on the cells comes to. `specs/Laws.antt` says that what editors see is
 //! decided by what they saw before, but for want of memory, and `specs/CellLaws.antt` that no call but an edit makes a cell, drops one or
 //! dirties one. Histories are those of lay_history, and trees those of lay_context.
-//!
-//! `drive` has the editors of a run take turns: the first command of each, in rising order of editors, then the second ones,
-//! and so on; then it publishes the last version. Its contract is in the words of lay_history (`AnswersScripts`, `TakesTurns`,
-//! `IsWhole`); how far the scripts are answered meanwhile is said in `specs/Rounds.antt`.
 #![tactic(auto)]
 
 mod answers;
@@ -20,9 +16,7 @@ mod editing;
 mod editor_calls;
 mod laws;
 mod publishing;
-mod queue;
 mod showing;
-mod turns;
 
 pub use answers::Publish;
 pub use core_state::Core;
@@ -35,4 +29,3 @@ pub use lay_document_cells::{
     Answer, Idle, IdleKind, Next, Tally, cell_work as cell_work, claim_lists as claim_lists,
     shape as shape,
 };
-pub use turns::drive;

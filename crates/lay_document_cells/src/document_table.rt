@@ -124,7 +124,7 @@ impl DocumentTable {
         )
     }
 
-    /// The same where all but the styles of their boxes stay.
+    /// The same where all but the styles and texts of their boxes stay.
     pub(crate) fn measured_list(&self) -> MeasuredList<'_>
         ensures contexts { result.contexts.now ≡ self.now.lists.contexts }
         ensures formatting { result.formatting_contexts.now ≡ self.now.lists.formatting_contexts }
@@ -138,7 +138,7 @@ impl DocumentTable {
     }
 }
 
-/// What a table becomes by an edit. Where all but the styles of boxes stays, it is known of which contexts the boxes were made anew.
+/// What a table becomes by an edit. Where all but styles and texts of boxes stays, it is known of which contexts these were made anew.
 #[derive(Drop)]
 pub(crate) struct EditedTable {
     pub(crate) table: DocumentTable,

@@ -15,7 +15,7 @@ use std::thread;
 use std::thread::Threads;
 
 /// All editors, each on a thread of its own where one can be made; their passes, in their order. Once none is at work any more, the
-/// workers' loop is told so, also where memory was wanting and some never began.
+/// workers are told so, also where memory was wanting and some never began.
 pub(crate) fn edit_all<R: Threads + Wait + Sync, G: Gate + Sync>(
     rt: &R,
     session: &Session,
@@ -49,7 +49,7 @@ fn edit<R: Wait, G: Gate>(rt: &R, session: &Session, job: Job, gate: &G) -> Pass
     pass
 }
 
-/// One call of an editor. The gate is told before and after it, and the workers' loop that it has ended.
+/// One call of an editor. The gate is told before and after it, and the workers that it has ended.
 fn call<R: Wait, G: Gate>(rt: &R, session: &Session, pass: Pass, command: Cmd, gate: &G) -> Pass
     requires of { pass.table ≡ session.now.engine.table }
     requires left { 0 < pass.knows.left }

@@ -10,12 +10,13 @@ use crate::editors::edit_all;
 use crate::jobs::{Job, counts, paired};
 use crate::progress::Progress;
 use crate::session::Session;
-use crate::workers::work;
+use crate::workers::work_all;
 use lay_board::editing_core::Core;
 use lay_board::{Engine, Pass, Passes};
 use lay_layout::run::RunDoc;
 use lay_layout::units::NoMemory;
 use lay_outside::Gate;
+use lay_pool::{Hand, hands};
 use std::alloc::{AllocError, Global};
 use std::sync::Wait;
 use std::thread;
@@ -43,12 +44,13 @@ pub fn drive<R: Threads + Wait + Sync, G: Gate + Sync>(
     let (engine, passes) = Engine::start(alloc, doc, face, counts, calls)?;
     let Passes { closer, items } = passes;
     let jobs = paired(alloc, items, scripts)?;
+    let hands = hands(alloc, workers)?;
     let session = Session {
         engine,
         progress: Progress::new(),
         alloc,
     };
-    let items = run_all(rt, &session, jobs, workers, gate)?;
+    let items = run_all(rt, &session, hands, jobs, gate)?;
     let Session { engine, .. } = session;
     let Ok(mut core) = engine.close(rt, Passes { closer, items }) else {
         unreachable!()
@@ -57,25 +59,22 @@ pub fn drive<R: Threads + Wait + Sync, G: Gate + Sync>(
     Ok(core)
 }
 
-/// All editors beside the workers' loop, until both have ended; the passes of the editors, in their order.
+/// All editors beside the workers, until both have ended; the passes of the editors, in their order.
 fn run_all<R: Threads + Wait + Sync, G: Gate + Sync>(
     rt: &R,
     session: &Session,
+    hands: Vec<Hand>,
     jobs: Vec<Job>,
-    workers: u32,
     gate: &G,
 ) -> Result<Vec<Pass>, AllocError>
-    requires workers { (0 < workers) × (workers ≤ 16) }
     requires of { All (λ j. j.pass.table ≡ session.now.engine.table) jobs.items }
     requires left { All (λ j. length j.script ≤ j.pass.knows.left) jobs.items }
     ensures { IfOk result (λ v. AreRun jobs.items v.items) }
 {
-    // the loop comes last where no thread can be made for it, and so once all editors have ended
+    // the workers come last where no thread can be made for them, and so once all editors have ended
     let ((), passes) = thread::join(
         rt,
-        || -> ()
-            requires { (0 < workers) × (workers ≤ 16) }
-        { work(rt, session, workers, gate) },
+        move || -> () { work_all(rt, session, hands, gate) },
         move || -> Result<Vec<Pass>, AllocError>
             requires { All (λ j. j.pass.table ≡ session.now.engine.table) jobs.items
                 × All (λ j. length j.script ≤ j.pass.knows.left) jobs.items }

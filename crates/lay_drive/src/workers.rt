@@ -1,107 +1,117 @@
-//! The workers' loop.
+//! The workers of a run.
 
-ghost use Rattle.std.specs.Prelude.{◌<◌, ◌≤◌};
+ghost use Rattle.std.specs.Prelude.{◌≡◌, ◌≤◌, [], vec_capacity};
 
-use crate::progress::Ended;
 use crate::session::Session;
 use lay_board::Batch;
 use lay_board::editing_core::IdleKind;
+use lay_layout::units::NoMemory;
 use lay_outside::Gate;
-use lay_pool::claim_lists::ClaimList;
-use lay_pool::run_batch;
+use lay_pool::Hand;
+use lay_pool::claim_lists::{ClaimList, Outcome, Outcomes};
 use std::sync::Wait;
+use std::thread;
 use std::thread::Threads;
 
-/// How many turns may get claims or meet want of memory.
+/// How many turns of a worker may get claims or meet want of memory.
 const COUNTED_TURNS: u32 = 1_048_576;
 
 /// How many claims are taken at a time.
 const BATCH: u32 = 64;
 
-/// What a turn of the loop came to.
-#[derive(Drop)]
+/// What a turn of a worker came to.
+#[derive(Clone, Copy)]
 enum Turn {
-    /// There were claims, or memory was wanting. Claims that came back are to be tried again before others are taken.
-    Counted(Option<ClaimList>),
-    /// There was nothing to do, and something has ended since.
+    /// There were claims, or memory was wanting.
+    Counted,
+    /// There was nothing to do, and something has changed since.
     Quiet,
-    /// There is nothing to do, and no editor is left that could make work.
+    /// There is nothing to do, and nothing is left that could make work.
     Over,
 }
 
-/// Has workers compute what the engine claims, by the batch, until all editors have ended and nothing is left to claim, no claim can be
-/// numbered any more, or so many turns have passed. What is left then is settled by whoever closes the engine.
-pub(crate) fn work<R: Threads + Wait + Sync, G: Gate + Sync>(
+/// All workers, each on a thread of its own where one can be made. What they leave is settled by whoever closes the engine.
+pub(crate) fn work_all<R: Threads + Wait + Sync, G: Gate + Sync>(
     rt: &R,
     session: &Session,
-    workers: u32,
+    hands: Vec<Hand>,
     gate: &G,
-)
-    requires { (0 < workers) × (workers ≤ 16) }
-{
+) {
+    let one = |hand: Hand| -> () { work(rt, session, hand, gate) };
+    let _ended = thread::map_vec(rt, hands, &one);
+}
+
+/// A worker, until all editors have ended and nothing is left to claim or to steal, no claim can be numbered any more, or so many turns
+/// have passed.
+fn work<R: Wait, G: Gate>(rt: &R, session: &Session, mut hand: Hand, gate: &G) {
     let mut counted = 0;
-    let mut kept = None;
+    session.progress.come(rt);
     for _ in rt.forever() {
         if counted >= COUNTED_TURNS {
-            return;
+            break;
         }
-        match take_turn(rt, session, kept, workers, gate) {
-            Turn::Counted(back) => {
-                counted += 1;
-                kept = back;
-            }
-            Turn::Quiet => kept = None,
-            Turn::Over => return,
+        match take_turn(rt, session, &mut hand, gate) {
+            Turn::Counted => counted += 1,
+            Turn::Quiet => {}
+            Turn::Over => break,
         }
     }
+    session.progress.go(rt);
 }
 
-/// One turn.
-fn take_turn<R: Threads + Wait + Sync, G: Gate + Sync>(
-    rt: &R,
-    session: &Session,
-    kept: Option<ClaimList>,
-    workers: u32,
-    gate: &G,
-) -> Turn
-    requires { (0 < workers) × (workers ≤ 16) }
-{
-    if let Some(claims) = kept {
-        return Turn::Counted(compute(rt, session, claims, workers, gate));
-    }
-    // read before the claim, so that an end between the two wakes the loop
-    let ended = session.progress.now(rt);
+/// One turn: a worker takes claims, where there are any, and computes them, or else those of others.
+fn take_turn<R: Wait, G: Gate>(rt: &R, session: &Session, hand: &mut Hand, gate: &G) -> Turn {
+    // read before anything is looked for, so that a change behind that wakes the worker
+    let seen = session.progress.changes(rt);
+    let Ok(room) = Vec::with_capacity(session.alloc, BATCH as usize) else {
+        return Turn::Counted;
+    };
     match session.engine.claim_batch(rt, session.alloc, BATCH) {
-        Ok(Batch::Claims(claims)) => Turn::Counted(compute(rt, session, claims, workers, gate)),
-        Ok(Batch::Idle(idle)) => stand_by(rt, session, idle.kind(), ended),
-        Err(_) => Turn::Counted(None),
+        Ok(Batch::Claims(claims)) => {
+            deal(rt, session, hand, claims, room);
+            let _turn = finish(rt, session, hand.work(session.alloc, gate));
+            Turn::Counted
+        }
+        Ok(Batch::Idle(idle)) if matches!(idle.kind(), IdleKind::Spent) => Turn::Over,
+        Ok(Batch::Idle(_)) => match finish(rt, session, hand.work(session.alloc, gate)) {
+            Turn::Quiet => stand_by(rt, session, seen),
+            turn => turn,
+        },
+        Err(_) => Turn::Counted,
     }
 }
 
-/// The workers compute claims, and what comes of them is finished. Where memory runs out before the first, the claims come back.
-fn compute<R: Threads + Wait + Sync, G: Gate + Sync>(
-    rt: &R,
-    session: &Session,
-    claims: ClaimList,
-    workers: u32,
-    gate: &G,
-) -> Option<ClaimList>
-    requires { (0 < workers) × (workers ≤ 16) }
+/// A worker is dealt claims, which others may steal. Those that there is no memory for are given back.
+fn deal<R: Wait>(rt: &R, session: &Session, hand: &mut Hand, claims: ClaimList, room: Vec<Outcome>)
+    requires { (room.items ≡ []) × (64 ≤ vec_capacity room) }
 {
-    match run_batch(rt, session.alloc, claims, workers, gate) {
+    let several = claims.len() > 1;
+    let refused = hand.deal(claims, room);
+    if refused.len() > 0 {
+        let _tally = session.engine.finish_all(rt, refused);
+    }
+    if several {
+        session.progress.share(rt);
+    }
+}
+
+/// What came of claims is finished. Quiet where there were none.
+fn finish<R: Wait>(rt: &R, session: &Session, outcomes: Result<Outcomes, NoMemory>) -> Turn {
+    match outcomes {
+        Ok(outcomes) if outcomes.len() == 0 => Turn::Quiet,
         Ok(outcomes) => {
             let _tally = session.engine.finish_all(rt, outcomes);
-            None
+            Turn::Counted
         }
-        Err((_, claims)) => Some(claims),
+        Err(_) => Turn::Counted,
     }
 }
 
-/// A turn that got no claim: waits until something has ended, unless nothing is to be waited for.
-fn stand_by<R: Wait>(rt: &R, session: &Session, idle: IdleKind, ended: Ended) -> Turn {
-    if ended.all || matches!(idle, IdleKind::Spent) {
-        return Turn::Over;
+/// A worker for which there is nothing to do waits until something has changed, unless nothing is to be waited for.
+fn stand_by<R: Wait>(rt: &R, session: &Session, seen: u64) -> Turn {
+    if session.progress.wait_past(rt, seen) {
+        Turn::Quiet
+    } else {
+        Turn::Over
     }
-    session.progress.wait_past(rt, ended.count);
-    Turn::Quiet
 }

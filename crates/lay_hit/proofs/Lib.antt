@@ -13,6 +13,7 @@ pub mod Passing
 pub mod Nearest
 pub mod Asked
 pub mod NotedPieces
+pub mod NodePieceLists
 pub mod Counts
 pub mod Walks
 pub mod PaintedOnce

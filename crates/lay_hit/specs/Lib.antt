@@ -5,10 +5,12 @@ pub mod Pages
 pub mod Painting
 pub mod Hits
 pub mod HitLines
+pub mod MovedPieces
 pub mod Ranks
 pub mod Wholes
 pub mod OrderedPages
 pub mod Questions
+pub mod NodePieces
 pub mod Fronts
 pub mod Waiting
 pub mod Laws

@@ -8,10 +8,10 @@ ghost use Rattle.lay_hit.specs.Fronts.{front_from, front_in};
 ghost use Rattle.lay_hit.specs.Waiting.{AreWaiting, nobody, passed_on};
 
 use crate::kinds::{PaintKind, kind_at};
+use crate::node_pieces::NodePieces;
 use crate::question::Question;
 use crate::waiting::{Waiting, all_passed, both_waiting, front_in};
 use lay_doc::parent_at;
-use lay_frag::Frag;
 use lay_units::NoMemory;
 use std::alloc::Global;
 
@@ -20,7 +20,7 @@ use std::alloc::Global;
 pub(crate) fn fronts(
     alloc: Global,
     q: &Question<'_>,
-    noted: &[Option<Frag>],
+    noted: &NodePieces,
 ) -> Result<Vec<Waiting>, NoMemory>
     requires styles { length q.now.styles.now ≡ length q.now.doc.now.nodes }
     requires noted { AreNoted q.now (frags_of q.now.tree.now) noted.now }
@@ -40,7 +40,7 @@ pub(crate) fn fronts(
 }
 
 /// Passes what waits at the node at k on to its parent, and the node itself where a piece is seen in it.
-fn pass(q: &Question<'_>, noted: &[Option<Frag>], fronts: &mut Vec<Waiting>, k: usize)
+fn pass(q: &Question<'_>, noted: &NodePieces, fronts: &mut Vec<Waiting>, k: usize)
     requires styles { length q.now.styles.now ≡ length q.now.doc.now.nodes }
     requires noted { AreNoted q.now (frags_of q.now.tree.now) noted.now }
     requires valid { IsDocument q.now.doc.now }
@@ -54,7 +54,7 @@ fn pass(q: &Question<'_>, noted: &[Option<Frag>], fronts: &mut Vec<Waiting>, k: 
 }
 
 /// What then waits at the parent of the node at k.
-fn passed_on(q: &Question<'_>, noted: &[Option<Frag>], fronts: &[Waiting], k: usize) -> Waiting
+fn passed_on(q: &Question<'_>, noted: &NodePieces, fronts: &[Waiting], k: usize) -> Waiting
     requires styles { length q.now.styles.now ≡ length q.now.doc.now.nodes }
     requires noted { AreNoted q.now (frags_of q.now.tree.now) noted.now }
     requires valid { IsDocument q.now.doc.now }
@@ -73,20 +73,14 @@ fn passed_on(q: &Question<'_>, noted: &[Option<Frag>], fronts: &[Waiting], k: us
 }
 
 /// Whether a piece is seen in the node at k, of this kind and with what waits there.
-fn is_seen(
-    q: &Question<'_>,
-    noted: &[Option<Frag>],
-    kind: PaintKind,
-    here: Waiting,
-    k: usize,
-) -> bool
+fn is_seen(q: &Question<'_>, noted: &NodePieces, kind: PaintKind, here: Waiting, k: usize) -> bool
     requires styles { length q.now.styles.now ≡ length q.now.doc.now.nodes }
     requires group { here.group < length q.now.doc.now.nodes }
     requires owner { here.owner < length q.now.doc.now.nodes }
     requires place { k < length noted.now }
     ensures { result ≡ (is_some (slice_index_or noted.now k None) || not (front_in (page q.now) kind here == 0)) }
 {
-    noted[k].is_some() || front_in(q, kind, here) != 0
+    noted.has(k) || front_in(q, kind, here) != 0
 }
 
 /// The frontmost of the nodes that the one at k paints in which a piece is seen; 0 is none.
@@ -102,13 +96,13 @@ pub(crate) fn front_at(q: &Question<'_>, fronts: &[Waiting], k: usize) -> usize
 }
 
 /// Whether a piece is seen in the node at k, or in one that waits there.
-fn is_reached(fronts: &[Waiting], noted: &[Option<Frag>], k: usize) -> bool
+fn is_reached(fronts: &[Waiting], noted: &NodePieces, k: usize) -> bool
     requires fronts { k < length fronts.now }
     requires noted { k < length noted.now }
     ensures { result ≡ (is_some (slice_index_or noted.now k None) || (not ((slice_index_or fronts.now k nobody).group == 0) || not ((slice_index_or fronts.now k nobody).owner == 0))) }
 {
     let here = waiting_at(fronts, k);
-    noted[k].is_some() || here.group != 0 || here.owner != 0
+    noted.has(k) || here.group != 0 || here.owner != 0
 }
 
 /// What waits at a node.

@@ -8,6 +8,7 @@ ghost use Rattle.lay_hit.specs.Questions.{AreNoted};
 ghost use Rattle.lay_hit.specs.Waiting.{AreWaiting};
 
 use crate::fronts::{front_at, fronts};
+use crate::node_pieces::NodePieces;
 use crate::noted::noted;
 use crate::point::Point;
 use crate::question::Question;
@@ -42,7 +43,7 @@ pub fn hit(
 }
 
 /// From the root on, the frontmost node that has a piece at the point.
-fn frontmost(q: &Question<'_>, noted: &[Option<Frag>], fronts: &[Waiting]) -> Option<Frag>
+fn frontmost(q: &Question<'_>, noted: &NodePieces, fronts: &[Waiting]) -> Option<Frag>
     requires styles { length q.now.styles.now ≡ length q.now.doc.now.nodes }
     requires valid { IsDocument q.now.doc.now }
     requires noted { AreNoted q.now (frags_of q.now.tree.now) noted.now }
@@ -55,5 +56,5 @@ fn frontmost(q: &Question<'_>, noted: &[Option<Frag>], fronts: &[Waiting]) -> Op
         at = next;
         next = front_at(q, fronts, at);
     }
-    noted[at]
+    noted.get(at)
 }

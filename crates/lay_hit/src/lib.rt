@@ -11,6 +11,7 @@ mod hit_testing;
 mod kinds;
 mod laws;
 mod line;
+mod node_pieces;
 mod noted;
 mod point;
 mod question;

@@ -4,6 +4,7 @@ ghost use Rattle.std.specs.Prelude.{◌≡◌, ◌<◌, ◌+ℤ◌, Some, length
 ghost use Rattle.lay_units.specs.Units.{IsPosition, IsSum};
 ghost use Rattle.lay_frag.specs.Pieces.{page_pieces, moved, IsContextInRange, IsRectInRange};
 ghost use Rattle.lay_hit.specs.Hits.{holds, is_from, is_in};
+ghost use Rattle.lay_hit.specs.MovedPieces.{AreMoved};
 
 use lay_frag::{Frag, Placed};
 use lay_units::{Rect, Unit};
@@ -15,18 +16,38 @@ pub struct Point {
     pub y: Unit,
 }
 
+/// The pieces of a context, and how far to the right and down all but the first stand on the page.
+#[derive(Clone, Copy)]
+pub(crate) struct MovedPieces<'a> {
+    pub pieces: &'a [Frag],
+    pub right: Unit,
+    pub down: Unit,
+}
+
+/// The pieces of a context, which are asked about one by one.
+pub(crate) fn moved_pieces(placed: &Placed) -> MovedPieces<'_>
+    requires { IsContextInRange placed.now }
+    ensures { AreMoved placed.now result }
+{
+    let rect = placed.rect();
+    MovedPieces {
+        pieces: placed.pieces(),
+        right: rect.x,
+        down: further(rect.y, placed.shift()),
+    }
+}
+
 /// Whether the piece with this number holds the point, where it stands on the page.
-pub(crate) fn holds_at(placed: &Placed, k: usize, at: Point) -> bool
+pub(crate) fn holds_at(placed: &Placed, moved: MovedPieces<'_>, k: usize, at: Point) -> bool
     requires range { IsContextInRange placed.now }
+    requires moved { AreMoved placed.now moved }
     requires place { k < length placed.now.pieces }
     ensures { IfSome (slice_get (page_pieces placed.now) k) (λ f. result ≡ holds at.x.0 at.y.0 f) }
 {
-    let rect = placed.rect();
     if k == 0 {
-        return is_in(at, rect);
+        return is_in(at, placed.rect());
     }
-    let down = further(rect.y, placed.shift());
-    is_in_moved(at, piece_at(placed.pieces(), k), rect.x, down)
+    is_in_moved(at, piece_at(moved.pieces, k), moved.right, moved.down)
 }
 
 /// Whether a piece holds the point that stands so far to the right and down. Most pieces of a page stand above the point or

@@ -1,18 +1,29 @@
 -- What of contexts stays with their links.
-use Rattle.std.proofs.Common.{◌≡◌, inl, inr, ℕ, zero, suc, ◌≤◌, ◌&&◌, Bool, true, false, List, [], ◌∷◌, length, refl, ap, sym, ◌∙◌, arith, Option, Some, if◌then◌else◌, slice_index, slice_index_or}
+use Rattle.std.proofs.Common.{◌≡◌, inl, inr, ℕ, zero, suc, ◌≤◌, ◌&&◌, Bool, true, false, List, [], ◌∷◌, length, refl, ap, sym, ◌∙◌, arith, Option, Some, if◌then◌else◌, map, slice_index, slice_index_or}
 use Rattle.std.proofs.lemmas.Bool.{cases_lt}
+use Rattle.std.proofs.Math.Path.{fun_ext}
 use Rattle.lay_layout.specs.box_tree.BoxColumns.{box_at}
 use Rattle.lay_layout.specs.box_tree.Containers.{box_parent}
+use Rattle.lay_layout.specs.box_tree.declared.box_tree.BoxKind.{BoxKind}
+use Rattle.lay_layout.specs.box_tree.declared.box_tree.BoxKind.TheVariants.{Text}
 use Rattle.lay_layout.specs.box_tree.declared.box_tree.BoxNode.{BoxNode}
 use Rattle.lay_layout.specs.contexts.Contexts.{Context, boxes_in, context_at, no_context}
 use Rattle.lay_layout.specs.positioned.Absolute.{is_absolute_flow, is_fixed_position, is_own_absolute, is_own_fixed}
-use Rattle.lay_layout.specs.positioned.Holders.{can_hold, holder_for, is_holder_at, is_positioned, nearest_in}
+use Rattle.lay_layout.specs.positioned.Holders.{can_hold, holder_for, is_holder, is_holder_at, is_positioned, nearest_in}
 use Rattle.lay_shape.specs.Keys.{node_of}
 use Rattle.lay_later_contexts.specs.Links.{AreRestyled, HasLinks}
-use Rattle.lay_later_contexts.specs.Unstyled.{Unstyled, all_unstyled, unstyled}
+use Rattle.lay_later_contexts.specs.Unstyled.{Unstyled, all_unstyled, bare_kind, unstyled}
 use Rattle.lay_later_contexts.proofs.LaterList.{column}
 
--- boxes that are the same but for their styles
+-- a text holds no absolutely positioned box, whichever it is
+bare-holds : (k : BoxKind) → can_hold (bare_kind k) ≡ can_hold k
+bare-holds (Text text) = refl
+bare-holds _ = refl
+
+bare-holders : (xs : List BoxNode) → map is_holder xs ≡ map (λ b. is_positioned b.style.position && can_hold (bare_kind b.kind)) xs
+bare-holders xs = ap (λ (f : BoxNode → Bool). map f xs) (fun_ext (λ b. ap (λ (h : Bool). is_positioned b.style.position && h) (sym (bare-holds b.kind))))
+
+-- boxes that are the same but for their styles and texts
 module _ (xs ys : List BoxNode) (e : all_unstyled xs ≡ all_unstyled ys) where
   pub same-absolute : is_own_absolute xs ≡ is_own_absolute ys
   same-absolute = ap (λ bs. slice_index_or bs 0 false) (column (λ u. is_absolute_flow u.flow) xs ys e)
@@ -21,7 +32,7 @@ module _ (xs ys : List BoxNode) (e : all_unstyled xs ≡ all_unstyled ys) where
   same-fixed = ap (λ bs. slice_index_or bs 0 false) (column (λ u. is_fixed_position u.position) xs ys e)
 
   same-holder : (k : ℕ) → is_holder_at xs k ≡ is_holder_at ys k
-  same-holder k = ap (λ bs. slice_index_or bs k false) (column (λ u. is_positioned u.position && can_hold u.kind) xs ys e)
+  same-holder k = ap (λ bs. slice_index_or bs k false) (bare-holders xs ∙ (column (λ u. is_positioned u.position && can_hold u.kind) xs ys e ∙ sym (bare-holders ys)))
 
   same-parent : (k : ℕ) → box_parent xs k ≡ box_parent ys k
   same-parent k = ap (λ ps. slice_index ps k) (column (λ u. u.parent) xs ys e)

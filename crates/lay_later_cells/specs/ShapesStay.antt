@@ -1,5 +1,5 @@
--- Where an edit leaves a document's contexts but for the styles of their boxes (CSS 2.2, 9.4.1), it leaves the shape of their cells: which
--- there are, in which order, and what each depends on.
+-- Where an edit leaves a document's contexts but for the styles and texts of their boxes (CSS 2.2, 9.4.1), it leaves the shape of their
+-- cells: which there are, in which order, and what each depends on.
 use Rattle.std.specs.Prelude.{◌≡◌, Bool, List}
 use Rattle.lay_layout.specs.contexts.Contexts.{Context}
 use Rattle.lay_later_contexts.specs.Links.{AreRestyled}

@@ -2,7 +2,7 @@
 
 ghost use Rattle.lay_later_cells.specs.ShapesStay.{ShapesStay};
 
-/// Contexts that keep all but the styles of their boxes keep the shape of their cells.
+/// Contexts that keep all but the styles and texts of their boxes keep the shape of their cells.
 pub fn shapes_stay()
     ensures { ShapesStay }
 {}

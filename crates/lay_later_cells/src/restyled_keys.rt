@@ -1,4 +1,4 @@
-//! The keys of the cells that an edit changes by itself, where it leaves all of the contexts but the styles of their boxes.
+//! The keys of the cells that an edit changes by itself, where it leaves all of the contexts but the styles and texts of their boxes.
 
 ghost use Rattle.std.specs.Prelude.{◌≡◌, ◌<◌, ◌+◌, ◌++◌, ◌∷◌, [], ◌↔◌, IsTrue, IfOk, OnOk, length};
 ghost use Rattle.lay_layout.specs.contexts.Contexts.{boxes_in};

@@ -1,5 +1,5 @@
--- Two nodes with the same content and with alike styles generate the same box by themselves.
-use Rattle.std.proofs.Common.{◌≡◌, inl, inr, ℕ, ◌<◌, ◌==◌, Bool, false, List, [], ◌∷◌, length, refl, ap, sym, ◌∙◌, arith, Option, Some, if◌then◌else◌, option_map}
+-- Two nodes of one kind with alike styles and texts generate the same box by themselves.
+use Rattle.std.proofs.Common.{◌≡◌, ◌⊎◌, inl, inr, ℕ, ◌<◌, ◌==◌, Bool, true, false, List, [], ◌∷◌, length, refl, ap, sym, ◌∙◌, arith, Option, Some, if◌then◌else◌, option_map, slice_get}
 use Rattle.std.proofs.lemmas.Bool.{cases_lt}
 use Rattle.std.proofs.lemmas.Option.{slice_get_past}
 use Rattle.lay_style.specs.declared.style.Style.{Style}
@@ -18,12 +18,13 @@ use Rattle.lay_box_tree.specs.declared.box_tree.Flow.TheVariants.{InFlow, Floati
 use Rattle.lay_anonymous_boxes.specs.declared.facts.Facts.{Facts}
 use Rattle.lay_anonymous_boxes.specs.declared.facts.Form.{Form}
 use Rattle.lay_anonymous_boxes.specs.declared.facts.Form.TheVariants as form
+use Rattle.lay_anonymous_boxes.specs.declared.facts.TextForm.TheVariants.{Seen}
 use Rattle.lay_boxgen.specs.Contexts.{box_at, box_of_node}
 use Rattle.lay_boxgen.specs.Display.{element_form, flow_of, is_floated, is_out_of_flow_position, replaced_display, used_display}
 use Rattle.lay_boxgen.specs.NodeBoxes.{establishes_context, form_of, node_box, node_flow, replaced_form}
-use Rattle.lay_boxgen.specs.WhiteSpace.{text_form}
+use Rattle.lay_boxgen.specs.WhiteSpace.{text_form, white_form}
 use Rattle.lay_own_nodes.proofs.SameTrees.{SameNode}
-use Rattle.lay_later_contexts.specs.Reach.{IsAlike}
+use Rattle.lay_later_contexts.specs.Reach.{IsAlike, IsSeen}
 
 abbrev flow_by : Position → Float → Flow
 flow_by p f = if is_out_of_flow_position p then Absolute else (if is_floated f then Floating else InFlow)
@@ -46,6 +47,36 @@ node-flow-alike (Element colspan rowspan) s t a = flow-alike s t a
 node-flow-alike Text s t a = refl
 node-flow-alike (Replaced w h) s t a = flow-alike s t a
 
+-- texts that are one, or of which a box is generated whatever the style is
+abbrev pub AreTextsAlike : List ℕ → List ℕ → Type 0
+AreTextsAlike xs ys = (xs ≡ ys) ⊎ (IsSeen xs × IsSeen ys)
+
+form-seen : (r : Bool) (text : List ℕ) (s : Style) → IsSeen text → form_of r Text text s ≡ Some (form.Text Seen)
+form-seen r [] s seen = absurd (let z : true ≡ false = seen in cc)
+form-seen r (b ∷ bs) s seen = ap (λ (a : Bool). Some (form.Text (if a then white_form s.text.white_space (b ∷ bs) else Seen))) seen
+
+form-by-seen : (r : Bool) (kind : Kind) (xs ys : List ℕ) (s : Style) → IsSeen xs → IsSeen ys → form_of r kind xs s ≡ form_of r kind ys s
+form-by-seen r (Element colspan rowspan) xs ys s here there = refl
+form-by-seen r Text xs ys s here there = form-seen r xs s here ∙ sym (form-seen r ys s there)
+form-by-seen r (Replaced w h) xs ys s here there = refl
+
+form-by-text : (r : Bool) (kind : Kind) (xs ys : List ℕ) (s : Style) → AreTextsAlike xs ys → form_of r kind xs s ≡ form_of r kind ys s
+form-by-text r kind xs ys s (inl e) = ap (λ (x : List ℕ). form_of r kind x s) e
+form-by-text r kind xs ys s (inr seen) = form-by-seen r kind xs ys s seen.0 seen.1
+
+-- nodes at one place of two lists that differ in declarations alone, and in such texts
+pub record AlikeNode (ns ms : List Node) (k : ℕ) : Type 0 where
+  pub one : Node
+  pub other : Node
+  pub here : slice_get ns k ≡ Some one
+  pub there : slice_get ms k ≡ Some other
+  pub id : one.id ≡ other.id
+  pub kind : one.kind ≡ other.kind
+  pub text : AreTextsAlike one.text other.text
+
+pub alike-of-same : (ns ms : List Node) (k : ℕ) → SameNode ns ms k k → AlikeNode ns ms k
+alike-of-same ns ms k s = record { one = s.one; other = s.other; here = s.here; there = s.there; id = s.id; kind = s.kind; text = inl s.text }
+
 abbrev made : ℕ → NodeId → Flow → Overflow → Option Form → Option Facts
 made k id flow overflow o = option_map (λ x. record {
   node = id;
@@ -56,16 +87,16 @@ made k id flow overflow o = option_map (λ x. record {
   inner = establishes_context (k == 0) flow x overflow;
 }) o
 
-alike-box : (k : ℕ) (n o : Node) (s t : Style) → n.id ≡ o.id → n.kind ≡ o.kind → n.text ≡ o.text → IsAlike s t → node_box k n s ≡ node_box k o t
+alike-box : (k : ℕ) (n o : Node) (s t : Style) → n.id ≡ o.id → n.kind ≡ o.kind → AreTextsAlike n.text o.text → IsAlike s t → node_box k n s ≡ node_box k o t
 alike-box k n o s t id kind text a =
     ap (λ (i : NodeId). made k i (node_flow n.kind s) s.overflow (form_of (k == 0) n.kind n.text s)) id
     ∙ (ap (λ (x : Kind). made k o.id (node_flow x s) s.overflow (form_of (k == 0) x n.text s)) kind
-    ∙ (ap (λ (x : List ℕ). made k o.id (node_flow o.kind s) s.overflow (form_of (k == 0) o.kind x s)) text
+    ∙ (ap (λ (f : Option Form). made k o.id (node_flow o.kind s) s.overflow f) (form-by-text (k == 0) o.kind n.text o.text s text)
     ∙ (ap (λ (f : Flow). made k o.id f s.overflow (form_of (k == 0) o.kind o.text s)) (node-flow-alike o.kind s t a)
     ∙ (ap (λ (v : Overflow). made k o.id (node_flow o.kind t) v (form_of (k == 0) o.kind o.text s)) a.overflow
     ∙ ap (made k o.id (node_flow o.kind t) t.overflow) (form-alike (k == 0) o.kind o.text s t a)))))
 
-pub same-box : (ns ms : List Node) (ss ts : List Style) (k : ℕ) → SameNode ns ms k k → IsAlike (style_at ss k) (style_at ts k) → box_at ms ts k ≡ box_at ns ss k
+pub same-box : (ns ms : List Node) (ss ts : List Style) (k : ℕ) → AlikeNode ns ms k → IsAlike (style_at ss k) (style_at ts k) → box_at ms ts k ≡ box_at ns ss k
 same-box ns ms ss ts k s a =
     ap (λ (o : Option Node). box_of_node k o (style_at ts k)) s.there
     ∙ (sym (alike-box k s.one s.other (style_at ss k) (style_at ts k) s.id s.kind s.text a) ∙ sym (ap (λ (o : Option Node). box_of_node k o (style_at ss k)) s.here))

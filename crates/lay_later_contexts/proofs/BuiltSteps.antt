@@ -1,4 +1,4 @@
--- A context that is built of one before an edit of declarations.
+-- A context that is built of one before an edit of declarations or a text.
 use Rattle.std.proofs.Common.{◌≡◌, inl, inr, ℕ, ◌<◌, ◌≤◌, Bool, false, List, [], length, ap, sym, subst, ◌∙◌, arith, slice_index}
 use Rattle.std.proofs.lemmas.List.{get_or-map}
 use Rattle.lay_style.specs.declared.style.Style.{Style}
@@ -20,9 +20,10 @@ use Rattle.lay_later_contexts.specs.Edited.{IsEdited}
 use Rattle.lay_later_contexts.specs.Reach.{ArePlacesOf, IsReach, IsReachedContext, IsRestyled}
 use Rattle.lay_later_contexts.specs.declared.reach.Reach.{Reach}
 use Rattle.lay_later_contexts.specs.Unstyled.{all_unstyled}
+use Rattle.lay_later_contexts.proofs.AlikeBoxes.{AlikeNode}
 use Rattle.lay_later_contexts.proofs.LaterList.{later-are}
 use Rattle.lay_later_contexts.proofs.Outward.{kept-boxes}
-use Rattle.lay_later_contexts.proofs.Restyling.{Restyling, restyling-of, same-boxes}
+use Rattle.lay_later_contexts.proofs.Restyling.{Restyling, restyling-of, same-boxes, subject-alike}
 use Rattle.lay_later_contexts.proofs.SameBoxes.{SameBoxes, same-context}
 
 pub from-within : (d : Document) (styles : List Style) (places : List ℕ) (id : ℕ) (r : Reach) → IsReach d.nodes styles places id r → r.from < length d.nodes
@@ -46,10 +47,13 @@ module _ (d e : Document) (ss ts : List Style) (edit : Edit) (contexts : List Co
   has = from-within d ss places is.id r is.reach
 
   restyling : Restyling d e ss ts r.from
-  restyling = restyling-of d e ss ts edit is.id r.from doc edited is.restyling is.reach.subject
+  restyling = restyling-of d e ss ts edit is.id r.from doc edited is.change is.reach.subject
+
+  subject : AlikeNode d.nodes e.nodes r.from
+  subject = subject-alike d e ss ts edit is.id r.from edited is.change is.reach.subject is.text
 
   same : SameBoxes d.nodes e.nodes ss ts
-  same = same-boxes d e ss ts r.from r.until doc has restyling is.reach.until_is is.alike
+  same = same-boxes d e ss ts r.from r.until doc has restyling subject is.reach.until_is is.alike
 
   place-is : (i : ℕ) → i < length contexts → slice_index places i ≡ (spot_at of.spots i).place
   place-is i lt = places_are.each i lt ∙ ap (λ (s : ContextSpot). s.place) (of.numbered.each i lt).spot
@@ -65,7 +69,7 @@ module _ (d e : Document) (ss ts : List Style) (edit : Edit) (contexts : List Co
       (of.numbered.each i lt).boxes_are
       ∙ (get_or-map (λ (s : ContextSpot). boxes_of_place d.nodes ss s.place) of.spots i root_spot [] (omega (arith, lt, of.numbered.count))
       ∙ (ap (boxes_of_place d.nodes ss) (sym (place-is i lt))
-      ∙ sym (kept-boxes d e ss ts r.from r.until doc other_doc count other_count has restyling is.reach.until_is is.alike (slice_index places i) (context-before i lt)
+      ∙ sym (kept-boxes d e ss ts r.from r.until doc other_doc count other_count has restyling subject is.reach.until_is is.alike (slice_index places i) (context-before i lt)
       (λ b. apart (inr b)) (λ around. apart (inl (is.reach.around_is i (omega (arith, lt, places_are.count)) around))))))
 
   pub built-are : (items : List Context) (made : List Bool) (n : ℕ) → n ≡ length contexts → AreBuiltTo contexts e.nodes ts places items made n → AreContextsOf e.nodes ts items

@@ -8,6 +8,7 @@ use Rattle.lay_boxgen.specs.Contexts.{IsContextAt}
 use Rattle.lay_contexts.specs.ContextTree.{IsAround, boxes_of_place, further, parent, parent_of}
 use Rattle.lay_contexts.proofs.ListedSteps.{context_within}
 use Rattle.lay_later_contexts.specs.Reach.{AreAlike}
+use Rattle.lay_later_contexts.proofs.AlikeBoxes.{AlikeNode}
 use Rattle.lay_later_contexts.proofs.Restyling.{Restyling, not-under, same-boxes}
 use Rattle.lay_later_contexts.proofs.SameBoxes.{boxes-stay}
 
@@ -27,11 +28,17 @@ outward ns ss p _ _ (further k a positive e around) u apart = elim (split-under 
 ]
 
 module _ (d e : Document) (ss ts : List Style) (p until : ℕ) (doc : IsDocument d) (other_doc : IsDocument e) (count : length ss ≡ length d.nodes) (other_count : length ts ≡ length e.nodes)
-    (has : p < length d.nodes) (r : Restyling d e ss ts p) (end : until ≡ end_of (parents_of d.nodes) p) (alike : AreAlike ss ts p until) where
+    (has : p < length d.nodes) (r : Restyling d e ss ts p) (subject : AlikeNode d.nodes e.nodes p) (end : until ≡ end_of (parents_of d.nodes) p) (alike : AreAlike ss ts p until) where
   pub kept-boxes : (a : ℕ) → IsContextAt d.nodes ss a → ((p ≤ a) × (a < until) → ⊥) → (IsAround d.nodes ss p a → ⊥) → boxes_of_place e.nodes ts a ≡ boxes_of_place d.nodes ss a
   kept-boxes a context apart alone =
       let lt = context_within d.nodes ss a context in
-      let free : IsUnder (parents_of d.nodes) p a → ⊥ = not-under d e ss ts p until doc has r end alike a lt apart in
-      boxes-stay d e ss ts doc other_doc count other_count (same-boxes d e ss ts p until doc has r end alike) r.content a lt context
-      (λ k in_nodes around. r.outside k in_nodes (λ u. alone (outward d.nodes ss p k a around u free)))
-      (r.outside a lt free)
+      let free : IsUnder (parents_of d.nodes) p a → ⊥ = not-under d e ss ts p until doc has r subject end alike a lt apart in
+      boxes-stay d e ss ts doc other_doc count other_count (same-boxes d e ss ts p until doc has r subject end alike) a lt context
+      (λ k in_nodes around. record {
+        content = r.content k in_nodes (λ is. alone (subst (λ (j : ℕ). IsAround d.nodes ss j a) is around));
+        style = r.outside k in_nodes (λ u. alone (outward d.nodes ss p k a around u free));
+      })
+      (record {
+        content = r.content a lt (λ is. free (subst (IsUnder (parents_of d.nodes) p) (sym is) itself));
+        style = r.outside a lt free;
+      })

@@ -47,13 +47,19 @@ module _ (ns ms : List Node) (ss ts : List Style) (same : SameBoxes ns ms ss ts)
   pub same-context : (k : ℕ) → IsContextAt ns ss k → IsContextAt ms ts k
   same-context k c = record { establishes = subst IsTrue (sym (ap is_marked (same.box k))) c.establishes; generates = same-generation k c.generates }
 
--- own nodes that keep their styles
-module _ (ns ms : List Node) (ss ts : List Style) (same : SameBoxes ns ms ss ts) (content : (k : ℕ) → k < length ns → SameNode ns ms k k)
+-- a node that keeps its content and its style
+pub record Stays (ns ms : List Node) (ss ts : List Style) (k : ℕ) : Type 0 where
+  pub content : SameNode ns ms k k
+  pub style : style_at ts k ≡ style_at ss k
+
+-- own nodes that do
+module _ (ns ms : List Node) (ss ts : List Style) (same : SameBoxes ns ms ss ts)
     (a : ℕ) (places : List ℕ) (own : List OwnNode) (are : AreOwnNodes ns ss a places own)
-    (styled : (i : ℕ) → i < length places → style_at ts (slice_index places i) ≡ style_at ss (slice_index places i)) where
-  own-stays-at : (k : ℕ) (o : OwnNode) → IsOwnNode ns ss k o → style_at ts k ≡ style_at ss k → IsOwnNode ms ts k o
-  own-stays-at k o is e =
-      let s = content k (there ns k is.node is.there) in
+    (stay : (i : ℕ) → i < length places → Stays ns ms ss ts (slice_index places i)) where
+  own-stays-at : (k : ℕ) (o : OwnNode) → IsOwnNode ns ss k o → Stays ns ms ss ts k → IsOwnNode ms ts k o
+  own-stays-at k o is stays =
+      let s = stays.content in
+      let e = stays.style in
       let z : Some is.node ≡ Some s.one = sym is.there ∙ s.here in
       let one : is.node ≡ s.one = cc in
       record {
@@ -76,26 +82,25 @@ module _ (ns ms : List Node) (ss ts : List Style) (same : SameBoxes ns ms ss ts)
         rising = are.rising;
         around = λ i positive lt. same-around ns ms ss ts same (slice_index places i) a (are.around i positive lt);
         all = λ k lt h. are.all k (omega (arith, lt, count)) (same-around ms ns ts ss (turned ns ms ss ts same) k a h);
-        each = λ i lt. own-stays-at (slice_index places i) (own_at own i) (are.each i lt) (styled i lt);
+        each = λ i lt. own-stays-at (slice_index places i) (own_at own i) (are.each i lt) (stay i lt);
         parent = λ i positive lt. (let p = are.parent i positive lt in (p.0, p.1 ∙ sym (up ns ms ss ts same (slice_index places i))));
       }
 
--- a context whose own nodes keep their styles keeps its boxes
+-- a context whose own nodes do keeps its boxes
 pub boxes-stay : (d e : Document) (ss ts : List Style) → IsDocument d → IsDocument e → length ss ≡ length d.nodes → length ts ≡ length e.nodes
-    → (same : SameBoxes d.nodes e.nodes ss ts) → ((k : ℕ) → k < length d.nodes → SameNode d.nodes e.nodes k k)
-    → (a : ℕ) → a < length d.nodes → IsContextAt d.nodes ss a
-    → ((k : ℕ) → k < length d.nodes → IsAround d.nodes ss k a → style_at ts k ≡ style_at ss k) → style_at ts a ≡ style_at ss a
+    → (same : SameBoxes d.nodes e.nodes ss ts) → (a : ℕ) → a < length d.nodes → IsContextAt d.nodes ss a
+    → ((k : ℕ) → k < length d.nodes → IsAround d.nodes ss k a → Stays d.nodes e.nodes ss ts k) → Stays d.nodes e.nodes ss ts a
     → boxes_of_place e.nodes ts a ≡ boxes_of_place d.nodes ss a
-boxes-stay d e ss ts doc other_doc count other_count same content a here context styled own_styled =
+boxes-stay d e ss ts doc other_doc count other_count same a here context stay own_stays =
     let tree = doc.tree in
     let places : List ℕ = own_places d.nodes ss a tree in
     let are = are-own d.nodes ss a tree here in
-    let style-of : (i : ℕ) → i < length places → style_at ts (slice_index places i) ≡ style_at ss (slice_index places i) =
+    let stay-at : (i : ℕ) → i < length places → Stays d.nodes e.nodes ss ts (slice_index places i) =
     λ i lt. elim (cases_lt 0 i) [
-      | inl positive ↦ (let e = are.each i lt in styled (slice_index places i) (there d.nodes (slice_index places i) e.node e.there) (are.around i positive lt))
+      | inl positive ↦ (let e = are.each i lt in stay (slice_index places i) (there d.nodes (slice_index places i) e.node e.there) (are.around i positive lt))
       | inr low ↦ (let z : i ≡ 0 = omega (arith, low) in
           let is : slice_index places i ≡ a = ap (slice_index places) z ∙ are.first in
-          ap (style_at ts) is ∙ (own_styled ∙ sym (ap (style_at ss) is)))
+          subst (Stays d.nodes e.nodes ss ts) (sym is) own_stays)
     ] in
     sym (own_nodes_decide d e ss ts a a places places (own_nodes d.nodes ss a tree) doc count context are other_doc other_count
-    (same-context d.nodes e.nodes ss ts same a context) (own-stays d.nodes e.nodes ss ts same content a places (own_nodes d.nodes ss a tree) are style-of))
+    (same-context d.nodes e.nodes ss ts same a context) (own-stays d.nodes e.nodes ss ts same a places (own_nodes d.nodes ss a tree) are stay-at))

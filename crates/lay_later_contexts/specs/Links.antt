@@ -1,5 +1,5 @@
--- Contexts of a document (CSS 2.2, 9.4.1) before and after an edit that changes styles alone: the same contexts stand in each other, and
--- their boxes are the same but for their styles. Of some it is known that these are the same too.
+-- Contexts of a document (CSS 2.2, 9.4.1) before and after an edit that changes styles or a text alone: the same contexts stand in each
+-- other, and their boxes are the same but for their styles and texts. Of some it is known that these are the same too.
 use Rattle.std.specs.Prelude.{ℕ, ◌≡◌, ◌<◌, Bool, false, List, length, slice_index_or}
 use Rattle.lay_contexts.specs.Contexts.{Context, boxes_in, context_at}
 use Rattle.lay_later_contexts.specs.Unstyled.{all_unstyled}

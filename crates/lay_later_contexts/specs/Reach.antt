@@ -1,17 +1,26 @@
--- What an edit of the declarations of one node reaches: the styles of this node and of those below it (CSS 2.2, 6.2), and so the boxes of
--- the contexts that have one of these nodes among their own (9.4.1): theirs, and the nearest one around the first.
-use Rattle.std.specs.Prelude.{ℕ, ◌≡◌, ◌<◌, ◌≤◌, ◌⊎◌, List, length, slice_index, Some}
+-- What an edit of the declarations or the text of one node reaches: this node and those below it, whose styles come of its (CSS 2.2, 6.2),
+-- and so the boxes of the contexts that have one of these nodes among their own (9.4.1): theirs, and the nearest one around the first.
+use Rattle.std.specs.Prelude.{ℕ, ⊤, ◌≡◌, ◌<◌, ◌≤◌, ◌⊎◌, false, List, length, slice_get, slice_index, Some}
+use Rattle.std.specs.List.{list_all}
 use Rattle.lay_style.specs.declared.style.Style.{Style}
 use Rattle.lay_style.specs.ComputedStyle.{style_at}
 use Rattle.lay_style.specs.Places.{place_of}
 use Rattle.lay_doc.specs.declared.node.Node.{Node}
 use Rattle.lay_doc.specs.declared.edit.Edit.{Edit}
+use Rattle.lay_doc.specs.declared.edit.Edit.TheVariants.{SetStyle, ClearStyle, SetText}
 use Rattle.lay_doc.specs.Document.{Document, ids_of, parents_of}
 use Rattle.lay_doc.specs.Tree.{end_of}
+use Rattle.lay_boxgen.specs.WhiteSpace.{is_white_byte}
 use Rattle.lay_contexts.specs.ContextTree.{IsAround}
 use Rattle.lay_contexts.specs.Contexts.{Context, context_at}
-use Rattle.lay_own_nodes.specs.Anchors.{IsRestyling}
 use Rattle.lay_later_contexts.specs.declared.reach.Reach.{Reach}
+
+-- the edit changes declarations or the text of the node with this id, and no other node
+abbrev pub IsChange : Edit → ℕ → Type 0
+IsChange (SetStyle node decl) id = node.0 ≡ id
+IsChange (ClearStyle node property) id = node.0 ≡ id
+IsChange (SetText node text) id = node.0 ≡ id
+IsChange _ id = ⊥
 
 -- these are the places of the elements of contexts
 pub record ArePlacesOf (contexts : List Context) (places : List ℕ) : Type 0 where
@@ -41,9 +50,23 @@ pub record IsAlike (s t : Style) : Type 0 where
 abbrev pub AreAlike : (styles others : List Style) (from until : ℕ) → Type 0
 AreAlike styles others from until = (k : ℕ) → from ≤ k → k < until → IsAlike (style_at styles k) (style_at others k)
 
--- the edit changes the declarations of a node which reaches so far, and the styles there are alike
+-- A text has more than white space, so that a box is generated of it whatever its style is (9.2.2.1 and 16.6.1).
+abbrev pub IsSeen : List ℕ → Type 0
+IsSeen text = list_all is_white_byte text ≡ false
+
+-- so has the text of the node at a place
+abbrev pub IsSeenAt : List Node → ℕ → Type 0
+IsSeenAt nodes place = (n : Node) → slice_get nodes place ≡ Some n → IsSeen n.text
+
+-- if the edit changes the text of the node at a place, it has such a text before it and after it
+abbrev pub StaysSeen : Edit → List Node → ℕ → Type 0
+StaysSeen (SetText node text) nodes place = IsSeenAt nodes place × IsSeen text
+StaysSeen _ nodes place = ⊤
+
+-- the edit changes a node which reaches so far, the styles there are alike, and its text stays one of which a box is generated
 pub record IsRestyled (d : Document) (styles : List Style) (edit : Edit) (others : List Style) (places : List ℕ) (r : Reach) : Type 0 where
   pub id : ℕ
-  pub restyling : IsRestyling edit id
+  pub change : IsChange edit id
   pub reach : IsReach d.nodes styles places id r
   pub alike : AreAlike styles others r.from r.until
+  pub text : StaysSeen edit d.nodes r.from

@@ -13,7 +13,7 @@ use lay_contexts::{Context, ContextSpot};
 use lay_units::NoMemory;
 use std::alloc::Global;
 
-/// The boxes of a context after an edit, whose element is at this place: made anew, or shared. None where more than styles differ.
+/// The boxes of a context after an edit, whose element is at this place: made anew, or shared. None where more than styles and texts differ.
 pub(crate) fn boxes_after(
     alloc: Global,
     of: &EditedDoc<'_>,

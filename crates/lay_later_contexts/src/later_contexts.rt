@@ -2,16 +2,16 @@
 
 ghost use Rattle.std.specs.Prelude.{IfOk, IfSome};
 ghost use Rattle.lay_contexts.specs.ContextList.{AreContextsOf};
-ghost use Rattle.lay_own_nodes.specs.Anchors.{IsRestyling};
 ghost use Rattle.lay_later_contexts.specs.Edited.{IsEdited};
 ghost use Rattle.lay_later_contexts.specs.Links.{AreRestyled};
-ghost use Rattle.lay_later_contexts.specs.Reach.{ArePlacesOf, IsRestyled};
+ghost use Rattle.lay_later_contexts.specs.Reach.{ArePlacesOf, IsChange, IsRestyled};
 
 use crate::alike::are_alike;
 use crate::building::{boxes_after, context_with};
 use crate::edited_doc::EditedDoc;
 use crate::places::places_of;
-use crate::reach::{Reach, is_reached, reach_of, restyled_node};
+use crate::reach::{Reach, changed_node, is_reached, reach_of};
+use crate::texts::stays_seen;
 use lay_contexts::{Context, Contexts, contexts_of};
 use lay_doc::NodeId;
 use lay_units::NoMemory;
@@ -36,7 +36,7 @@ pub fn contexts_after(
     ensures are { IfOk result (λ l. AreContextsOf of.now.later.now.nodes of.now.styles.now l.contexts) }
     ensures made { IfOk result (λ l. IfSome l.made (λ v. AreRestyled before.now l.contexts v.items)) }
 {
-    if let Some(node) = restyled_node(of.edit) {
+    if let Some(node) = changed_node(of.edit) {
         if let Some(restyled) = restyled_contexts(alloc, of, before, node)? {
             return Ok(restyled);
         }
@@ -49,7 +49,7 @@ pub fn contexts_after(
     })
 }
 
-/// Those after an edit of the declarations of this node; None where it changes more of the boxes than their styles.
+/// Those after an edit of the declarations or the text of this node; None where it changes more of the boxes than their styles and texts.
 fn restyled_contexts(
     alloc: Global,
     of: &EditedDoc<'_>,
@@ -58,7 +58,7 @@ fn restyled_contexts(
 ) -> Result<Option<LaterContexts>, NoMemory>
     requires edited { IsEdited of.now.doc.now of.now.was.now of.now.edit.now of.now.later.now of.now.styles.now }
     requires before { AreContextsOf of.now.doc.now.nodes of.now.was.now before.now }
-    requires node { IsRestyling of.now.edit.now node.0 }
+    requires node { IsChange of.now.edit.now node.0 }
     ensures are { IfOk result (λ o. IfSome o (λ l. AreContextsOf of.now.later.now.nodes of.now.styles.now l.contexts)) }
     ensures made { IfOk result (λ o. IfSome o (λ l. IfSome l.made (λ v. AreRestyled before.now l.contexts v.items))) }
 {
@@ -72,6 +72,9 @@ fn restyled_contexts(
         reach.from,
         reach.until,
     ) {
+        return Ok(None);
+    }
+    if !stays_seen(of, reach.from) {
         return Ok(None);
     }
     built(alloc, of, before, &places, reach)

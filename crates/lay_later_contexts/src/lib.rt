@@ -1,9 +1,9 @@
 //! The contexts of a document after an edit, from those before it (CSS 2.2, 9.4.1).
 //!
-//! Where an edit changes styles and nothing by which boxes are generated, the same contexts stand in each other as before it, and their
-//! boxes are the same but for their styles (`specs/Links.antt`). Then just the boxes of contexts with one of the changed nodes among
-//! their own are made anew, and those of all others are shared; `specs/Reach.antt` says which these are. After other edits all are made
-//! anew.
+//! Where an edit changes styles or a text and nothing by which boxes are generated, the same contexts stand in each other as before it,
+//! and their boxes are the same but for their styles and texts (`specs/Links.antt`). Then just the boxes of contexts with one of the
+//! changed nodes among their own are made anew, and those of all others are shared; `specs/Reach.antt` says which these are. After other
+//! edits all are made anew.
 #![tactic(auto)]
 
 mod alike;
@@ -12,6 +12,7 @@ mod edited_doc;
 mod later_contexts;
 mod places;
 mod reach;
+mod texts;
 mod unstyled;
 
 pub use edited_doc::EditedDoc;

@@ -1,11 +1,11 @@
-//! What an edit of the declarations of one node reaches.
+//! What an edit of the declarations or the text of one node reaches.
 
-ghost use Rattle.std.specs.Prelude.{ℕ, ◌≡◌, ◌<◌, ◌↔◌, IfSome, IsTrue, None, Some, length, slice_index};
-ghost use Rattle.lay_doc.specs.Changes.{style_fault};
+ghost use Rattle.std.specs.Prelude.{ℕ, ◌≡◌, ◌<◌, ◌↔◌, IfSome, IsSome, IsTrue, Some, length, slice_index};
+ghost use Rattle.lay_style.specs.Places.{place_of};
+ghost use Rattle.lay_doc.specs.Document.{ids_of};
 ghost use Rattle.lay_contexts.specs.ContextTree.{IsAround};
 ghost use Rattle.lay_contexts.specs.ListedContexts.{AreContextPlaces};
-ghost use Rattle.lay_own_nodes.specs.Anchors.{IsRestyling};
-ghost use Rattle.lay_later_contexts.specs.Reach.{IsReach, IsReachedContext};
+ghost use Rattle.lay_later_contexts.specs.Reach.{IsChange, IsReach, IsReachedContext};
 
 use crate::edited_doc::EditedDoc;
 use crate::places::number_at;
@@ -19,22 +19,23 @@ pub(crate) struct Reach {
     pub(crate) around: Option<usize>,
 }
 
-/// The node of which an edit changes declarations, if it is such an edit.
-pub(crate) fn restyled_node(edit: &Edit) -> Option<NodeId>
-    ensures { IfSome result (λ node. IsRestyling edit.now node.0) }
+/// The node of which an edit changes declarations or the text, if it is such an edit.
+pub(crate) fn changed_node(edit: &Edit) -> Option<NodeId>
+    ensures { IfSome result (λ node. IsChange edit.now node.0) }
 {
     match edit {
         Edit::SetStyle { node, .. } => Some(*node),
         Edit::ClearStyle { node, .. } => Some(*node),
+        Edit::SetText { node, .. } => Some(*node),
         _ => None,
     }
 }
 
-/// What an edit of the declarations of this node reaches.
+/// What an edit of this node reaches.
 pub(crate) fn reach_of(of: &EditedDoc<'_>, places: &[usize], node: NodeId) -> Reach
     requires places { AreContextPlaces of.now.doc.now.nodes of.now.was.now places.now }
     requires styles { length of.now.was.now ≡ length of.now.doc.now.nodes }
-    requires node { style_fault of.now.doc.now node.0 ≡ None }
+    requires node { IsSome (place_of node.0 (ids_of of.now.doc.now.nodes)) }
     ensures { IsReach of.now.doc.now.nodes of.now.was.now places.now node.0 result }
 {
     let _ = of.doc.nodes();

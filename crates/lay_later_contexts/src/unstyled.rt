@@ -1,10 +1,10 @@
-//! Whether boxes differ in their styles alone.
+//! Whether boxes differ in their styles and texts alone.
 
 ghost use Rattle.std.specs.Prelude.{◌≡◌, IsTrue};
-ghost use Rattle.lay_later_contexts.specs.Unstyled.{all_unstyled, unstyled};
+ghost use Rattle.lay_later_contexts.specs.Unstyled.{all_unstyled, bare_kind, unstyled};
 
 use crate::alike::same_position;
-use lay_box_tree::{BoxNode, Flow};
+use lay_box_tree::{BoxKind, BoxNode, Flow};
 use lay_same::same_kind;
 
 fn same_flow(a: Flow, b: Flow) -> bool
@@ -13,7 +13,17 @@ fn same_flow(a: Flow, b: Flow) -> bool
     a == b
 }
 
-/// Whether two boxes are the same but for their styles.
+/// Whether two boxes are of one kind, of which texts are one.
+fn same_bare_kind(a: &BoxKind, b: &BoxKind) -> bool
+    ensures { IsTrue result → bare_kind a.now ≡ bare_kind b.now }
+{
+    match (a, b) {
+        (BoxKind::Text(_), BoxKind::Text(_)) => true,
+        _ => same_kind(a, b),
+    }
+}
+
+/// Whether two boxes are the same but for their styles and texts.
 fn is_unstyled_same(a: &BoxNode, b: &BoxNode) -> bool
     ensures { IsTrue result → unstyled a.now ≡ unstyled b.now }
 {
@@ -22,7 +32,7 @@ fn is_unstyled_same(a: &BoxNode, b: &BoxNode) -> bool
         && same_flow(a.flow, b.flow)
         && a.anonymous == b.anonymous
         && a.inner == b.inner
-        && same_kind(&a.kind, &b.kind)
+        && same_bare_kind(&a.kind, &b.kind)
         && same_position(a.style.position, b.style.position)
 }
 

@@ -19,7 +19,7 @@ use Rattle.lay_contexts.proofs.OneStand.{marked-true, within}
 use Rattle.lay_contexts.proofs.SpotOrder.{boxes_there}
 use Rattle.lay_own_nodes.specs.Bound.{AnchorsTouchNothingAround, EditsTouchNoOthers, IsUntouched, id_of}
 use Rattle.lay_own_nodes.specs.Reached.{IsReached}
-use Rattle.lay_own_nodes.specs.Shrinking.{AreListsOf, SparesAnonymous}
+use Rattle.lay_own_nodes.specs.Shrinking.{AreListsOf, TakesAnonymousTables}
 use Rattle.lay_own_nodes.specs.Touched.{Edits, KeepsBoxes, element}
 use Rattle.lay_own_nodes.proofs.EditedContexts.{edits_touch_reached_contexts}
 use Rattle.lay_own_nodes.proofs.KeptContexts.{reached-known}
@@ -53,12 +53,12 @@ module _ (d : Document) (styles : List Style) (contexts : List Context) (all : L
       ∙ (ap (boxes_of_place d.nodes styles) (sym (place-there d styles contexts lists.contexts_are i lt)) ∙ sym (ap (boxes_at d.nodes styles) named)))
 
 -- what keeps its boxes, and whose element isn't reached, is untouched
-untouched : (S : Flow → BoxKind → Bool) (d : Document) (edit : Edit) (styles others : List Style) (contexts later : List Context) (all rest : List FormattingContext)
-    → SparesAnonymous S → Edits d edit styles others → (lists : AreListsOf d styles contexts all) → (later_lists : AreListsOf (after d edit) others later rest)
+untouched : (S : Flow → BoxKind → Style → Bool) (d : Document) (edit : Edit) (styles others : List Style) (contexts later : List Context) (all rest : List FormattingContext)
+    → TakesAnonymousTables S → Edits d edit styles others → (lists : AreListsOf d styles contexts all) → (later_lists : AreListsOf (after d edit) others later rest)
     → (i : ℕ) → (lt : i < length contexts) → (IsReached d edit (context_at contexts i).place → ⊥) → KeepsBoxes d (after d edit) styles others (id_of d contexts i)
     → (j : ℕ) × IsUntouched S d (after d edit) contexts later all rest i j
-untouched S d edit styles others contexts later all rest spares edits lists later_lists i lt apart kept =
-    let o = unreached_contexts_stay_outward S d edit styles others contexts later all rest spares edits lists later_lists i lt apart in
+untouched S d edit styles others contexts later all rest takes edits lists later_lists i lt apart kept =
+    let o = unreached_contexts_stay_outward S d edit styles others contexts later all rest takes edits lists later_lists i lt apart in
     let j : ℕ = o.0 in
     let boxes : boxes_in contexts i ≡ boxes_in later j =
     boxes-are d styles contexts all lists i lt
@@ -77,7 +77,7 @@ untouched S d edit styles others contexts later all rest spares edits lists late
     )
 
 pub edits_touch_no_others : EditsTouchNoOthers
-edits_touch_no_others S d edit styles others contexts later all rest spares edits lists later_lists i lt =
+edits_touch_no_others S d edit styles others contexts later all rest takes edits lists later_lists i lt =
     let is_context : IsContext d styles (id_of d contexts i) = subst (IsContextThere d.nodes styles) (sym (named d styles contexts all lists i lt)) (context-is d styles contexts all lists i lt) in
     elim (reached-known d edit edits.document (p d styles contexts all lists i lt) (p-in d styles contexts all lists i lt)) [
       | inl reached ↦ inr (inl (record {
@@ -90,18 +90,18 @@ edits_touch_no_others S d edit styles others contexts later all rest spares edit
         is = reached;
       }))
       | inr apart ↦ elim (edits_touch_reached_contexts d edit styles others (id_of d contexts i) edits (inl is_context)) [
-        | inl kept ↦ inl (untouched S d edit styles others contexts later all rest spares edits lists later_lists i lt apart kept)
+        | inl kept ↦ inl (untouched S d edit styles others contexts later all rest takes edits lists later_lists i lt apart kept)
         | inr more ↦ inr more
       ]
     ]
 
 pub anchors_touch_nothing_around : AnchorsTouchNothingAround
-anchors_touch_nothing_around S d edit styles others contexts later all rest name spares edits restyling before later_box lists later_lists i lt =
+anchors_touch_nothing_around S d edit styles others contexts later all rest name takes edits restyling before later_box lists later_lists i lt =
     let is_context : IsContext d styles (id_of d contexts i) = subst (IsContextThere d.nodes styles) (sym (named d styles contexts all lists i lt)) (context-is d styles contexts all lists i lt) in
     elim (reached-known d edit edits.document (p d styles contexts all lists i lt) (p-in d styles contexts all lists i lt)) [
       | inl reached ↦ inr (record { place = p d styles contexts all lists i lt; named = named d styles contexts all lists i lt; reached = reached })
       | inr apart ↦ elim (anchors_keep_contexts_around d edit styles others name (id_of d contexts i) edits restyling before later_box (inl is_context)) [
-        | inl kept ↦ inl (untouched S d edit styles others contexts later all rest spares edits lists later_lists i lt apart kept)
+        | inl kept ↦ inl (untouched S d edit styles others contexts later all rest takes edits lists later_lists i lt apart kept)
         | inr reached ↦ inr reached
       ]
     ]

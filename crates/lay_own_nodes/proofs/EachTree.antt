@@ -14,11 +14,10 @@ use Rattle.lay_anonymous_boxes.specs.InlineRuns.{is_no_block, is_seen_box, block
 use Rattle.lay_anonymous_boxes.specs.declared.facts.Facts.{Facts}
 use Rattle.lay_anonymous_boxes.specs.declared.facts.Form.{Form}
 use Rattle.lay_anonymous_boxes.specs.declared.facts.Form.TheVariants.{Row, Cell, Wrapper, InlineWrapper, Block}
-use Rattle.lay_own_nodes.specs.InlineTables.{is_inline_wrapper}
 
 -- what the rules put round boxes, beside tables, is no table, no white space and no inline box
 abbrev pub IsMade : Form → Type 0
-IsMade form = (is_inline_wrapper form ≡ false) × (is_white form ≡ false) × (is_inline form ≡ false)
+IsMade form = (is_table form ≡ false) × (is_white form ≡ false) × (is_inline form ≡ false)
 
 module _ (S : Tree → Type 0) where
   abbrev pub Each : List Tree → Type 0

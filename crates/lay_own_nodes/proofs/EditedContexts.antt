@@ -162,13 +162,13 @@ module _ (d : Document) (edit : Edit) (styles others : List Style) (edits : Edit
       over-edit d edit styles others edits ((k : ℕ) × IsKeptAt d (after d edit) styles others k m)
       (λ R keep. kept-here d (after d edit) (IsReached d edit) (IsReached (after d edit) edit) R keep styles others here elsewhere m lt apart)
 
-  by-within : (S : Flow → BoxKind → Bool) (k : ℕ) → k < length d.nodes → (IsReached d edit k → ⊥)
+  by-within : (S : Flow → BoxKind → Style → Bool) (k : ℕ) → k < length d.nodes → (IsReached d edit k → ⊥)
       → (m : ℕ) × IsKeptAt d (after d edit) styles others k m × (IsWithin S d.nodes styles k ↔ IsWithin S (after d edit).nodes others m)
   by-within S k lt apart =
       over-edit d edit styles others edits ((m : ℕ) × IsKeptAt d (after d edit) styles others k m × (IsWithin S d.nodes styles k ↔ IsWithin S (after d edit).nodes others m))
       (λ R keep. stays-within d (after d edit) (IsReached d edit) (IsReached (after d edit) edit) R keep styles others here elsewhere S k lt apart)
 
-  pub by-context : (S : Flow → BoxKind → Bool) (k : ℕ) → k < length d.nodes → (IsReached d edit k → ⊥) → IsContextAt d.nodes styles k
+  pub by-context : (S : Flow → BoxKind → Style → Bool) (k : ℕ) → k < length d.nodes → (IsReached d edit k → ⊥) → IsContextAt d.nodes styles k
       → (m : ℕ) × IsKeptAt d (after d edit) styles others k m × IsContextAt (after d edit).nodes others m × (IsWithin S d.nodes styles k ↔ IsWithin S (after d edit).nodes others m)
   by-context S k lt apart context =
       over-edit d edit styles others edits

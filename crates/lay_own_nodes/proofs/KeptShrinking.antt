@@ -10,7 +10,7 @@ use Rattle.lay_box_tree.specs.declared.box_tree.Flow.{Flow}
 use Rattle.lay_boxgen.specs.Contexts.{IsContextAt, box_at}
 use Rattle.lay_boxgen.specs.Listing.{kind_of, text_at, text_of}
 use Rattle.lay_contexts.specs.ContextTree.{parent_of}
-use Rattle.lay_own_nodes.specs.InlineTables.{IsInStrayPart, between, here, is_stray_part}
+use Rattle.lay_own_nodes.specs.AnonymousTables.{IsInStrayPart, between, here, is_stray_part}
 use Rattle.lay_own_nodes.specs.Shrinking.{IsWithin, around, own, table}
 use Rattle.lay_own_nodes.specs.Unreached.{IsKeptAt}
 use Rattle.lay_own_nodes.proofs.KeptContexts.{Keeping, Styled}
@@ -40,11 +40,12 @@ module _ (ns ms : List Node) (ss ts : List Style) (R : ℕ → ℕ → Type 0) (
   text-same : (k m : ℕ) → R k m → text_at ns k ≡ text_at ms m
   text-same k m r = let s = h.node k m r in ap text_of s.here ∙ (s.text ∙ sym (ap text_of s.there))
 
-  pub within-kept : (S : Flow → BoxKind → Bool) (k : ℕ) → IsWithin S ns ss k → (m : ℕ) → R k m → IsWithin S ms ts m
+  pub within-kept : (S : Flow → BoxKind → Style → Bool) (k : ℕ) → IsWithin S ns ss k → (m : ℕ) → R k m → IsWithin S ms ts m
   within-kept S _ (own k f there e) m r =
       own m (at_place m f) (same-box ns ms ss ts R h alike k m r ∙ ap (option_map (at_place m)) there)
-      (ap (λ (t : List ℕ). S f.flow (kind_of t f.form)) (sym (text-same k m r)) ∙ e)
-  within-kept S _ (table k w e) m r = table m (stray-kept k w m r) e
+      (ap (λ (t : List ℕ). S f.flow (kind_of t f.form) (style_at ts m)) (sym (text-same k m r))
+      ∙ (ap (S f.flow (kind_of (text_at ns k) f.form)) (sym (alike k m r)) ∙ e))
+  within-kept S _ (table k w) m r = table m (stray-kept k w m r)
   within-kept S _ (around k a outside w) m r =
       let up = same-around ns ms ss ts R h alike k a outside m r in
       around m up.0 up.2 (within-kept S a w up.0 up.1)
@@ -53,7 +54,7 @@ module _ (d e : Document) (P Q : ℕ → Type 0) (R : ℕ → ℕ → Type 0) (k
   alike : (k m : ℕ) → R k m → style_at ss k ≡ style_at ts m
   alike k m r = styled d e P Q R keep ss ts here_styled elsewhere k m r
 
-  pub stays-within : (S : Flow → BoxKind → Bool) (k : ℕ) → k < length d.nodes → (P k → ⊥) → (m : ℕ) × IsKeptAt d e ss ts k m × (IsWithin S d.nodes ss k ↔ IsWithin S e.nodes ts m)
+  pub stays-within : (S : Flow → BoxKind → Style → Bool) (k : ℕ) → k < length d.nodes → (P k → ⊥) → (m : ℕ) × IsKeptAt d e ss ts k m × (IsWithin S d.nodes ss k ↔ IsWithin S e.nodes ts m)
   stays-within S k lt apart =
       let m : ℕ = keep.to k in
       let r = keep.forth k lt apart in (
@@ -66,7 +67,7 @@ module _ (d e : Document) (P Q : ℕ → Type 0) (R : ℕ → ℕ → Type 0) (k
       )
 
   -- with the context of a node
-  pub context-stays : (S : Flow → BoxKind → Bool) (k : ℕ) → k < length d.nodes → (P k → ⊥) → IsContextAt d.nodes ss k
+  pub context-stays : (S : Flow → BoxKind → Style → Bool) (k : ℕ) → k < length d.nodes → (P k → ⊥) → IsContextAt d.nodes ss k
       → (m : ℕ) × IsKeptAt d e ss ts k m × IsContextAt e.nodes ts m × (IsWithin S d.nodes ss k ↔ IsWithin S e.nodes ts m)
   unfolding stays-within
   context-stays S k lt apart context =

@@ -15,8 +15,9 @@ pub mod EachTree
 pub mod ClearTrees
 pub mod AnchoredStyles
 pub mod RestyledAnchors
-pub mod InlineRules
-pub mod InlineNodes
+pub mod StrayForms
+pub mod StrayRules
+pub mod StrayNodes
 pub mod TableMarks
 pub mod TableChains
 pub mod RootChains

@@ -1,23 +1,23 @@
 -- What the own box of a formatting context or of one around it may be is said by nodes.
-use Rattle.std.proofs.Common.{◌≡◌, ◌⊎◌, inl, inr, ◌↔◌, ℕ, zero, suc, ◌<◌, ◌≤◌, Bool, true, false, ◌&&◌, ◌||◌, List, [], ◌∷◌, length, get_or, refl, ap, sym, subst, ◌∙◌, arith, Option, None, Some, slice_get, slice_index}
+use Rattle.std.proofs.Common.{◌≡◌, ◌⊎◌, inl, inr, ◌↔◌, ℕ, zero, suc, ◌<◌, ◌≤◌, Bool, true, false, ◌&&◌, ◌||◌, List, [], ◌∷◌, length, get_or, refl, ap, sym, subst, ◌∙◌, arith, if◌then◌else◌, Option, None, Some, slice_get, slice_index}
 use Rattle.std.proofs.lemmas.Bool.{cases_lt}
 use Rattle.std.proofs.lemmas.List.{get_or-map}
 use Rattle.lay_style.specs.declared.style.Style.{Style}
 use Rattle.lay_style.specs.ComputedStyle.{style_at}
 use Rattle.lay_doc.specs.Document.{Document, IsDocument, ids_of}
 use Rattle.lay_anonymous_boxes.specs.Boxes.{Tree, Trees, tree, trees_of}
+use Rattle.lay_anonymous_boxes.specs.Forms.{is_anchor}
 use Rattle.lay_anonymous_boxes.specs.declared.facts.Facts.{Facts}
 use Rattle.lay_box_tree.specs.BoxColumns.{box_at as listed_at, box_ids, box_inner, no_box}
 use Rattle.lay_box_tree.specs.Containers.{box_parent}
 use Rattle.lay_box_tree.specs.ContextBoxes.{AreContextBoxes}
 use Rattle.lay_box_tree.specs.declared.box_tree.BoxKind.{BoxKind}
-use Rattle.lay_box_tree.specs.declared.box_tree.BoxKind.TheVariants.{InlineWrapper}
 use Rattle.lay_box_tree.specs.declared.box_tree.BoxNode.{BoxNode}
 use Rattle.lay_box_tree.specs.declared.box_tree.Flow.{Flow}
 use Rattle.lay_box_tree.specs.declared.box_tree.Flow.TheVariants.{InFlow}
 use Rattle.lay_boxgen.specs.Contexts.{IsContextAt, box_at, is_marked}
 use Rattle.lay_boxgen.specs.Laws.{inner_boxes}
-use Rattle.lay_boxgen.specs.Listing.{box_node, kind_of, listed_part, text_at}
+use Rattle.lay_boxgen.specs.Listing.{box_node, box_style, kind_of, listed_part, style_of, text_at}
 use Rattle.lay_boxgen.specs.NodeTrees.{as_own, box_with, tree_at}
 use Rattle.lay_boxgen.specs.Parts.{nothing, part, put_list}
 use Rattle.lay_boxgen.proofs.WholeParts.{context_is_one_box}
@@ -40,19 +40,20 @@ use Rattle.lay_contexts.proofs.NodeFacts.{of_node}
 use Rattle.lay_contexts.proofs.OneStand.{contexts_stand_once, marked-true, one-around, within}
 use Rattle.lay_contexts.proofs.RootNumbers.{number_lt, roots_lt}
 use Rattle.lay_contexts.proofs.SpotOrder.{boxes_there}
-use Rattle.lay_own_nodes.specs.InlineTables.{IsInStrayPart, IsKnownInside, ListInside, between, here}
-use Rattle.lay_own_nodes.specs.Shrinking.{IsWithin, IsWithinOutward, SparesAnonymous, WithinOutwardByNodes, around, first, outward, own, table}
-use Rattle.lay_own_nodes.proofs.InlineNodes.{inline_tables_stand_by_nodes}
+use Rattle.lay_own_nodes.specs.AnonymousTables.{IsInStrayPart, IsKnownInside, ListInside, between, here}
+use Rattle.lay_own_nodes.specs.Shrinking.{IsWithin, IsWithinOutward, TakesAnonymousTables, WithinOutwardByNodes, around, first, outward, own, table}
+use Rattle.lay_own_nodes.proofs.StrayNodes.{anonymous_tables_stand_by_nodes}
 use Rattle.lay_own_nodes.proofs.OwnList.{around-before}
 use Rattle.lay_own_nodes.proofs.PartLeaves.{place-of}
-use Rattle.lay_own_nodes.proofs.TableChains.{anonymous-by, chain, differ, none-at-own, or-cases, or-left, or-right, root-flag, root-kinds, table-kind}
+use Rattle.lay_own_nodes.proofs.StrayForms.{or-left, or-right}
+use Rattle.lay_own_nodes.proofs.TableChains.{anonymous-by, chain, differ, none-at-own, or-cases, root-flag, root-kinds, table-kind}
 use Rattle.lay_own_nodes.proofs.TableMarks.{Marked, is_table_box, is_wrapper_kind, length-parents, marked-part}
 
-abbrev pub Is : (Flow → BoxKind → Bool) → BoxNode → Bool
-Is S b = S b.flow b.kind
+abbrev pub Is : (Flow → BoxKind → Style → Bool) → BoxNode → Bool
+Is S b = S b.flow b.kind b.style
 
 -- a formatting context's own box is such a one, or it is so outward
-pub cases-of : (S : Flow → BoxKind → Bool) (all : List FormattingContext) (j : ℕ) → IsWithinOutward S all j
+pub cases-of : (S : Flow → BoxKind → Style → Bool) (all : List FormattingContext) (j : ℕ) → IsWithinOutward S all j
     → (Is S (listed_at (boxes_of all j) 0) ≡ true) ⊎ ((0 < j) × IsWithinOutward S all (formatting_context_at all j).outer)
 cases-of S all _ (first j e) = inl e
 cases-of S all _ (outward j positive w) = inr (positive, w)
@@ -91,12 +92,25 @@ module _ (d : Document) (styles : List Style) (doc : IsDocument d) (same : lengt
   own-element : (listed_at (boxes_of_place d.nodes styles a) 0).anonymous ≡ false
   own-element = ap (λ (b : BoxNode). b.anonymous) own-box ∙ (of_node d.nodes styles a f e).plain
 
-  own-is : (S : Flow → BoxKind → Bool) → Is S (listed_at (boxes_of_place d.nodes styles a) 0) ≡ S f.flow (kind_of (text_at d.nodes a) f.form)
-  own-is S =
-      ap (λ (b : BoxNode). S b.flow b.kind) own-box
-      ∙ ap (λ (k : ℕ). S f.flow (kind_of (text_at d.nodes k) f.form)) (place-of a (slice_get d.nodes a) (style_at styles a) f e)
+  own-place : f.place ≡ a
+  own-place = place-of a (slice_get d.nodes a) (style_at styles a) f e
 
-module _ (S : Flow → BoxKind → Bool) (spares : SparesAnonymous S) (d : Document) (styles : List Style) (contexts : List Context) (all : List FormattingContext)
+  own-style : (box_node d.nodes styles (as_own f) 0 (as_own f)).style ≡ style_at styles a
+  own-style =
+      one-of (is_anchor f.form) (as_own f)
+      ∙ (ap (λ (b : Bool). box_style b (style_at styles f.place)) (of_node d.nodes styles a f e).plain ∙ ap (style_at styles) own-place)
+    where
+      one-of : (c : Bool) (g : Facts) → style_of styles (if c then g else g) ≡ style_of styles g
+      one-of true g = refl
+      one-of false g = refl
+
+  own-is : (S : Flow → BoxKind → Style → Bool) → Is S (listed_at (boxes_of_place d.nodes styles a) 0) ≡ S f.flow (kind_of (text_at d.nodes a) f.form) (style_at styles a)
+  own-is S =
+      ap (λ (b : BoxNode). S b.flow b.kind b.style) own-box
+      ∙ (ap (λ (k : ℕ). S f.flow (kind_of (text_at d.nodes k) f.form) (box_node d.nodes styles (as_own f) 0 (as_own f)).style) own-place
+      ∙ ap (S f.flow (kind_of (text_at d.nodes a) f.form)) own-style)
+
+module _ (S : Flow → BoxKind → Style → Bool) (takes : TakesAnonymousTables S) (d : Document) (styles : List Style) (contexts : List Context) (all : List FormattingContext)
     (doc : IsDocument d) (same : length styles ≡ length d.nodes) (of_d : AreContextsOf d.nodes styles contexts) (of : AreFormattingContextsOf contexts all) where
   are : AreContexts contexts
   are = are_contexts d styles contexts doc same of_d
@@ -145,7 +159,7 @@ module _ (S : Flow → BoxKind → Bool) (spares : SparesAnonymous S) (d : Docum
   marks-of i lt =
       let some = (are.boxes i lt).some in
       let h = marked-any d styles (part d.nodes styles (place i)) (subst (λ (bs : List BoxNode). 0 < length bs) (boxes-are i lt) some)
-      (inline_tables_stand_by_nodes d styles (place i) doc same (context-is i lt)) in
+      (anonymous_tables_stand_by_nodes d styles (place i) doc same (context-is i lt)) in
       (h.0, subst (λ (bs : List BoxNode). Marked d.nodes styles bs h.0) (sym (boxes-are i lt)) h.1)
 
   element-is : (i : ℕ) → i < length contexts → (listed_at (B i) 0).anonymous ≡ false
@@ -153,7 +167,7 @@ module _ (S : Flow → BoxKind → Bool) (spares : SparesAnonymous S) (d : Docum
       let f = facts-of i lt in
       ap (λ (bs : List BoxNode). (listed_at bs 0).anonymous) (boxes-are i lt) ∙ own-element d styles doc same (place i) (context-is i lt) f.0 f.1
 
-  own-says : (i : ℕ) (lt : i < length contexts) → Is S (listed_at (B i) 0) ≡ S (facts-of i lt).0.flow (kind_of (text_at d.nodes (place i)) (facts-of i lt).0.form)
+  own-says : (i : ℕ) (lt : i < length contexts) → Is S (listed_at (B i) 0) ≡ S (facts-of i lt).0.flow (kind_of (text_at d.nodes (place i)) (facts-of i lt).0.form) (style_at styles (place i))
   own-says i lt =
       let f = facts-of i lt in
       ap (λ (bs : List BoxNode). Is S (listed_at bs 0)) (boxes-are i lt) ∙ own-is d styles doc same (place i) (context-is i lt) f.0 f.1 S
@@ -184,9 +198,6 @@ module _ (S : Flow → BoxKind → Bool) (spares : SparesAnonymous S) (d : Docum
 
   -- What is said of the roots of a context.
   module _ (i : ℕ) (lt : i < length contexts) (marks : List Bool) (known : Marked d.nodes styles (B i) marks) where
-    abbrev s : Bool
-    s = S InFlow InlineWrapper
-
     boxes_ok : AreContextBoxes (B i)
     boxes_ok = are.boxes i lt
 
@@ -211,34 +222,35 @@ module _ (S : Flow → BoxKind → Bool) (spares : SparesAnonymous S) (d : Docum
         sym (get_or-map (λ (b : BoxNode). b.flow) (B i) k no_box InFlow inside)
         ∙ anonymous_in_flow d styles contexts i k doc same of_d lt (get_or-map (λ (b : BoxNode). b.anonymous) (B i) k no_box false inside ∙ e)
 
-    -- an anonymous root that is such a one is an inline-table
-    root-is : (r : ℕ) → 0 < r → r < length (B i) → is_root (B i) r ≡ true → Is S (listed_at (B i) r) ≡ true → (is_table_box (listed_at (B i) r) ≡ true) × (s ≡ true)
+    -- an anonymous root that is such a one is a table
+    root-is : (r : ℕ) → 0 < r → r < length (B i) → is_root (B i) r ≡ true → Is S (listed_at (B i) r) ≡ true → is_table_box (listed_at (B i) r) ≡ true
     root-is r positive inside root e =
         let b = listed_at (B i) r in
         let flag : is_anonymous_root b ≡ true = sym (root-flag (B i) r positive inside) ∙ root in
         let anonymous = anonymous-by b.anonymous _ _ flag in
-        root-kinds S spares b.anonymous b.inner b.kind flag (ap (λ (x : Flow). S x b.kind) (sym (flow-in r inside anonymous)) ∙ e)
+        root-kinds S takes b.anonymous b.inner b.kind b.style flag (ap (λ (x : Flow). S x b.kind b.style) (sym (flow-in r inside anonymous)) ∙ e)
 
-    table-is : (r : ℕ) → r < length (B i) → is_table_box (listed_at (B i) r) ≡ true → s ≡ true → Is S (listed_at (B i) r) ≡ true
-    table-is r inside e h =
+    table-is : (r : ℕ) → r < length (B i) → is_table_box (listed_at (B i) r) ≡ true → Is S (listed_at (B i) r) ≡ true
+    table-is r inside e =
         let b = listed_at (B i) r in
-        ap (λ (x : Flow). S x b.kind) (flow-in r inside (table-anonymous b.anonymous (is_wrapper_kind b.kind) e)) ∙ table-kind S spares b.anonymous b.kind e h
+        ap (λ (x : Flow). S x b.kind b.style) (flow-in r inside (table-anonymous b.anonymous (is_wrapper_kind b.kind) e))
+        ∙ table-kind S takes b.anonymous b.kind b.style e (known.automatic r inside e)
 
     abbrev Said : ℕ → Type 0
-    Said r = ((M r ≡ true) × (s ≡ true)) ⊎ W (number_of contexts i 0)
+    Said r = (M r ≡ true) ⊎ W (number_of contexts i 0)
 
     said : (turns r : ℕ) → r < turns → r < length (B i) → is_root (B i) r ≡ true → W (number_of contexts i r) → Said r
     said zero r few inside root w = absurd (omega (arith, few))
     said (suc turns) zero few inside root w = inr w
     said (suc turns) (suc r) few inside root w = elim (cases-of S all (number_of contexts i (suc r)) w) [
       | inl e ↦ (let t = root-is (suc r) (omega arith) inside root (sym (first-is i (suc r) lt inside root) ∙ e) in
-          inl (or-right (m (suc r)) (is_table_box (listed_at (B i) (suc r))) t.0, t.1))
+          inl (or-right (m (suc r)) (is_table_box (listed_at (B i) (suc r))) t))
       | inr out ↦ (let h : ℕ = home i (suc r) in
           let there = home_there contexts of.homes are of.homes_are i (suc r) lt inside in
           let root_there = home_root contexts of.homes are of.homes_are i (suc r) lt inside in
           let before : h < suc r = home_before (B i) boxes_ok.tree (suc r) h inside ((of.homes_are.each i lt).each (suc r) inside) (omega arith) in
           elim (said turns h (omega (arith, before, few)) there root_there (subst W (root-outer i r lt inside root) out.1)) [
-            | inl p ↦ inl (or-left (m (suc r)) (is_table_box (listed_at (B i) (suc r))) (to-home (suc r) (omega arith) inside ∙ p.0), p.1)
+            | inl p ↦ inl (or-left (m (suc r)) (is_table_box (listed_at (B i) (suc r))) (to-home (suc r) (omega arith) inside ∙ p))
             | inr w ↦ inr w
           ])
     ]
@@ -251,14 +263,14 @@ module _ (S : Flow → BoxKind → Bool) (spares : SparesAnonymous S) (d : Docum
         out p = outward (number_of contexts i (suc r)) (root-some i (suc r) (omega arith)) (subst W (sym (root-outer i r lt inside root)) (rest p))
 
         by : Said (suc r) → W (number_of contexts i (suc r))
-        by (inl p) = elim (or-cases (m (suc r)) (is_table_box (listed_at (B i) (suc r))) p.0) [
-          | inl mark ↦ out (inl (sym (to-home (suc r) (omega arith) inside) ∙ mark, p.1))
-          | inr t ↦ first (number_of contexts i (suc r)) (first-is i (suc r) lt inside root ∙ table-is (suc r) inside t p.1)
+        by (inl p) = elim (or-cases (m (suc r)) (is_table_box (listed_at (B i) (suc r))) p) [
+          | inl mark ↦ out (inl (sym (to-home (suc r) (omega arith) inside) ∙ mark))
+          | inr t ↦ first (number_of contexts i (suc r)) (first-is i (suc r) lt inside root ∙ table-is (suc r) inside t)
         ]
         by (inr w) = out (inr w)
 
     back-own : Said 0 → W (number_of contexts i 0)
-    back-own (inl p) = absurd (differ (M 0) p.0 (no-own 0 refl))
+    back-own (inl p) = absurd (differ (M 0) p (no-own 0 refl))
     back-own (inr w) = w
 
     back : (turns r : ℕ) → r < turns → r < length (B i) → is_root (B i) r ≡ true → Said r → W (number_of contexts i r)
@@ -349,18 +361,18 @@ module _ (S : Flow → BoxKind → Bool) (spares : SparesAnonymous S) (d : Docum
       h-root = home_root contexts of.homes are of.homes_are o k o-in k-in
 
       -- what the formatting context around says
-      into : W (number_of contexts o (home o k)) → (IsInStrayPart d.nodes styles (place (suc i)) × (S InFlow InlineWrapper ≡ true)) ⊎ W (number_of contexts o 0)
+      into : W (number_of contexts o (home o k)) → IsInStrayPart d.nodes styles (place (suc i)) ⊎ W (number_of contexts o 0)
       into w = elim (said o o-in marks known (suc (home o k)) (home o k) (omega arith) h-in h-root w) [
-        | inl p ↦ inl (stray-is.0 (to-home o o-in marks known k k-some k-in ∙ p.0), p.1)
+        | inl p ↦ inl (stray-is.0 (to-home o o-in marks known k k-some k-in ∙ p))
         | inr v ↦ inr v
       ]
 
-      onto : (IsInStrayPart d.nodes styles (place (suc i)) × (S InFlow InlineWrapper ≡ true)) ⊎ W (number_of contexts o 0) → W (number_of contexts o (home o k))
+      onto : IsInStrayPart d.nodes styles (place (suc i)) ⊎ W (number_of contexts o 0) → W (number_of contexts o (home o k))
       onto q = back o o-in marks known (suc (home o k)) (home o k) (omega arith) h-in h-root (by q)
         where
-          by : (IsInStrayPart d.nodes styles (place (suc i)) × (S InFlow InlineWrapper ≡ true)) ⊎ W (number_of contexts o 0)
-              → (((get_or marks (home o k) false || is_table_box (listed_at (B o) (home o k))) ≡ true) × (S InFlow InlineWrapper ≡ true)) ⊎ W (number_of contexts o 0)
-          by (inl p) = inl (sym (to-home o o-in marks known k k-some k-in) ∙ stray-is.1 p.0, p.1)
+          by : IsInStrayPart d.nodes styles (place (suc i)) ⊎ W (number_of contexts o 0)
+              → ((get_or marks (home o k) false || is_table_box (listed_at (B o) (home o k))) ≡ true) ⊎ W (number_of contexts o 0)
+          by (inl p) = inl (sym (to-home o o-in marks known k k-some k-in) ∙ stray-is.1 p)
           by (inr v) = inr v
 
   first-own : (i : ℕ) → i < length contexts → Is S (listed_at (boxes_of all (number_of contexts i 0)) 0) ≡ true → IsWithin S d.nodes styles (place i)
@@ -368,7 +380,7 @@ module _ (S : Flow → BoxKind → Bool) (spares : SparesAnonymous S) (d : Docum
       let f = facts-of i lt in
       own (place i) f.0 f.1 (sym (own-says i lt) ∙ (sym (first-is i 0 lt (are.boxes i lt).some refl) ∙ e))
 
-  own-first : (i : ℕ) → i < length contexts → (f : Facts) → box_at d.nodes styles (place i) ≡ Some f → S f.flow (kind_of (text_at d.nodes (place i)) f.form) ≡ true → W (number_of contexts i 0)
+  own-first : (i : ℕ) → i < length contexts → (f : Facts) → box_at d.nodes styles (place i) ≡ Some f → S f.flow (kind_of (text_at d.nodes (place i)) f.form) (style_at styles (place i)) ≡ true → W (number_of contexts i 0)
   own-first i lt f there e =
       first (number_of contexts i 0)
       (first-is i 0 lt (are.boxes i lt).some refl
@@ -386,13 +398,13 @@ module _ (S : Flow → BoxKind → Bool) (spares : SparesAnonymous S) (d : Docum
   Nodes j = IsWithin S d.nodes styles j
 
   record Cases (j : ℕ) (A : Type 0) : Type 0 where
-    by_own : (f : Facts) → box_at d.nodes styles j ≡ Some f → S f.flow (kind_of (text_at d.nodes j) f.form) ≡ true → A
-    by_table : IsInStrayPart d.nodes styles j → S InFlow InlineWrapper ≡ true → A
+    by_own : (f : Facts) → box_at d.nodes styles j ≡ Some f → S f.flow (kind_of (text_at d.nodes j) f.form) (style_at styles j) ≡ true → A
+    by_table : IsInStrayPart d.nodes styles j → A
     by_around : (a : ℕ) → IsAround d.nodes styles j a → Nodes a → A
 
   node-cases : (A : Type 0) (j : ℕ) → Nodes j → Cases j A → A
   node-cases A _ (own j f there e) c = c.by_own f there e
-  node-cases A _ (table j w e) c = c.by_table w e
+  node-cases A _ (table j w) c = c.by_table w
   node-cases A _ (around j a outside w) c = c.by_around a outside w
 
   stray-some : (j : ℕ) → IsInStrayPart d.nodes styles j → 0 < j
@@ -410,13 +422,13 @@ module _ (S : Flow → BoxKind → Bool) (spares : SparesAnonymous S) (d : Docum
     | inr out ↦ (let marks = marks-of (o i lt) (o-in i lt) in
         let low_o = before i lt in
         elim (into i lt marks.0 marks.1 (subst W (context-outer i lt) out.1)) [
-          | inl p ↦ table (place (suc i)) p.0 p.1
+          | inl p ↦ table (place (suc i)) p
           | inr v ↦ around (place (suc i)) (place (o i lt)) (nearest i lt) (to-nodes turns (o i lt) (omega (arith, low_o, few)) (o-in i lt) v)
         ])
   ]
 
   -- out of the context around
-  outside-by : (i : ℕ) (lt : suc i < length contexts) → (IsInStrayPart d.nodes styles (place (suc i)) × (S InFlow InlineWrapper ≡ true)) ⊎ W (number_of contexts (o i lt) 0) → W (number_of contexts (suc i) 0)
+  outside-by : (i : ℕ) (lt : suc i < length contexts) → IsInStrayPart d.nodes styles (place (suc i)) ⊎ W (number_of contexts (o i lt) 0) → W (number_of contexts (suc i) 0)
   outside-by i lt q =
       let marks = marks-of (o i lt) (o-in i lt) in
       outward (number_of contexts (suc i) 0) (context-some i lt) (subst W (sym (context-outer i lt)) (onto i lt marks.0 marks.1 q))
@@ -425,12 +437,12 @@ module _ (S : Flow → BoxKind → Bool) (spares : SparesAnonymous S) (d : Docum
   from-nodes zero i few lt w = absurd (omega (arith, few))
   from-nodes (suc turns) zero few lt w = node-cases (W (number_of contexts 0 0)) (place 0) w (record {
     by_own = λ f there e. own-first 0 lt f there e;
-    by_table = λ q e. absurd (let z = stray-some (place 0) q in omega (arith, z, place-root));
+    by_table = λ q. absurd (let z = stray-some (place 0) q in omega (arith, z, place-root));
     by_around = λ a outside v. absurd (let z = around-before d.nodes styles (place 0) doc.tree (place 0) a (within d.nodes styles (place 0) (marked-true (is_marked (box_at d.nodes styles (place 0))) (context-is 0 lt).establishes)) outside in omega (arith, z, place-root));
   })
   from-nodes (suc turns) (suc i) few lt w = node-cases (W (number_of contexts (suc i) 0)) (place (suc i)) w (record {
     by_own = λ f there e. own-first (suc i) lt f there e;
-    by_table = λ q e. outside-by i lt (inl (q, e));
+    by_table = λ q. outside-by i lt (inl q);
     by_around = λ a outside v.
         (let is = one-around d.nodes styles (place (suc i)) a (place (o i lt)) outside (nearest i lt) in
         let low_o = before i lt in
@@ -438,7 +450,7 @@ module _ (S : Flow → BoxKind → Bool) (spares : SparesAnonymous S) (d : Docum
   })
 
 pub within_outward_by_nodes : WithinOutwardByNodes
-within_outward_by_nodes S d styles contexts all spares lists i lt = (
-  λ w. to-nodes S spares d styles contexts all lists.document lists.count lists.contexts_are lists.all_are (suc i) i (omega arith) lt w,
-  λ w. from-nodes S spares d styles contexts all lists.document lists.count lists.contexts_are lists.all_are (suc i) i (omega arith) lt w,
+within_outward_by_nodes S d styles contexts all takes lists i lt = (
+  λ w. to-nodes S takes d styles contexts all lists.document lists.count lists.contexts_are lists.all_are (suc i) i (omega arith) lt w,
+  λ w. from-nodes S takes d styles contexts all lists.document lists.count lists.contexts_are lists.all_are (suc i) i (omega arith) lt w,
 )

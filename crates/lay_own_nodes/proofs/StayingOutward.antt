@@ -30,7 +30,7 @@ use Rattle.lay_own_nodes.proofs.RootChains.{Is, cases-of, spot-of-root, within_o
 use Rattle.lay_own_nodes.proofs.SameTrees.{or-map}
 
 -- The roots of a context, by their homes.
-module _ (S : Flow → BoxKind → Bool) (d : Document) (styles : List Style) (contexts : List Context) (all : List FormattingContext) (lists : AreListsOf d styles contexts all) (i : ℕ) (lt : i < length contexts) where
+module _ (S : Flow → BoxKind → Style → Bool) (d : Document) (styles : List Style) (contexts : List Context) (all : List FormattingContext) (lists : AreListsOf d styles contexts all) (i : ℕ) (lt : i < length contexts) where
   are : AreContexts contexts
   are = are_contexts d styles contexts lists.document lists.count lists.contexts_are
 
@@ -70,7 +70,7 @@ module _ (S : Flow → BoxKind → Bool) (d : Document) (styles : List Style) (c
   root-back r inside root (inr w) =
       outward (number_of contexts i (suc r)) (let n = roots_lt (boxes_in contexts i) 0 (suc r) refl (omega arith) in omega (arith, n)) (subst (IsWithinOutward S all) (sym (outer r inside root)) w)
 
-module _ (S : Flow → BoxKind → Bool) (d e : Document) (styles others : List Style) (contexts later : List Context) (all rest : List FormattingContext)
+module _ (S : Flow → BoxKind → Style → Bool) (d e : Document) (styles others : List Style) (contexts later : List Context) (all rest : List FormattingContext)
     (lists : AreListsOf d styles contexts all) (later_lists : AreListsOf e others later rest) (i j : ℕ) (lt : i < length contexts) (later_lt : j < length later) (same : boxes_in contexts i ≡ boxes_in later j)
     (own : IsWithinOutward S all (number_of contexts i 0) → IsWithinOutward S rest (number_of later j 0)) where
   abbrev h : ℕ → ℕ
@@ -120,7 +120,7 @@ pub place-there : (d : Document) (styles : List Style) (contexts : List Context)
 place-there d styles contexts of i lt = ap (λ (s : ContextSpot). s.place) (of.numbered.each i lt).spot
 
 pub unreached_contexts_stay_outward : UnreachedContextsStayOutward
-unreached_contexts_stay_outward S d edit styles others contexts later all rest spares edits lists later_lists i lt apart =
+unreached_contexts_stay_outward S d edit styles others contexts later all rest takes edits lists later_lists i lt apart =
     let p : ℕ = (context_at contexts i).place in
     let of = lists.contexts_are in
     let of_later = later_lists.contexts_are in
@@ -131,8 +131,8 @@ unreached_contexts_stay_outward S d edit styles others contexts later all rest s
     let j : ℕ = found.0 in
     let j_in : j < length later = (let l = found.1 in omega (arith, l, of_later.numbered.count)) in
     let at : (context_at later j).place ≡ c.0 = place-there (after d edit) others later of_later j j_in ∙ found.2 in
-    let mine = within_outward_by_nodes S d styles contexts all spares lists i lt in
-    let theirs = within_outward_by_nodes S (after d edit) others later rest spares later_lists j j_in in (
+    let mine = within_outward_by_nodes S d styles contexts all takes lists i lt in
+    let theirs = within_outward_by_nodes S (after d edit) others later rest takes later_lists j j_in in (
       j,
       record {
         within = j_in;

@@ -1,7 +1,8 @@
--- From a box to the nearest root above it: whether it stands in an anonymous inline-table is said there too.
+-- From a box to the nearest root above it: whether it stands in an anonymous table is said there too.
 use Rattle.std.proofs.Common.{◌≡◌, ◌⊎◌, inl, inr, ℕ, zero, suc, ◌<◌, Bool, true, false, ◌&&◌, ◌||◌, not, List, length, get_or, refl, ap, sym, ◌∙◌, arith}
 use Rattle.std.proofs.lemmas.List.{get_or-map}
 use Rattle.lay_style.specs.declared.style.Style.{Style}
+use Rattle.lay_style.specs.declared.style_words.TableLayout.TheVariants.{Auto}
 use Rattle.lay_doc.specs.declared.node.Node.{Node}
 use Rattle.lay_box_tree.specs.BoxColumns.{box_at, no_box}
 use Rattle.lay_box_tree.specs.Containers.{box_parent}
@@ -12,25 +13,14 @@ use Rattle.lay_box_tree.specs.declared.box_tree.Flow.{Flow}
 use Rattle.lay_box_tree.specs.declared.box_tree.Flow.TheVariants.{InFlow}
 use Rattle.lay_contexts.specs.Homes.{IsHome, further, is_anonymous_root, is_root, is_wrapper_or_cell, own, parent}
 use Rattle.lay_contexts.proofs.NearestRoots.{not_own}
-use Rattle.lay_own_nodes.specs.Shrinking.{SparesAnonymous}
+use Rattle.lay_own_nodes.specs.Shrinking.{TakesAnonymousTables}
+use Rattle.lay_own_nodes.proofs.StrayForms.{or-false}
 use Rattle.lay_own_nodes.proofs.TableMarks.{Marked, is_table_box, is_wrapper_kind}
 
 -- Booleans.
 pub or-cases : (b c : Bool) → (b || c) ≡ true → (b ≡ true) ⊎ (c ≡ true)
 or-cases true c e = inl refl
 or-cases false c e = inr e
-
-pub or-left : (b c : Bool) → b ≡ true → (b || c) ≡ true
-or-left true c e = refl
-or-left false c e = absurd cc
-
-pub or-right : (b c : Bool) → c ≡ true → (b || c) ≡ true
-or-right true c e = refl
-or-right false c e = e
-
-pub or-none : (b c : Bool) → c ≡ false → (b || c) ≡ b
-or-none true c e = refl
-or-none false c e = e
 
 pub differ : (b : Bool) → b ≡ true → b ≡ false → ⊥
 differ true e h = cc
@@ -42,71 +32,26 @@ not-true false h = refl
 
 -- Kinds of boxes.
 table-root : (a i : Bool) (x : BoxKind) → (a && is_wrapper_kind x) ≡ true → (i ≡ true → a ≡ false) → (a && not i && is_wrapper_or_cell x) ≡ true
-table-root false i x e h = absurd cc
 table-root true true x e h = absurd (let z = h refl in cc)
+table-root true false kind.Wrapper e h = refl
 table-root true false kind.InlineWrapper e h = refl
-table-root true false kind.Block e h = absurd cc
-table-root true false kind.InlineBlock e h = absurd cc
-table-root true false kind.Inline e h = absurd cc
-table-root true false (kind.Text t) e h = absurd cc
-table-root true false (kind.Replaced w z l) e h = absurd cc
-table-root true false kind.Wrapper e h = absurd cc
-table-root true false kind.Table e h = absurd cc
-table-root true false kind.Caption e h = absurd cc
-table-root true false kind.RowGroup e h = absurd cc
-table-root true false kind.HeaderGroup e h = absurd cc
-table-root true false kind.FooterGroup e h = absurd cc
-table-root true false kind.Row e h = absurd cc
-table-root true false (kind.ColumnGroup n) e h = absurd cc
-table-root true false (kind.Column n) e h = absurd cc
-table-root true false (kind.Cell m n) e h = absurd cc
-table-root true false kind.Anchor e h = absurd cc
+table-root _ _ x e h = absurd cc
 
-module _ (S : Flow → BoxKind → Bool) (spares : SparesAnonymous S) where
+module _ (S : Flow → BoxKind → Style → Bool) (takes : TakesAnonymousTables S) where
   abbrev pub Is : BoxNode → Bool
-  Is b = S b.flow b.kind
+  Is b = S b.flow b.kind b.style
 
-  -- the only anonymous root that is such a one
-  pub root-kinds : (a i : Bool) (x : BoxKind) → (a && not i && is_wrapper_or_cell x) ≡ true → S InFlow x ≡ true → ((a && is_wrapper_kind x) ≡ true) × (S InFlow kind.InlineWrapper ≡ true)
-  root-kinds false i x e h = absurd cc
-  root-kinds true true x e h = absurd cc
-  root-kinds true false kind.InlineWrapper e h = (refl, h)
-  root-kinds true false kind.Wrapper e h = absurd (differ (S InFlow kind.Wrapper) h spares.wrapper)
-  root-kinds true false (kind.Cell m n) e h = absurd (differ (S InFlow (kind.Cell m n)) h (spares.cell m n))
-  root-kinds true false kind.Block e h = absurd cc
-  root-kinds true false kind.InlineBlock e h = absurd cc
-  root-kinds true false kind.Inline e h = absurd cc
-  root-kinds true false (kind.Text t) e h = absurd cc
-  root-kinds true false (kind.Replaced w z l) e h = absurd cc
-  root-kinds true false kind.Table e h = absurd cc
-  root-kinds true false kind.Caption e h = absurd cc
-  root-kinds true false kind.RowGroup e h = absurd cc
-  root-kinds true false kind.HeaderGroup e h = absurd cc
-  root-kinds true false kind.FooterGroup e h = absurd cc
-  root-kinds true false kind.Row e h = absurd cc
-  root-kinds true false (kind.ColumnGroup n) e h = absurd cc
-  root-kinds true false (kind.Column n) e h = absurd cc
-  root-kinds true false kind.Anchor e h = absurd cc
+  -- the only anonymous roots that are such ones
+  pub root-kinds : (a i : Bool) (x : BoxKind) (s : Style) → (a && not i && is_wrapper_or_cell x) ≡ true → S InFlow x s ≡ true → (a && is_wrapper_kind x) ≡ true
+  root-kinds true false kind.Wrapper s e h = refl
+  root-kinds true false kind.InlineWrapper s e h = refl
+  root-kinds true false (kind.Cell m n) s e h = absurd (differ (S InFlow (kind.Cell m n) s) h (takes.cell m n s))
+  root-kinds _ _ x s e h = absurd cc
 
-  pub table-kind : (a : Bool) (x : BoxKind) → (a && is_wrapper_kind x) ≡ true → S InFlow kind.InlineWrapper ≡ true → S InFlow x ≡ true
-  table-kind false x e h = absurd cc
-  table-kind true kind.InlineWrapper e h = h
-  table-kind true kind.Wrapper e h = absurd cc
-  table-kind true (kind.Cell m n) e h = absurd cc
-  table-kind true kind.Block e h = absurd cc
-  table-kind true kind.InlineBlock e h = absurd cc
-  table-kind true kind.Inline e h = absurd cc
-  table-kind true (kind.Text t) e h = absurd cc
-  table-kind true (kind.Replaced w z l) e h = absurd cc
-  table-kind true kind.Table e h = absurd cc
-  table-kind true kind.Caption e h = absurd cc
-  table-kind true kind.RowGroup e h = absurd cc
-  table-kind true kind.HeaderGroup e h = absurd cc
-  table-kind true kind.FooterGroup e h = absurd cc
-  table-kind true kind.Row e h = absurd cc
-  table-kind true (kind.ColumnGroup n) e h = absurd cc
-  table-kind true (kind.Column n) e h = absurd cc
-  table-kind true kind.Anchor e h = absurd cc
+  pub table-kind : (a : Bool) (x : BoxKind) (s : Style) → (a && is_wrapper_kind x) ≡ true → s.table.layout ≡ Auto → S InFlow x s ≡ true
+  table-kind true kind.Wrapper s e h = takes.wrapper s h
+  table-kind true kind.InlineWrapper s e h = takes.inline_wrapper s h
+  table-kind _ x s e h = absurd cc
 
 pub root-flag : (boxes : List BoxNode) (k : ℕ) → 0 < k → k < length boxes → is_root boxes k ≡ is_anonymous_root (box_at boxes k)
 root-flag boxes zero positive lt = absurd (omega (arith, positive))
@@ -127,7 +72,7 @@ module _ (nodes_of : List Node) (ss : List Style) (boxes : List BoxNode) (marks 
   pub none-at-own : (k : ℕ) → k ≡ 0 → (mark k || is_table_box (box_at boxes k)) ≡ false
   none-at-own k z =
       ap (λ (j : ℕ). mark j || is_table_box (box_at boxes j)) z
-      ∙ (or-none (mark 0) (is_table_box (box_at boxes 0)) own-no-table ∙ known.own)
+      ∙ (or-false (mark 0) (is_table_box (box_at boxes 0)) own-no-table ∙ known.own)
 
   step : (k : ℕ) → 0 < k → k < length boxes → mark k ≡ (mark (box_parent boxes k) || is_table_box (box_at boxes (box_parent boxes k)))
   step k positive lt = elim (known.above k positive lt) [
@@ -150,4 +95,4 @@ module _ (nodes_of : List Node) (ss : List Style) (boxes : List BoxNode) (marks 
       let p_in : p < length boxes = omega (arith, before, lt) in
       let p_some : 0 < p = not_own boxes p e in
       let no_table : is_table_box (box_at boxes p) ≡ false = not-true (is_table_box (box_at boxes p)) (λ t. differ (is_root boxes p) (table-is-root p p_some p_in t) e) in
-      step k positive lt ∙ (or-none (mark p) (is_table_box (box_at boxes p)) no_table ∙ chain p h up p_some p_in)
+      step k positive lt ∙ (or-false (mark p) (is_table_box (box_at boxes p)) no_table ∙ chain p h up p_some p_in)

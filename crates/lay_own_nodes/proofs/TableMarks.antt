@@ -1,11 +1,14 @@
--- The boxes of a context as a list, each with whether it stands in an anonymous inline-table.
-use Rattle.std.proofs.Common.{◌≡◌, ◌⊎◌, inl, inr, ℕ, zero, suc, ◌+◌, ◌-◌, ◌<◌, ◌↔◌, Bool, true, false, ◌&&◌, ◌||◌, List, [], ◌∷◌, ◌++◌, length, map, get_or, refl, ap, sym, subst, ◌∙◌, arith, slice_index}
+-- The boxes of a context as a list, each with whether it stands in an anonymous table.
+use Rattle.std.proofs.Common.{◌≡◌, ◌⊎◌, inl, inr, ℕ, zero, suc, ◌+◌, ◌-◌, ◌<◌, ◌↔◌, Bool, true, false, ◌&&◌, ◌||◌, List, [], ◌∷◌, ◌++◌, length, map, get_or, if◌then◌else◌, refl, ap, sym, subst, ◌∙◌, arith, slice_index}
 use Rattle.std.proofs.lemmas.Bool.{cases_lt}
 use Rattle.std.proofs.lemmas.List.{get_or-map, length-append}
 use Rattle.lay_style.specs.declared.style.Style.{Style}
+use Rattle.lay_style.specs.declared.style_words.TableLayout.TheVariants.{Auto}
+use Rattle.lay_style.specs.ComputedStyle.{style_at}
 use Rattle.lay_doc.specs.declared.node.Node.{Node}
 use Rattle.lay_doc.specs.Document.{ids_of}
 use Rattle.lay_anonymous_boxes.specs.Boxes.{Tree, Trees, tree, no_trees, also, trees_of}
+use Rattle.lay_anonymous_boxes.specs.Forms.{is_anchor, is_table}
 use Rattle.lay_anonymous_boxes.specs.declared.facts.Facts.{Facts}
 use Rattle.lay_anonymous_boxes.specs.declared.facts.Form.{Form}
 use Rattle.lay_anonymous_boxes.specs.declared.facts.Form.TheVariants as form
@@ -13,11 +16,12 @@ use Rattle.lay_box_tree.specs.BoxColumns.{box_at, box_parents, no_box}
 use Rattle.lay_box_tree.specs.declared.box_tree.BoxKind.{BoxKind}
 use Rattle.lay_box_tree.specs.declared.box_tree.BoxKind.TheVariants as kind
 use Rattle.lay_box_tree.specs.declared.box_tree.BoxNode.{BoxNode}
-use Rattle.lay_boxgen.specs.Listing.{all_listed, box_node, kind_of, listed, listed_part, text_at}
-use Rattle.lay_own_nodes.specs.InlineTables.{AllInside, EachInside, IsInStrayPart, IsKnownInside, ListInside, is_inline_table, is_inline_wrapper}
+use Rattle.lay_boxgen.specs.Listing.{all_listed, box_node, box_style, kind_of, listed, listed_part, style_of, text_at}
+use Rattle.lay_own_nodes.specs.AnonymousTables.{AllInside, EachInside, IsInStrayPart, IsKnownInside, ListInside, is_anonymous_table}
 
--- the box is the wrapper of an anonymous inline-table
+-- the box is the wrapper of an anonymous table
 abbrev pub is_wrapper_kind : BoxKind → Bool
+is_wrapper_kind kind.Wrapper = true
 is_wrapper_kind kind.InlineWrapper = true
 is_wrapper_kind _ = false
 
@@ -27,29 +31,14 @@ is_table_box b = b.anonymous && is_wrapper_kind b.kind
 abbrev pub table_boxes : List BoxNode → List Bool
 table_boxes boxes = map is_table_box boxes
 
-wrapper-kind : (text : List ℕ) (x : Form) → is_wrapper_kind (kind_of text x) ≡ is_inline_wrapper x
-wrapper-kind text form.InlineWrapper = refl
-wrapper-kind text form.Inline = refl
-wrapper-kind text form.Anchor = refl
-wrapper-kind text form.Block = refl
-wrapper-kind text form.InlineBlock = refl
-wrapper-kind text (form.Text t) = refl
-wrapper-kind text (form.Replaced w h i) = refl
+wrapper-kind : (text : List ℕ) (x : Form) → is_wrapper_kind (kind_of text x) ≡ is_table x
 wrapper-kind text form.Wrapper = refl
-wrapper-kind text form.Table = refl
-wrapper-kind text form.Caption = refl
-wrapper-kind text form.RowGroup = refl
-wrapper-kind text form.HeaderGroup = refl
-wrapper-kind text form.FooterGroup = refl
-wrapper-kind text form.Row = refl
-wrapper-kind text (form.ColumnGroup n) = refl
-wrapper-kind text (form.Column n) = refl
-wrapper-kind text (form.Cell m n) = refl
+wrapper-kind text _ = refl
 
 -- whether each box stands in one
 abbrev mutual
   pub marks_of : Bool → Tree → List Bool
-  marks_of b (tree f us) = b ∷ all_marks (b || is_inline_table f) us
+  marks_of b (tree f us) = b ∷ all_marks (b || is_anonymous_table f) us
 
   pub all_marks : Bool → Trees → List Bool
   all_marks b no_trees = []
@@ -146,7 +135,7 @@ length-parents [] = refl
 length-parents (x ∷ xs) = ap suc (length-parents xs)
 
 module _ (nodes : List Node) (styles : List Style) where
-  table-is : (above : Facts) (parent : ℕ) (f : Facts) → is_table_box (box_node nodes styles above parent f) ≡ is_inline_table f
+  table-is : (above : Facts) (parent : ℕ) (f : Facts) → is_table_box (box_node nodes styles above parent f) ≡ is_anonymous_table f
   table-is above parent f = ap (λ (x : Bool). f.anonymous && x) (wrapper-kind (text_at nodes f.place) f.form)
 
   mutual
@@ -154,8 +143,8 @@ module _ (nodes : List Node) (styles : List Style) where
         → HasMarks parent at b (box_parents (listed nodes styles above parent at t)) (table_boxes (listed nodes styles above parent at t)) (marks_of b t)
     tree-marks above parent at b (tree f us) =
         let boxes = all_listed nodes styles f at (at + 1) us in
-        subst (λ (x : Bool). HasMarks parent at b (parent ∷ box_parents boxes) (x ∷ table_boxes boxes) (b ∷ all_marks (b || is_inline_table f) us)) (sym (table-is above parent f))
-        (marks-grow parent at b (is_inline_table f) (box_parents boxes) (table_boxes boxes) (all_marks (b || is_inline_table f) us) (trees-marks f at (at + 1) (b || is_inline_table f) us))
+        subst (λ (x : Bool). HasMarks parent at b (parent ∷ box_parents boxes) (x ∷ table_boxes boxes) (b ∷ all_marks (b || is_anonymous_table f) us)) (sym (table-is above parent f))
+        (marks-grow parent at b (is_anonymous_table f) (box_parents boxes) (table_boxes boxes) (all_marks (b || is_anonymous_table f) us) (trees-marks f at (at + 1) (b || is_anonymous_table f) us))
 
     trees-marks : (above : Facts) (parent at : ℕ) (b : Bool) (ts : Trees)
         → HasMarks parent at b (box_parents (all_listed nodes styles above parent at ts)) (table_boxes (all_listed nodes styles above parent at ts)) (all_marks b ts)
@@ -194,7 +183,7 @@ module _ (nodes : List Node) (styles : List Style) (P : Bool → Facts → Type 
     (says : (b : Bool) (above : Facts) (parent : ℕ) (f : Facts) → P b f → Q b (box_node nodes styles above parent f)) where
   mutual
     tree-pairs : (above : Facts) (parent at : ℕ) (b : Bool) (t : Tree) → EachInside P b t → Pairs Q (marks_of b t) (listed nodes styles above parent at t)
-    tree-pairs above parent at b (tree f us) h = (says b above parent f h.0, trees-pairs f at (at + 1) (b || is_inline_table f) us h.1)
+    tree-pairs above parent at b (tree f us) h = (says b above parent f h.0, trees-pairs f at (at + 1) (b || is_anonymous_table f) us h.1)
 
     trees-pairs : (above : Facts) (parent at : ℕ) (b : Bool) (ts : Trees) → AllInside P b ts → Pairs Q (all_marks b ts) (all_listed nodes styles above parent at ts)
     trees-pairs above parent at b no_trees h = tt
@@ -212,12 +201,22 @@ pub record Marked (nodes : List Node) (styles : List Style) (boxes : List BoxNod
   pub above : (k : ℕ) → 0 < k → k < length boxes
       → ((slice_index (box_parents boxes) k ≡ 0) × (get_or marks k false ≡ false))
       ⊎ (get_or marks k false ≡ (get_or marks (slice_index (box_parents boxes) k) false || is_table_box (box_at boxes (slice_index (box_parents boxes) k))))
+  pub automatic : (k : ℕ) → k < length boxes → is_table_box (box_at boxes k) ≡ true → (box_at boxes k).style.table.layout ≡ Auto
   pub known : (k : ℕ) → k < length boxes → (box_at boxes k).inner ≡ true
       → ((box_at boxes k).anonymous ≡ false) × ((x : ℕ) × (x < length nodes) × (slice_index (ids_of nodes) x ≡ (box_at boxes k).node.0) × ((get_or marks k false ≡ true) ↔ IsInStrayPart nodes styles x))
 
 -- a box by itself, by what is known of its facts
 abbrev KnownBox : List Node → List Style → Bool → BoxNode → Type 0
-KnownBox nodes styles b x = x.inner ≡ true → (x.anonymous ≡ false) × ((k : ℕ) × (k < length nodes) × (slice_index (ids_of nodes) k ≡ x.node.0) × ((b ≡ true) ↔ IsInStrayPart nodes styles k))
+KnownBox nodes styles b x =
+    (x.inner ≡ true → (x.anonymous ≡ false) × ((k : ℕ) × (k < length nodes) × (slice_index (ids_of nodes) k ≡ x.node.0) × ((b ≡ true) ↔ IsInStrayPart nodes styles k)))
+    × (is_table_box x ≡ true → x.style.table.layout ≡ Auto)
+
+-- an anonymous table has the initial `table-layout`
+automatic-style : (styles : List Style) (above f : Facts) (text : List ℕ) (a : Bool) (x : Form) → f.anonymous ≡ a → (a && is_wrapper_kind (kind_of text x)) ≡ true
+    → (style_of styles (if is_anchor x then above else f)).table.layout ≡ Auto
+automatic-style styles above f text true form.Wrapper e h = ap (λ (b : Bool). (box_style b (style_at styles f.place)).table.layout) e
+automatic-style styles above f text true form.InlineWrapper e h = ap (λ (b : Bool). (box_style b (style_at styles f.place)).table.layout) e
+automatic-style styles above f text _ x e h = absurd cc
 
 module _ (nodes : List Node) (styles : List Style) (f : Facts) (us : Trees) (ts : List Tree) (h : ListInside (IsKnownInside nodes styles) false (tree f us ∷ ts)) where
   abbrev boxes : List BoxNode
@@ -232,7 +231,10 @@ module _ (nodes : List Node) (styles : List Style) (f : Facts) (us : Trees) (ts 
   pairs : Pairs (KnownBox nodes styles) marks boxes
   pairs =
       trees-pairs nodes styles (IsKnownInside nodes styles) (KnownBox nodes styles)
-      (λ b over parent g known inner. (let n = known inner in (n.element, (n.place, n.within, n.node, n.inside_is))))
+      (λ b over parent g known. (
+        λ inner. (let n = known inner in (n.element, (n.place, n.within, n.node, n.inside_is))),
+        λ h. automatic-style styles over g (text_at nodes g.place) g.anonymous g.form refl h,
+      ))
       f 0 0 false (trees_of (tree f us ∷ ts)) (all-inside (IsKnownInside nodes styles) false (tree f us ∷ ts) h)
 
   above : (k : ℕ) → 0 < k → k < length boxes
@@ -250,5 +252,6 @@ module _ (nodes : List Node) (styles : List Style) (f : Facts) (us : Trees) (ts 
   marked-part = record {
     own = refl;
     above = above;
-    known = λ k lt inner. pair-at (KnownBox nodes styles) marks boxes pairs k lt inner;
+    automatic = λ k lt h. (pair-at (KnownBox nodes styles) marks boxes pairs k lt).1 h;
+    known = λ k lt inner. (pair-at (KnownBox nodes styles) marks boxes pairs k lt).0 inner;
   }

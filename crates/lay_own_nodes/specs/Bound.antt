@@ -13,7 +13,7 @@ use Rattle.lay_contexts.specs.FormattingContextList.{number_of}
 use Rattle.lay_contexts.specs.FormattingContexts.{FormattingContext}
 use Rattle.lay_contexts.specs.Homes.{is_root}
 use Rattle.lay_own_nodes.specs.Anchors.{HasAbsoluteBox, IsRestyling, ReachesNode}
-use Rattle.lay_own_nodes.specs.Shrinking.{AreListsOf, IsWithinOutward, SparesAnonymous}
+use Rattle.lay_own_nodes.specs.Shrinking.{AreListsOf, IsWithinOutward, TakesAnonymousTables}
 use Rattle.lay_own_nodes.specs.Touched.{Edits, HasReached}
 
 -- the id of the element of the context with the number i
@@ -22,7 +22,7 @@ id_of d contexts i = slice_index (ids_of d.nodes) (context_at contexts i).place
 
 -- the context with the number j after an edit is that with the number i before it, with the same boxes, and says the same of all its
 -- roots: its own box, and the anonymous tables and cells in it
-pub record IsUntouched (S : Flow → BoxKind → Bool) (d e : Document) (contexts later : List Context) (all rest : List FormattingContext)
+pub record IsUntouched (S : Flow → BoxKind → Style → Bool) (d e : Document) (contexts later : List Context) (all rest : List FormattingContext)
     (i j : ℕ) : Type 0 where
   pub within : j < length later
   pub element : id_of e later j ≡ id_of d contexts i
@@ -31,9 +31,9 @@ pub record IsUntouched (S : Flow → BoxKind → Bool) (d e : Document) (context
       → IsWithinOutward S all (number_of contexts i r) ↔ IsWithinOutward S rest (number_of later j r)
 
 abbrev pub EditsTouchNoOthers : Type 0
-EditsTouchNoOthers = (S : Flow → BoxKind → Bool) (d : Document) (edit : Edit) (styles others : List Style)
+EditsTouchNoOthers = (S : Flow → BoxKind → Style → Bool) (d : Document) (edit : Edit) (styles others : List Style)
     (contexts later : List Context) (all rest : List FormattingContext)
-    → SparesAnonymous S → Edits d edit styles others → AreListsOf d styles contexts all → AreListsOf (after d edit) others later rest
+    → TakesAnonymousTables S → Edits d edit styles others → AreListsOf d styles contexts all → AreListsOf (after d edit) others later rest
     → (i : ℕ) → i < length contexts
     → ((j : ℕ) × IsUntouched S d (after d edit) contexts later all rest i j)
     ⊎ HasReached d styles edit (id_of d contexts i) ⊎ HasReached (after d edit) others edit (id_of d contexts i)
@@ -41,9 +41,9 @@ EditsTouchNoOthers = (S : Flow → BoxKind → Bool) (d : Document) (edit : Edit
 -- Where declarations of an absolute or fixed element change that stays one, of contexts with reached nodes only its own and those inside
 -- it are touched: not the one around, which has it as an anchor alone (9.6).
 abbrev pub AnchorsTouchNothingAround : Type 0
-AnchorsTouchNothingAround = (S : Flow → BoxKind → Bool) (d : Document) (edit : Edit) (styles others : List Style)
+AnchorsTouchNothingAround = (S : Flow → BoxKind → Style → Bool) (d : Document) (edit : Edit) (styles others : List Style)
     (contexts later : List Context) (all rest : List FormattingContext)
-    (element : ℕ) → SparesAnonymous S → Edits d edit styles others
+    (element : ℕ) → TakesAnonymousTables S → Edits d edit styles others
     → IsRestyling edit element → HasAbsoluteBox d styles element → HasAbsoluteBox (after d edit) others element
     → AreListsOf d styles contexts all → AreListsOf (after d edit) others later rest → (i : ℕ) → i < length contexts
     → ((j : ℕ) × IsUntouched S d (after d edit) contexts later all rest i j) ⊎ ReachesNode d edit (id_of d contexts i)

@@ -2,6 +2,6 @@ pub mod Reached
 pub mod Touched
 pub mod Unreached
 pub mod Anchors
-pub mod InlineTables
+pub mod AnonymousTables
 pub mod Shrinking
 pub mod Bound

@@ -1,8 +1,8 @@
 //! The laws.
 
 ghost use Rattle.lay_own_nodes.specs.Anchors.{AnchorsKeepContextsAround};
+ghost use Rattle.lay_own_nodes.specs.AnonymousTables.{AnonymousTablesStandByNodes};
 ghost use Rattle.lay_own_nodes.specs.Bound.{AnchorsTouchNothingAround, EditsTouchNoOthers};
-ghost use Rattle.lay_own_nodes.specs.InlineTables.{InlineTablesStandByNodes};
 ghost use Rattle.lay_own_nodes.specs.Shrinking.{
   RootsFollowTheirContext,
   UnreachedContextsStayOutward,
@@ -32,9 +32,9 @@ pub fn anchors_keep_contexts_around()
     ensures { AnchorsKeepContextsAround }
 {}
 
-/// Whether the box of an inner context stands in an anonymous inline-table is said by its element and the nodes between.
-pub fn inline_tables_stand_by_nodes()
-    ensures { InlineTablesStandByNodes }
+/// Whether the box of an inner context stands in an anonymous table is said by its element and the nodes between.
+pub fn anonymous_tables_stand_by_nodes()
+    ensures { AnonymousTablesStandByNodes }
 {}
 
 /// What the own box of a context, or one around it, may be is said by nodes as by the formatting contexts.

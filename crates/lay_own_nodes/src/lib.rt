@@ -7,15 +7,15 @@
 //!   (`specs/Anchors.antt`).
 //! - Whether a formatting context's own box or one around it may shrink to fit (10.3.5), and so whether preferred widths count,
 //!   changes for contexts of reached elements alone (`specs/Shrinking.antt`): it is said by the elements of the contexts around, and
-//!   by the nodes between, which say where an anonymous inline-table is (17.2.1; `specs/InlineTables.antt`).
+//!   by the nodes between, which say where an anonymous table is (17.2.1; `specs/AnonymousTables.antt`).
 //! - Both together are the bound of what an edit may touch (`specs/Bound.antt`).
 #![tactic(auto)]
 
 mod laws;
 
 pub use laws::{
-    anchors_keep_contexts_around, anchors_touch_nothing_around, edits_touch_no_others,
-    edits_touch_reached_contexts, inline_tables_stand_by_nodes, roots_follow_their_context,
+    anchors_keep_contexts_around, anchors_touch_nothing_around, anonymous_tables_stand_by_nodes,
+    edits_touch_no_others, edits_touch_reached_contexts, roots_follow_their_context,
     unreached_contexts_keep_boxes, unreached_contexts_stay_outward, unreached_contexts_stay_within,
     unreached_nodes_stay, within_outward_by_nodes,
 };

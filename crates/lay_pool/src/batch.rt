@@ -75,7 +75,11 @@ fn prepared(alloc: Global, claims: usize, threads: usize) -> Result<Ready, NoMem
     })
 }
 
-fn members_of(alloc: Global, deques: Vec<Deque>, room: usize) -> Result<Vec<Member>, NoMemory> {
+fn members_of(
+    alloc: Global,
+    deques: Vec<Deque<usize>>,
+    room: usize,
+) -> Result<Vec<Member>, NoMemory> {
     let mut members = Vec::with_capacity(alloc, deques.len())?;
     for deque in deques {
         let finds = Finds::with_room(alloc, room)?;

@@ -4,14 +4,20 @@
 //! `AreOutcomesOf` of lay_claims, whichever thread was at a claim and when. Each thread has a deque of the places that were dealt to it
 //! and takes places of the others once it has none left. What a thread finds is known by the contract of what it runs
 //! (`specs/Finds.antt`), and what none has found is computed at the end by the caller; so nothing has to be known of the deques.
+//!
+//! A `Hand` is what a worker has that lives on from batch to batch: it is dealt claims, computes them and steals those of others. What it
+//! hands in comes of claims (`specs/Hands.antt`). Which claims those are no contract says. An engine knows by the number of each outcome
+//! what it is of.
 #![tactic(auto)]
 
 mod batch;
 mod deques;
 mod draining;
+mod hand;
 mod member;
 mod notes;
 
 pub use batch::run_batch;
+pub use hand::{Hand, hands};
 pub use lay_claims as claim_lists;
 pub use lay_claims::{cell_work as cell_work, shape as shape};

@@ -55,7 +55,7 @@ impl Finds {
 /// A thread's deque, and room for what it finds.
 #[derive(Drop)]
 pub(crate) struct Member {
-    pub(crate) deque: Deque,
+    pub(crate) deque: Deque<usize>,
     pub(crate) finds: Finds,
 }
 

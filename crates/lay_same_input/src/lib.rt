@@ -5,6 +5,7 @@
 #![tactic(auto)]
 
 mod input;
+mod measured;
 mod parts;
 mod settings;
 mod shared_pieces;
@@ -13,6 +14,7 @@ mod table_sizes;
 mod widths;
 
 pub use input::same_input;
+pub use measured::same_measured_context;
 pub use parts::{same_flow_parts, same_measure_parts, same_table_parts};
 pub use settings::{same_own_place, same_setting};
 pub use sized::{same_size_input, same_sized_context, same_stand_input};

@@ -2,9 +2,9 @@
 
 ghost use Rattle.std.specs.Prelude.{◌≡◌, ◌↔◌, IsTrue};
 
+use crate::measured::same_measured_context;
 use crate::settings::{same_own_place, same_setting};
 use crate::table_sizes::same_table_or_none;
-use crate::widths::same_widths;
 use lay_layout::abspos::StandInput;
 use lay_layout::context_sizes::{SizeInput, SizedContext};
 use lay_layout::same::{same_boxes, same_length_or_none, same_sizes};
@@ -13,7 +13,7 @@ use lay_layout::same::{same_boxes, same_length_or_none, same_sizes};
 pub fn same_size_input(a: &SizeInput, b: &SizeInput) -> bool
     ensures { IsTrue result ↔ (a.now ≡ b.now) }
 {
-    same_widths(&a.widths(), &b.widths())
+    same_measured_context(a.measured(), b.measured())
         && same_setting(&a.setting(), &b.setting())
         && same_boxes(a.boxes(), b.boxes())
 }

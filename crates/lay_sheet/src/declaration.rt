@@ -1,6 +1,6 @@
 //! The declarations of a rule set's block.
 
-ghost use Rattle.std.specs.Prelude.{◌≡◌, [], ◌++◌, IfOk, OnOk, map, option_map};
+ghost use Rattle.std.specs.Prelude.{◌≡◌, [], ◌++◌, true, IfOk, OnOk, map, option_map};
 ghost use Rattle.std.specs.Char.{to_ascii_lowercase};
 ghost use Rattle.std.specs.Result.{result_ok};
 ghost use Rattle.lay_values.specs.Reading.{without_end, read_declaration};
@@ -52,10 +52,25 @@ fn before_important(text: &[u8]) -> Option<&[u8]>
     }
 }
 
+/// Whether no letter of a text is a capital.
+fn is_lower(text: &[u8]) -> bool
+    ensures { result ≡ true → map to_ascii_lowercase text.now ≡ text.now }
+{
+    for byte in text {
+        if byte.is_ascii_uppercase() {
+            return false;
+        }
+    }
+    true
+}
+
 /// The declaration that a property's name in any case and a value give.
 fn decl_of(alloc: Global, name: &str, value: &str) -> Result<Option<Decl>, NoMemory>
     ensures { IfOk result (λ d. d ≡ result_ok (read_declaration (map to_ascii_lowercase name.now) value.now)) }
 {
+    if is_lower(name.as_bytes()) {
+        return Ok(read(alloc, name, value).ok());
+    }
     let name = name.to_ascii_lowercase(alloc)?;
     Ok(read(alloc, name.as_str(), value).ok())
 }

@@ -1,7 +1,8 @@
 //! What is seen of a sheet's text.
 
-ghost use Rattle.std.specs.Prelude.{◌≡◌, ◌<◌, IfOk};
-ghost use Rattle.lay_sheet.specs.PlainText.{is_mark, begins_with, opens_comment, ends_comment, place_behind, seen_of, plain_text};
+ghost use Rattle.std.specs.Prelude.{◌≡◌, ◌≤◌, ◌==◌, ◌||◌, [], ◌++◌, IfOk, OnOk, length};
+ghost use Rattle.lay_sheet.specs.Lists.{with_found};
+ghost use Rattle.lay_sheet.specs.PlainText.{is_mark, begins_with, opens_comment, ends_comment, place_behind, seen_of, plain_from, plain_text};
 
 use lay_units::NoMemory;
 use std::alloc::Global;
@@ -78,18 +79,62 @@ fn seen_of(place: Place, byte: u8, rest: &[u8]) -> Option<u8>
     }
 }
 
+/// Whether a byte may begin a string, an escape or a comment.
+fn may_open(byte: u8) -> bool
+    ensures { result ≡ (is_mark byte || (byte == 92) || (byte == 47)) }
+{
+    is_mark(byte) || byte == b'\\' || byte == b'/'
+}
+
+/// What a text begins with up to the first byte that may begin anything else, all of which is seen, and what stands behind it.
+fn split_run(text: &[u8]) -> (&[u8], &[u8])
+    ensures seen { plain_text text.now ≡ result.0.now ++ plain_text result.1.now }
+    ensures shorter { length result.1.now ≤ length text.now }
+{
+    for (i, b) in text.iter().enumerate() {
+        if may_open(*b) {
+            return text.split_at(i);
+        }
+    }
+    text.split_at(text.len())
+}
+
+/// Adds what is seen of a text as it stands, in one copy, and answers what is behind it.
+fn push_run<'a>(seen: &mut Vec<u8>, place: Place, text: &'a [u8]) -> Result<&'a [u8], NoMemory>
+    ensures seen { IfOk result (λ rest. seen.new.items ++ plain_from place rest.now ≡ seen.old.items ++ plain_from place text.now) }
+    ensures shorter { IfOk result (λ rest. length rest.now ≤ length text.now) }
+{
+    if !matches!(place, Place::Outside) {
+        return Ok(text);
+    }
+    let (run, rest) = split_run(text);
+    seen.extend_from_slice(run)?;
+    Ok(rest)
+}
+
+fn push_seen(seen: &mut Vec<u8>, byte: Option<u8>) -> Result<(), NoMemory>
+    ensures { OnOk result (seen.new.items ≡ seen.old.items ++ with_found byte []) }
+{
+    if let Some(byte) = byte {
+        seen.push(byte)?;
+    }
+    Ok(())
+}
+
 /// What is seen of a text.
 pub(crate) fn plain_text(alloc: Global, text: &[u8]) -> Result<Vec<u8>, NoMemory>
     ensures { IfOk result (λ v. v.items ≡ plain_text text.now) }
 {
-    let mut seen = Vec::new(alloc);
+    let mut seen = Vec::with_capacity(alloc, text.len())?;
     let mut place = Place::Outside;
-    for i in 0..text.len() {
-        let rest = &text[i + 1..];
-        if let Some(byte) = seen_of(place, text[i], rest) {
-            seen.push(byte)?;
+    let mut rest = text;
+    while !rest.is_empty() {
+        rest = push_run(&mut seen, place, rest)?;
+        if let [byte, behind @ ..] = rest {
+            push_seen(&mut seen, seen_of(place, *byte, behind))?;
+            place = place_behind(place, *byte, behind);
+            rest = behind;
         }
-        place = place_behind(place, text[i], rest);
     }
     Ok(seen)
 }

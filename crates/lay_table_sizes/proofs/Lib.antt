@@ -1,4 +1,6 @@
+pub mod AutoSteps
 pub mod CellSteps
+pub mod ColumnBounds
 pub mod ColumnSteps
 pub mod ColumnsFit
 pub mod OneCellSizes

@@ -1,5 +1,5 @@
 -- A table has one set of used sizes.
-use Rattle.std.proofs.Common.{◌≡◌, ℤ, List, Option, None, Some, refl, sym, ap, subst, ◌∙◌, arith}
+use Rattle.std.proofs.Common.{◌≡◌, ◌-ℤ◌, Bool, true, false, List, Option, None, Some, refl, sym, ap, subst, ◌∙◌, arith}
 use Rattle.std.proofs.lemmas.List.{ext_get_or}
 use Rattle.lay_units.specs.declared.length.Unit.{Unit as Length}
 use Rattle.lay_style.specs.declared.style.Style.{Style}
@@ -7,39 +7,58 @@ use Rattle.lay_box_tree.specs.declared.box_tree.BoxNode.{BoxNode}
 use Rattle.lay_widths.specs.BlockWidths.{IsHeld}
 use Rattle.lay_widths.specs.declared.widths.BlockOut.{BlockOut}
 use Rattle.lay_widths.specs.declared.widths.UsedWidths.{UsedWidths}
-use Rattle.lay_widths.proofs.Unique.{one_block_width_lem, one_float_width_lem}
+use Rattle.lay_widths.proofs.Unique.{one_block_width_lem}
 use Rattle.lay_sizes.specs.BoxSizes.{widths_beside}
 use Rattle.lay_sizes.specs.SizeColumns.{no_sizes}
 use Rattle.lay_sizes.specs.declared.sizing.BoxSizes.{BoxSizes}
 use Rattle.lay_sizes.specs.declared.sizing.ContainingBlock.{ContainingBlock}
 use Rattle.lay_grid.specs.Columns.{AreColumns}
 use Rattle.lay_grid.proofs.OneColumns.{one_columns_lem}
+use Rattle.lay_auto_columns.specs.AutoColumns.{AreAutoColumns}
+use Rattle.lay_auto_columns.proofs.OneColumns.{one_list_of_columns_lem}
+use Rattle.lay_table_bounds.specs.ColumnBounds.{greatest_content, least_content, spaces}
+use Rattle.lay_table_bounds.specs.TableLayouts.{is_fixed}
+use Rattle.lay_table_bounds.proofs.AutoWidths.{one_auto_width_lem}
 use Rattle.lay_table_borders.specs.GridLaws.{OneTableGrid}
 use Rattle.lay_table_borders.specs.TableGrid.{TableGridValue}
 use Rattle.lay_table_sizes.specs.declared.cell_size.CellSize.{CellSize}
 use Rattle.lay_table_sizes.specs.declared.table_rule.TableRule.{TableRule}
-use Rattle.lay_table_sizes.specs.declared.table_rule.TableRule.TheVariants.{Fills, ShrinksInto, ShrinksToFit}
+use Rattle.lay_table_sizes.specs.declared.table_rule.TableRule.TheVariants.{Block, ShrinkToFit}
 use Rattle.lay_table_sizes.specs.CellSizes.{cell_size_at}
 use Rattle.lay_table_sizes.specs.ColumnWidths.{columns_in}
 use Rattle.lay_table_sizes.specs.Laws.{OneTableSizes}
+use Rattle.lay_table_sizes.specs.TableBounds.{TableBoundsValue, bounds_of_columns}
 use Rattle.lay_table_sizes.specs.TableBoxes.{table_block, table_style, wrapper_style}
-use Rattle.lay_table_sizes.specs.TableSizes.{AreWrapperWidths, HasTableSizes, IsWrapperSized, held, wrapper_block, wrapper_width}
+use Rattle.lay_table_sizes.specs.TableSizes.{AreAutoWidths, AreTableWidthsAs, AreWrapperWidths, HasTableSizes, IsWrapperSized, held, wrapper_block, wrapper_width}
 use Rattle.lay_table_sizes.specs.TableSizesValue.{TableSizesValue}
-use Rattle.lay_table_sizes.specs.WantedWidth.{IsWantedAs, block_in_room, content_part}
+use Rattle.lay_table_sizes.specs.WantedWidth.{IsFixedWidth, length_of}
 use Rattle.lay_table_sizes.proofs.OneCellSizes.{same_sizes}
 
-one_wanted : (rule : TableRule) (g : TableGridValue) (containing : Length) (wrapper s : Style) (x y : BlockOut) → IsWantedAs rule g containing wrapper s x → IsWantedAs rule g containing wrapper s y → x ≡ y
-one_wanted Fills g containing wrapper s x y p q = one_block_width_lem (table_block g containing wrapper s) x y p q
-one_wanted (ShrinksToFit minimum preferred) g containing wrapper s x y p q =
-    one_float_width_lem (table_block g containing wrapper s) (content_part g s minimum) (content_part g s preferred) x y p q
-one_wanted (ShrinksInto room minimum preferred) g containing wrapper s x y p q =
-    one_float_width_lem (block_in_room room (table_block g containing wrapper s)) (content_part g s minimum) (content_part g s preferred) x y p q
+one_fixed_width : (containing : Length) (boxes : List BoxNode) (g : TableGridValue) (x y : Length) → IsFixedWidth containing boxes g x → IsFixedWidth containing boxes g y → x ≡ y
+one_fixed_width containing boxes g x y p q =
+    let out = one_block_width_lem (table_block g containing (wrapper_style boxes) (table_style boxes g)) p.out q.out p.is_used q.is_used in
+    p.wanted_is ∙ ap (λ (o : BlockOut). o.width) out ∙ sym q.wanted_is
+
+one_auto_widths : (containing : Length) (boxes : List BoxNode) (g : TableGridValue) (t : TableBoundsValue) (x y : Length) (v w : List Length)
+    → AreAutoWidths containing boxes g t x v → AreAutoWidths containing boxes g t y w → (x ≡ y) × (v ≡ w)
+one_auto_widths containing boxes g t x y v w p q =
+    let block = table_block g containing (wrapper_style boxes) (table_style boxes g) in
+    let wanted = one_auto_width_lem block (length_of (least_content g t.columns)) (length_of (greatest_content g t.columns)) t.captions x y p.0 q.0 in
+    let there : AreAutoColumns t.columns (y.0 -ℤ spaces g) v = subst (λ (u : Length). AreAutoColumns t.columns (u.0 -ℤ spaces g) v) wanted p.1 in
+    (wanted, one_list_of_columns_lem t.columns (y.0 -ℤ spaces g) v w there q.1)
+
+-- the table is to have one width, and its columns one list of widths
+one_widths_as : (fixed : Bool) (containing : Length) (boxes : List BoxNode) (g : TableGridValue) (t : TableBoundsValue) (x y : Length) (v w : List Length)
+    → AreTableWidthsAs fixed containing boxes g t x v → AreTableWidthsAs fixed containing boxes g t y w → (x ≡ y) × (v ≡ w)
+one_widths_as true containing boxes g t x y v w p q =
+    let wanted = one_fixed_width containing boxes g x y p.0 q.0 in
+    let there : AreColumns (columns_in (Some y) boxes g y) v = subst (λ (u : Length). AreColumns (columns_in (Some u) boxes g u) v) wanted p.1 in
+    (wanted, one_columns_lem (columns_in (Some y) boxes g y) v w there q.1)
+one_widths_as false containing boxes g t x y v w p q =
+    one_auto_widths containing boxes g (bounds_of_columns g.columns t) x y v w p q
 
 abbrev out_of : Length → Length → Length → BlockOut
 out_of left width right = record { margin_left = left; width = width; margin_right = right }
-
-abbrev length_of : ℤ → Length
-length_of v = record { 0 = v }
 
 held_same : (used : UsedWidths) (x y : BlockOut) → IsHeld used x → IsHeld used y → x ≡ y
 held_same used x y p q =
@@ -50,11 +69,8 @@ held_same used x y p q =
     e
 
 one_wrapper_width : (rule : TableRule) (containing : Length) (s : Style) (width : Length) (x y : BlockOut) → AreWrapperWidths rule containing s width x → AreWrapperWidths rule containing s width y → x ≡ y
-one_wrapper_width Fills containing s width x y p q = one_block_width_lem (wrapper_block containing s width) x y p q
-one_wrapper_width (ShrinksToFit minimum preferred) containing s width x y p q =
-    held_same (widths_beside (wrapper_block containing s width) width.0) x y p q
-one_wrapper_width (ShrinksInto room minimum preferred) containing s width x y p q =
-    held_same (widths_beside (wrapper_block containing s width) width.0) x y p q
+one_wrapper_width Block containing s width x y p q = one_block_width_lem (wrapper_block containing s width) x y p q
+one_wrapper_width ShrinkToFit containing s width x y p q = held_same (widths_beside (wrapper_block containing s width) width.0) x y p q
 
 one_wrapper : (rule : TableRule) (containing : ContainingBlock) (s : Style) (table y z : BoxSizes) → IsWrapperSized rule containing s table y → IsWrapperSized rule containing s table z → y ≡ z
 one_wrapper rule containing s table y z p q =
@@ -66,12 +82,12 @@ abbrev value_of : TableGridValue → List Length → List (Option CellSize) → 
 value_of g columns cells = record { grid = g; columns = columns; cells = cells }
 
 -- two solutions with one grid
-one_by_grid : (containing : ContainingBlock) (rule : TableRule) (boxes : List BoxNode) (x y : List BoxSizes) (g : TableGridValue) (v w : List Length) (cs ds : List (Option CellSize))
-    → HasTableSizes containing rule boxes x (value_of g v cs) → HasTableSizes containing rule boxes y (value_of g w ds) → (x ≡ y) × (value_of g v cs ≡ value_of g w ds)
-one_by_grid containing rule boxes x y g v w cs ds p q =
-    let wanted : p.wanted ≡ q.wanted = one_wanted rule g containing.width (wrapper_style boxes) (table_style boxes g) p.wanted q.wanted p.are_widths.is_wanted q.are_widths.is_wanted in
-    let there : AreColumns (columns_in (Some q.wanted.width) boxes g q.wanted.width) p.widths = rw wanted at p.are_widths.are_columns in
-    let widths : p.widths ≡ q.widths = one_columns_lem (columns_in (Some q.wanted.width) boxes g q.wanted.width) p.widths q.widths there q.are_widths.are_columns in
+one_by_grid : (containing : ContainingBlock) (rule : TableRule) (bounds : TableBoundsValue) (boxes : List BoxNode) (x y : List BoxSizes) (g : TableGridValue) (v w : List Length) (cs ds : List (Option CellSize))
+    → HasTableSizes containing rule bounds boxes x (value_of g v cs) → HasTableSizes containing rule bounds boxes y (value_of g w ds) → (x ≡ y) × (value_of g v cs ≡ value_of g w ds)
+one_by_grid containing rule bounds boxes x y g v w cs ds p q =
+    let both = one_widths_as (is_fixed (wrapper_style boxes)) containing.width boxes g bounds p.wanted q.wanted p.widths q.widths p.are_widths q.are_widths in
+    let wanted : p.wanted ≡ q.wanted = both.0 in
+    let widths : p.widths ≡ q.widths = both.1 in
     let columns : v ≡ w = p.columns ∙ ap held widths ∙ sym q.columns in
     let pc = p.cell_count in
     let cells : cs ≡ ds = ext_get_or None cs ds (p.cell_count ∙ sym q.cell_count) (λ k lt.
@@ -85,10 +101,10 @@ one_by_grid containing rule boxes x y g v w cs ds p q =
     (sizes, rw (columns, cells) refl)
 
 pub one_table_sizes_lem : OneTableGrid → OneTableSizes
-one_table_sizes_lem one_grid containing rule boxes x y t u p q =
+one_table_sizes_lem one_grid containing rule bounds boxes x y t u p q =
     let e : t.grid ≡ u.grid = one_grid boxes t.grid u.grid p.grid q.grid in
-    let moved : HasTableSizes containing rule boxes x (value_of u.grid t.columns t.cells) =
-    subst (λ (g : TableGridValue). HasTableSizes containing rule boxes x (value_of g t.columns t.cells)) e p in
-    let same = one_by_grid containing rule boxes x y u.grid t.columns u.columns t.cells u.cells moved q in
+    let moved : HasTableSizes containing rule bounds boxes x (value_of u.grid t.columns t.cells) =
+    subst (λ (g : TableGridValue). HasTableSizes containing rule bounds boxes x (value_of g t.columns t.cells)) e p in
+    let same = one_by_grid containing rule bounds boxes x y u.grid t.columns u.columns t.cells u.cells moved q in
     let first : value_of t.grid t.columns t.cells ≡ value_of u.grid t.columns t.cells = ap (λ (g : TableGridValue). value_of g t.columns t.cells) e in
     (same.0, first ∙ same.1)

@@ -19,7 +19,7 @@ use Rattle.lay_table_sizes.specs.CellSizes.{content_width}
 use Rattle.lay_table_sizes.specs.TableSizes.{AreWrapperWidths, held, held_width, sizes_of_box, wrapper_block}
 use Rattle.lay_table_sizes.specs.declared.cell_size.CellSize.{CellSize}
 use Rattle.lay_table_sizes.specs.declared.table_rule.TableRule.{TableRule}
-use Rattle.lay_table_sizes.specs.declared.table_rule.TableRule.TheVariants.{Fills, ShrinksInto, ShrinksToFit}
+use Rattle.lay_table_sizes.specs.declared.table_rule.TableRule.TheVariants.{Block, ShrinkToFit}
 use Rattle.lay_table_sizes.proofs.CellSteps.{drop_step}
 
 pub zero_is_used : IsUsed (pos 0)
@@ -32,9 +32,8 @@ pub zero_is_inset : IsInset (pos 0)
 zero_is_inset = (omega (arith, ints), omega (arith, ints))
 
 pub widths_fit : (rule : TableRule) (containing : Length) (s : Style) (width : Length) (out : BlockOut) → AreWrapperWidths rule containing s width out → WidthsFit out
-widths_fit Fills containing s width out is = held_fit is.used out is.held
-widths_fit (ShrinksToFit minimum preferred) containing s width out is = held_fit (widths_beside (wrapper_block containing s width) width.0) out is
-widths_fit (ShrinksInto room minimum preferred) containing s width out is = held_fit (widths_beside (wrapper_block containing s width) width.0) out is
+widths_fit Block containing s width out is = held_fit is.used out is.held
+widths_fit ShrinkToFit containing s width out is = held_fit (widths_beside (wrapper_block containing s width) width.0) out is
 
 -- the boxes before n have these sizes
 pub record SizesTo (place : ℕ) (wrapper table : BoxSizes) (sizes : List BoxSizes) (n : ℕ) : Type 0 where

@@ -2,7 +2,7 @@
 -- 'auto' for the 'width' property", else a cell in the first row, which counts with its border box. The section knows no widths
 -- of column groups, and those have no effect here, and neither have `min-width` and `max-width` of columns and cells (10.4 leaves
 -- these undefined). Percentages are of the width that the table is to have, before its columns widen it; where that isn't known
--- yet, one of a `width` counts as `auto` and one of a padding as 0. Every table is laid out by this section, as 17.5.2.2 allows.
+-- yet, one of a `width` counts as `auto` and one of a padding as 0.
 --
 -- A table of 6400 units whose first cell has the `width` 50% and paddings of 64 units: its column is 3328 units wide.
 use Rattle.std.specs.Prelude.{ℕ, zero, suc, ◌+◌, ◌==◌, ℤ, pos, ◌+ℤ◌, ◌*ℤ◌, Option, Some, None, List, [], ◌∷◌, ◌++◌, slice_get, if◌then◌else◌}

@@ -1,9 +1,12 @@
 pub mod Bounds
 pub mod TableBoxes
-pub mod WantedWidth
 pub mod ColumnWidths
 pub mod CellSizes
+pub mod PreferredWidths
+pub mod CaptionWidths
+pub mod TableBounds
+pub mod TableWidths
+pub mod WantedWidth
 pub mod TableSizesValue
 pub mod TableSizes
-pub mod PreferredWidths
 pub mod Laws

@@ -1,5 +1,5 @@
--- The preferred widths of a table (CSS 2.2, 10.3.5 and 17.5.2): those of the border box of its table box, by the sum over its
--- columns and the spacings beside them. A column has its own width by the fixed table layout (17.5.2.1), where lengths give
+-- The preferred widths of a table of the fixed layout (CSS 2.2, 10.3.5 and 17.5.2): those of the border box of its table box, by the sum
+-- over its columns and the spacings beside them. A column has its own width by the fixed table layout (17.5.2.1), where lengths give
 -- it one, else the greatest preferred width of the cells that it alone has. A `width` of the table that is a length counts where it is
 -- greater, and then `min-width` and `max-width` that are lengths (10.4). How wide the containing block will be isn't known
 -- yet, so percentages of widths count as `auto` and those of paddings as 0.
@@ -80,7 +80,7 @@ table_part g s columns =
     record { 0 = bounded_content s (with_spacings g.spacing.across g.columns columns.0) +ℤ preferred_edges g s }
 
 -- these are the preferred widths of the table of these boxes, where those at `inner` are of the boxes of its cells
-pub record HasTableWidths (boxes : List BoxNode) (inner : List PreferredWidths) (w : PreferredWidths) : Type 0 where
+pub record HasFixedWidths (boxes : List BoxNode) (inner : List PreferredWidths) (w : PreferredWidths) : Type 0 where
   pub grid : TableGridValue
   pub is_grid : IsTableGrid boxes grid
   pub columns : List PreferredWidths

@@ -1,10 +1,10 @@
--- The used sizes of a table (CSS 2.2, 17.4 and 17.5.2.1): its columns, as wide as the fixed table layout makes them for the
--- width that the table is to have; the content of its table box, which "is at least as wide as its columns"; its cells; and its
--- wrapper, as wide as the border box of the table box. The margins of a table that is a block in flow come of the equation of
--- 10.3.3 with that width as a given one; those of another one are 0 where they are `auto` (10.3.5). Captions don't widen a table.
--- All are held within the bounds of used lengths (4.3.2). The boxes of captions and cells are sized in their own formatting
--- contexts, and rows, row groups and columns have no sizes of a box.
-use Rattle.std.specs.Prelude.{◌≡◌, ℕ, zero, suc, ◌<◌, ◌==◌, List, length, map, Some, None, if◌then◌else◌}
+-- The used sizes of a table (CSS 2.2, 17.4 and 17.5.2): its columns, as wide as the table layout makes them, the fixed or the automatic
+-- one, for the width that the table is to have; the content of its table box, which "is at least as wide as its columns"; its cells; and
+-- its wrapper, as wide as the border box of the table box. The margins of a table that is a block in flow come of the equation of
+-- 10.3.3 with that width as a given one; those of another one are 0 where they are `auto` (10.3.5). Captions widen a table of the
+-- automatic layout alone. All are held within the bounds of used lengths (4.3.2). The boxes of captions and cells are sized in their own
+-- formatting contexts, and rows, row groups and columns have no sizes of a box.
+use Rattle.std.specs.Prelude.{◌≡◌, ℕ, zero, suc, ◌<◌, ◌==◌, ◌-ℤ◌, Bool, true, false, List, length, map, Some, None, if◌then◌else◌}
 use Rattle.std.specs.Int.{int_max}
 use Rattle.lay_units.specs.Units.{clamp_size_of}
 use Rattle.lay_units.specs.declared.length.Unit.{Unit as Length}
@@ -21,14 +21,18 @@ use Rattle.lay_sizes.specs.declared.sizing.BoxSizes.{BoxSizes}
 use Rattle.lay_sizes.specs.declared.sizing.ContainingBlock.{ContainingBlock}
 use Rattle.lay_grid.specs.Columns.{AreColumns}
 use Rattle.lay_grid.specs.Shares.{sum_of}
+use Rattle.lay_auto_columns.specs.AutoColumns.{AreAutoColumns}
 use Rattle.lay_table_borders.specs.TableGrid.{IsTableGrid, TableGridValue}
+use Rattle.lay_table_bounds.specs.ColumnBounds.{spaces}
+use Rattle.lay_table_bounds.specs.TableLayouts.{is_fixed}
 use Rattle.lay_table_sizes.specs.CellSizes.{cell_size_at}
 use Rattle.lay_table_sizes.specs.ColumnWidths.{columns_in, with_spacings}
+use Rattle.lay_table_sizes.specs.TableBounds.{TableBoundsValue, bounds_of_columns}
 use Rattle.lay_table_sizes.specs.TableBoxes.{table_edges, table_style, wrapper_style}
 use Rattle.lay_table_sizes.specs.TableSizesValue.{TableSizesValue, cell_at}
-use Rattle.lay_table_sizes.specs.WantedWidth.{IsWanted}
+use Rattle.lay_table_sizes.specs.WantedWidth.{HasAutoWidth, IsFixedWidth}
 use Rattle.lay_table_sizes.specs.declared.table_rule.TableRule.{TableRule}
-use Rattle.lay_table_sizes.specs.declared.table_rule.TableRule.TheVariants.{Fills, ShrinksInto, ShrinksToFit}
+use Rattle.lay_table_sizes.specs.declared.table_rule.TableRule.TheVariants.{Block, ShrinkToFit}
 
 -- used widths of columns
 abbrev pub held_width : Length → Length
@@ -71,11 +75,8 @@ wrapper_block containing s width = record {
 }
 
 abbrev pub AreWrapperWidths : TableRule → Length → Style → (width : Length) → BlockOut → Type 0
-AreWrapperWidths Fills containing s width out = IsUsedBlock (wrapper_block containing s width) out
-AreWrapperWidths (ShrinksToFit preferred_minimum preferred) containing s width out =
-    IsHeld (widths_beside (wrapper_block containing s width) width.0) out
-AreWrapperWidths (ShrinksInto room preferred_minimum preferred) containing s width out =
-    IsHeld (widths_beside (wrapper_block containing s width) width.0) out
+AreWrapperWidths Block containing s width out = IsUsedBlock (wrapper_block containing s width) out
+AreWrapperWidths ShrinkToFit containing s width out = IsHeld (widths_beside (wrapper_block containing s width) width.0) out
 
 -- how wide the wrapper of a table box of these sizes is
 abbrev pub wrapper_width : BoxSizes → Length
@@ -96,22 +97,37 @@ abbrev pub sizes_of_box : (place : ℕ) (wrapper table : BoxSizes) → ℕ → B
 sizes_of_box place wrapper table zero = wrapper
 sizes_of_box place wrapper table (suc k) = if suc k == place then table else no_sizes
 
--- `width` is that which the table is to have and `widths` are those of its columns, before they are held
-pub record AreTableWidths (containing : Length) (rule : TableRule) (boxes : List BoxNode) (g : TableGridValue) (wanted : BlockOut) (widths : List Length) : Type 0 where
-  pub is_wanted : IsWanted rule boxes g containing wanted
-  pub are_columns : AreColumns (columns_in (Some wanted.width) boxes g wanted.width) widths
+-- the width of a table of the fixed layout, and the widths of its columns
+abbrev pub AreFixedWidths : Length → List BoxNode → TableGridValue → (wanted : Length) → List Length → Type 0
+AreFixedWidths containing boxes g wanted widths =
+    IsFixedWidth containing boxes g wanted × AreColumns (columns_in (Some wanted) boxes g wanted) widths
+
+-- those of one of the automatic layout with these bounds
+abbrev pub AreAutoWidths : Length → List BoxNode → TableGridValue → TableBoundsValue → (wanted : Length) → List Length → Type 0
+AreAutoWidths containing boxes g t wanted widths =
+    HasAutoWidth containing boxes g t wanted × AreAutoColumns t.columns (wanted.0 -ℤ spaces g) widths
+
+-- `wanted` is the width that the table is to have and `widths` are those of its columns, before they are held
+abbrev pub AreTableWidthsAs : (is_fixed : Bool) → Length → List BoxNode → TableGridValue → TableBoundsValue → (wanted : Length) → List Length → Type 0
+AreTableWidthsAs true containing boxes g t wanted widths = AreFixedWidths containing boxes g wanted widths
+AreTableWidthsAs false containing boxes g t wanted widths =
+    AreAutoWidths containing boxes g (bounds_of_columns g.columns t) wanted widths
+
+abbrev pub AreTableWidths : Length → List BoxNode → TableGridValue → TableBoundsValue → (wanted : Length) → List Length → Type 0
+AreTableWidths containing boxes g t wanted widths =
+    AreTableWidthsAs (is_fixed (wrapper_style boxes)) containing boxes g t wanted widths
 
 -- the used sizes of the boxes of a table's formatting context, and its columns and cells
-pub record HasTableSizes (containing : ContainingBlock) (rule : TableRule) (boxes : List BoxNode) (sizes : List BoxSizes) (t : TableSizesValue) : Type 0 where
+pub record HasTableSizes (containing : ContainingBlock) (rule : TableRule) (bounds : TableBoundsValue) (boxes : List BoxNode) (sizes : List BoxSizes) (t : TableSizesValue) : Type 0 where
   pub grid : IsTableGrid boxes t.grid
-  pub wanted : BlockOut
+  pub wanted : Length
   pub widths : List Length
-  pub are_widths : AreTableWidths containing.width rule boxes t.grid wanted widths
+  pub are_widths : AreTableWidths containing.width boxes t.grid bounds wanted widths
   pub columns : t.columns ≡ held widths
   pub cell_count : length t.cells ≡ length boxes
   pub cells : (k : ℕ) → k < length boxes → cell_at t k ≡ cell_size_at t.grid.spacing.across t.columns t.grid.cells k
   pub table : BoxSizes
-  pub table_is : table ≡ table_box t.grid containing (table_style boxes t.grid) (table_width t.grid wanted.width widths)
+  pub table_is : table ≡ table_box t.grid containing (table_style boxes t.grid) (table_width t.grid wanted widths)
   pub wrapper : BoxSizes
   pub wrapper_is : IsWrapperSized rule containing (wrapper_style boxes) table wrapper
   pub count : length sizes ≡ length boxes

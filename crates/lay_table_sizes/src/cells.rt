@@ -8,6 +8,7 @@ ghost use Rattle.lay_table_sizes.specs.Bounds.{ArePlaced};
 ghost use Rattle.lay_table_sizes.specs.CellSizes.{cell_size, cell_size_at, columns_width};
 
 use crate::cell_size::CellSize;
+use crate::spaces::spacings;
 use lay_measure::sum;
 use lay_table_borders::{TableCell, TableGrid};
 use lay_units::{NoMemory, Unit};
@@ -70,17 +71,6 @@ fn cell_size(spacing: Unit, columns: &[Unit], cell: TableCell) -> Result<CellSiz
         width,
         borders: cell.borders,
     })
-}
-
-/// So many spacings.
-pub(crate) fn spacings(spacing: Unit, count: usize) -> Result<Unit, NoMemory>
-    requires { count < 2 ^ 33 }
-    ensures { IfOk result (λ v. v ≡ record { 0 = spacing.0 *ℤ pos count }) }
-{
-    match spacing.0.checked_mul(count as i64) {
-        Some(together) => Ok(Unit(together)),
-        None => Err(NoMemory),
-    }
 }
 
 /// The sum of these widths.

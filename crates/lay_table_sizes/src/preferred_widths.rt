@@ -1,16 +1,16 @@
-//! The preferred widths of a table.
+//! The preferred widths of a table of the fixed layout.
 
 ghost use Rattle.std.specs.Prelude.{◌≡◌, ◌<◌, ◌≤◌, ◌+ℤ◌, ℕ, IfOk, length, drop};
 ghost use Rattle.std.specs.Int.{int_max};
 ghost use Rattle.lay_grid.specs.Shares.{own_at};
 ghost use Rattle.lay_table_borders.specs.GridBounds.{PlacesAreBelow};
+ghost use Rattle.lay_table_borders.specs.TableGrid.{IsTableGrid};
 ghost use Rattle.lay_table_sizes.specs.Bounds.{most_columns};
-ghost use Rattle.lay_table_sizes.specs.PreferredWidths.{AreColumnWidths, HasTableWidths, all_beside, beside, bounded_content, own_or, table_part};
+ghost use Rattle.lay_table_sizes.specs.PreferredWidths.{AreColumnWidths, HasFixedWidths, all_beside, beside, bounded_content, own_or, table_part};
 
 use crate::column_widths::columns_in;
 use crate::content_widths::{content_widths, widths_at};
-use crate::grid::grid_of;
-use crate::sizing::with_spacings;
+use crate::spaces::with_spacings;
 use crate::table_box::{preferred_edges, style_of_box};
 use lay_box_tree::BoxNode;
 use lay_grid::own_widths;
@@ -21,25 +21,24 @@ use lay_table_borders::TableGrid;
 use lay_units::{NoMemory, Unit};
 use std::alloc::Global;
 
-/// The preferred widths of the border box of a table (CSS 2.2, 10.3.5 and 17.5.2), in 1/64 px: of that whose formatting context
-/// has these boxes, beside those of the content of its cells, which stand at the places of their boxes. NoMemory is also the
-/// answer where the table has more than 2^24 columns or a width isn't within 2^63 units of 0; no table of a document within its
-/// limits is such.
-pub fn table_preferred_widths(
+/// The preferred widths of the border box of a table of the fixed layout, which has this grid.
+pub(crate) fn fixed_widths(
     alloc: Global,
     boxes: &[BoxNode],
     inner: &[PreferredWidths],
+    grid: &TableGrid,
 ) -> Result<PreferredWidths, NoMemory>
-    requires { 0 < length boxes.now }
-    ensures { IfOk result (HasTableWidths boxes.now inner.now) }
+    requires grid { IsTableGrid boxes.now grid.now }
+    requires places { PlacesAreBelow (length boxes.now) grid.now }
+    requires few { grid.now.columns ≤ most_columns }
+    ensures { IfOk result (HasFixedWidths boxes.now inner.now) }
 {
-    let grid = grid_of(alloc, boxes)?;
-    let columns = column_widths(alloc, boxes, inner, &grid)?;
+    let columns = column_widths(alloc, boxes, inner, grid)?;
     let together = all_beside(columns.as_slice())?;
     let style = style_of_box(boxes, grid.table());
     Ok(PreferredWidths {
-        minimum: table_part(&grid, style, together.minimum)?,
-        preferred: table_part(&grid, style, together.preferred)?,
+        minimum: table_part(grid, style, together.minimum)?,
+        preferred: table_part(grid, style, together.preferred)?,
     })
 }
 
@@ -116,7 +115,7 @@ fn table_part(grid: &TableGrid, style: &Style, columns: Unit) -> Result<Unit, No
 }
 
 /// A width of a table's content, or its `width` where that is a greater length, between its bounds.
-fn bounded_content(style: &Style, content: Unit) -> Unit
+pub(crate) fn bounded_content(style: &Style, content: Unit) -> Unit
     ensures { result.0 ≡ bounded_content style.now content.0 }
 {
     let sizing = &style.sizing;

@@ -1,34 +1,34 @@
 //! The used sizes of a table.
 
-ghost use Rattle.std.specs.Prelude.{◌≡◌, ◌<◌, ◌≤◌, ℕ, All, IfOk, List, length, slice_get, Some};
+ghost use Rattle.std.specs.Prelude.{◌≡◌, ◌<◌, ◌≤◌, ℕ, true, false, All, IfOk, List, length, slice_get, Some};
 ghost use Rattle.std.specs.Int.{int_max};
 ghost use Rattle.lay_units.specs.declared.length.Unit.{Unit as Length};
 ghost use Rattle.lay_units.specs.Units.{IsPosition, IsUsedSize};
-ghost use Rattle.lay_widths.specs.declared.widths.BlockOut.{BlockOut};
 ghost use Rattle.lay_sizes.specs.SizeBounds.{SizeFits};
 ghost use Rattle.lay_sizes.specs.SizeColumns.{HaveSizeBounds, sizes_at};
 ghost use Rattle.lay_table_borders.specs.GridBounds.{PlacesAreBelow};
 ghost use Rattle.lay_table_sizes.specs.Bounds.{most_columns};
-ghost use Rattle.lay_table_sizes.specs.ColumnWidths.{with_spacings};
 ghost use Rattle.lay_table_sizes.specs.TableBoxes.{table_style, wrapper_style};
-ghost use Rattle.lay_table_sizes.specs.TableSizes.{AreTableWidths, HasTableSizes, IsWrapperSized, held, held_width, sizes_of_box, table_box, table_width};
+ghost use Rattle.lay_table_sizes.specs.TableSizes.{AreAutoWidths, AreFixedWidths, AreTableWidths, AreTableWidthsAs, HasTableSizes, IsWrapperSized, held, held_width, sizes_of_box, table_box, table_width};
 
-use crate::cells::{cells_of, spacings, sum_of};
+use crate::cells::{cells_of, sum_of};
 use crate::column_widths::columns_in;
 use crate::grid::grid_of;
 use crate::sizes::TableSizes;
+use crate::spaces::with_spacings;
+use crate::table_bounds::TableBounds;
 use crate::table_box::{style_of_box, table_edges};
 use crate::table_rule::TableRule;
-use crate::wanted_width::wanted_width;
+use crate::wanted_width::{fixed_width, shrunk_width};
 use crate::wrapper::wrapper_sizes;
 use lay_box_tree::BoxNode;
 use lay_grid::columns_fixed;
-use lay_measure::sum;
 use lay_sizes::{
     BoxSizes, ContainingBlock, NO_SIZES, used_height, used_max_height, used_min_height,
 };
 use lay_style::Style;
 use lay_table_borders::TableGrid;
+use lay_table_bounds::is_fixed;
 use lay_units::{NoMemory, Unit, UnitList, clamp_size};
 use lay_widths::BlockOut;
 use std::alloc::Global;
@@ -42,30 +42,33 @@ pub struct SizedTable {
     pub table: TableSizes,
 }
 
-/// The width that a table is to have, with the margins beside that, and the widths of its columns.
+/// The width that a table is to have, and the widths of its columns.
 #[derive(Drop)]
 struct TableWidths {
-    wanted: BlockOut,
+    wanted: Unit,
     columns: UnitList,
 }
 
-/// The used sizes of the boxes of a table's formatting context, and its columns and cells (CSS 2.2, 17.5.2.1). The own box is
-/// the table's wrapper, and this is its containing block. NoMemory is also the answer where the table has more than 2^24 columns
-/// or its width isn't within 2^63 units; no table of a document within its limits is such.
+/// The used sizes of the boxes of a table's formatting context, and its columns and cells (CSS 2.2, 17.5.2). The own box is
+/// the table's wrapper, and this is its containing block. The bounds count where the table is laid out by the automatic algorithm.
+/// The bounds of a table are of as many columns as it has; of others the first so many count, and nothing is asked of columns
+/// behind the last. NoMemory is also the answer where the table has more than 2^24 columns or its width isn't within 2^62 units;
+/// no table of a document within its limits is such.
 pub fn table_sizes(
     alloc: Global,
     boxes: &[BoxNode],
     containing: ContainingBlock,
     rule: TableRule,
+    bounds: &TableBounds,
 ) -> Result<SizedTable, NoMemory>
     requires some { 0 < length boxes.now }
     requires containing { IsPosition containing.width.0 }
-    ensures sizes { IfOk result (λ s. HasTableSizes containing rule boxes.now s.boxes.items s.table) }
+    ensures sizes { IfOk result (λ s. HasTableSizes containing rule bounds.now boxes.now s.boxes.items s.table) }
     ensures bounds { IfOk result (λ s. HaveSizeBounds s.boxes.items) }
 {
     let grid = grid_of(alloc, boxes)?;
-    let widths = table_widths(alloc, boxes, &grid, containing.width, rule)?;
-    let width = table_width(&grid, widths.wanted.width, widths.columns.as_slice())?;
+    let widths = table_widths(alloc, boxes, &grid, containing.width, bounds)?;
+    let width = table_width(&grid, widths.wanted, widths.columns.as_slice())?;
     let table = table_box(&grid, containing, style_of_box(boxes, grid.table()), width);
     let wrapper = wrapper_sizes(rule, containing, style_of_box(boxes, 0), &table);
     let sizes = sizes_of_boxes(alloc, boxes.len(), grid.table(), wrapper, table)?;
@@ -82,23 +85,85 @@ fn table_widths(
     boxes: &[BoxNode],
     grid: &TableGrid,
     containing: Unit,
-    rule: TableRule,
+    bounds: &TableBounds,
 ) -> Result<TableWidths, NoMemory>
     requires some { 0 < length boxes.now }
     requires places { PlacesAreBelow (length boxes.now) grid.now }
     requires few { grid.now.columns ≤ most_columns }
     requires containing { IsPosition containing.0 }
-    ensures widths { IfOk result (λ w. AreTableWidths containing rule boxes.now grid.now w.wanted w.columns) }
+    ensures widths { IfOk result (λ w. AreTableWidths containing boxes.now grid.now bounds.now w.wanted w.columns) }
     ensures count { IfOk result (λ w. length w.columns ≡ grid.now.columns) }
 {
-    let wrapper = style_of_box(boxes, 0);
-    let style = style_of_box(boxes, grid.table());
-    let wanted = wanted_width(rule, grid, containing, wrapper, style)?;
-    let columns = columns_in(alloc, Some(wanted.width), boxes, grid, wanted.width)?;
+    if is_fixed(style_of_box(boxes, 0)) {
+        return fixed_widths(alloc, boxes, grid, containing);
+    }
+    auto_widths(alloc, boxes, grid, containing, bounds)
+}
+
+/// Those of the fixed layout.
+fn fixed_widths(
+    alloc: Global,
+    boxes: &[BoxNode],
+    grid: &TableGrid,
+    containing: Unit,
+) -> Result<TableWidths, NoMemory>
+    requires some { 0 < length boxes.now }
+    requires places { PlacesAreBelow (length boxes.now) grid.now }
+    requires few { grid.now.columns ≤ most_columns }
+    requires containing { IsPosition containing.0 }
+    ensures widths { IfOk result (λ w. AreFixedWidths containing boxes.now grid.now w.wanted w.columns) }
+    ensures count { IfOk result (λ w. length w.columns ≡ grid.now.columns) }
+{
+    let wanted = fixed_width(boxes, grid, containing);
+    let columns = columns_in(alloc, Some(wanted), boxes, grid, wanted)?;
     Ok(TableWidths {
         wanted,
         columns: columns_fixed(alloc, &columns)?,
     })
+}
+
+/// Those of the automatic layout.
+fn auto_widths(
+    alloc: Global,
+    boxes: &[BoxNode],
+    grid: &TableGrid,
+    containing: Unit,
+    bounds: &TableBounds,
+) -> Result<TableWidths, NoMemory>
+    requires some { 0 < length boxes.now }
+    requires places { PlacesAreBelow (length boxes.now) grid.now }
+    requires few { grid.now.columns ≤ most_columns }
+    requires containing { IsPosition containing.0 }
+    ensures widths { IfOk result (λ w. AreTableWidthsAs false containing boxes.now grid.now bounds.now w.wanted w.columns) }
+    ensures count { IfOk result (λ w. length w.columns ≡ grid.now.columns) }
+{
+    let count = grid.columns() as usize;
+    if bounds.columns().len() == count {
+        return widths_by(alloc, boxes, grid, containing, bounds);
+    }
+    let own = bounds.of_columns(alloc, count)?;
+    widths_by(alloc, boxes, grid, containing, &own)
+}
+
+/// Those by bounds of as many columns as the table has.
+fn widths_by(
+    alloc: Global,
+    boxes: &[BoxNode],
+    grid: &TableGrid,
+    containing: Unit,
+    bounds: &TableBounds,
+) -> Result<TableWidths, NoMemory>
+    requires some { 0 < length boxes.now }
+    requires places { PlacesAreBelow (length boxes.now) grid.now }
+    requires few { grid.now.columns ≤ most_columns }
+    requires count { length bounds.now.columns ≡ grid.now.columns }
+    requires containing { IsPosition containing.0 }
+    ensures widths { IfOk result (λ w. AreAutoWidths containing boxes.now grid.now bounds.now w.wanted w.columns) }
+    ensures count { IfOk result (λ w. length w.columns ≡ grid.now.columns) }
+{
+    let wanted = shrunk_width(boxes, grid, containing, bounds)?;
+    let columns = bounds.columns_in(alloc, grid, wanted)?;
+    Ok(TableWidths { wanted, columns })
 }
 
 /// The used width of the content of a table box that is to have the width `wanted` and has these columns.
@@ -108,21 +173,6 @@ fn table_width(grid: &TableGrid, wanted: Unit, columns: &[Unit]) -> Result<Unit,
 {
     let columns = with_spacings(grid, sum_of(columns)?)?;
     Ok(clamp_size(i128::from(wanted.0.max(columns.0))))
-}
-
-/// How wide columns are that come to so much, with the spacings beside them. NoMemory is the answer where that isn't within 2^63
-/// units, as it is in a document within its limits.
-pub(crate) fn with_spacings(grid: &TableGrid, columns: Unit) -> Result<Unit, NoMemory>
-    ensures { IfOk result (λ v. v ≡ record { 0 = with_spacings grid.now.spacing.across grid.now.columns columns.0 }) }
-{
-    let count = grid.columns();
-    if count == 0 {
-        return Ok(columns);
-    }
-    sum(
-        columns,
-        spacings(grid.spacing().across, count as usize + 1)?,
-    )
 }
 
 /// The table box in its wrapper.

@@ -104,7 +104,8 @@ pub(crate) fn together(left: Unit, right: Unit) -> Unit
 
 /// The borders and paddings of the left and the right side, of which percentages are 0.
 pub(crate) fn preferred_edges(grid: &TableGrid, style: &Style) -> Unit
-    ensures { result.0 ≡ preferred_edges grid.now style.now }
+    ensures value { result.0 ≡ preferred_edges grid.now style.now }
+    ensures fits { IsEdge result.0 }
 {
     let borders = grid.borders();
     let left = preferred_padding(grid, style.padding.left);

@@ -61,10 +61,8 @@ fn wrapper_widths(rule: TableRule, containing: Unit, style: &Style, width: Unit)
 {
     let block = wrapper_block(containing, style, width);
     match rule {
-        TableRule::Fills => solve_block(&block),
-        TableRule::ShrinksToFit { .. } | TableRule::ShrinksInto { .. } => {
-            widths_beside(&block, width)
-        }
+        TableRule::Block => solve_block(&block),
+        TableRule::ShrinkToFit => widths_beside(&block, width),
     }
 }
 

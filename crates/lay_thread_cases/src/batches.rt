@@ -3,12 +3,13 @@
 ghost use Rattle.std.specs.Prelude.{◌<◌, ◌≤◌, IfSome};
 
 use crate::shown;
-use lay_core::{Core, Idle};
+use lay_core::Core;
 use lay_layout::units::NoMemory;
-use lay_outside::{Gate, OpenGate};
+use lay_outside::Gate;
 use lay_pool::claim_lists::{ClaimList, Outcomes};
-use lay_pool::run_batch;
+use lay_pool::{Hand, hands, run_batch};
 use std::alloc::Global;
+use std::thread;
 use std::thread::Threads;
 
 /// More batches than a document has cells.
@@ -41,6 +42,27 @@ pub(crate) fn computed<R: Threads + Sync, G: Gate + Sync>(
     }
 }
 
+/// What comes of claims that are dealt to the first of so many workers, each on a thread of its own.
+pub(crate) fn shared<R: Threads + Sync, G: Gate + Sync>(
+    rt: &R,
+    alloc: Global,
+    claims: ClaimList,
+    workers: u32,
+    gate: &G,
+) -> Result<Vec<Outcomes>, NoMemory> {
+    let mut hands = hands(alloc, workers)?;
+    let mut all = Vec::new(alloc);
+    let room = Vec::with_capacity(alloc, claims.len())?;
+    if let Some(first) = hands.first_mut() {
+        all.push(first.deal(claims, room))?;
+    }
+    let work = |mut hand: Hand| -> Result<Outcomes, NoMemory> { hand.work(alloc, gate) };
+    for outcomes in thread::map_vec(rt, hands, &work)? {
+        all.push(outcomes?)?;
+    }
+    Ok(all)
+}
+
 /// The number of a text, from 1 to the greatest one; None where it is none.
 pub(crate) fn number(text: &str, greatest: u32) -> Option<u32>
     ensures { IfSome result (λ n. (0 < n) × (n ≤ greatest)) }
@@ -52,11 +74,12 @@ pub(crate) fn number(text: &str, greatest: u32) -> Option<u32>
 }
 
 /// Lays the document of a core out by batches, as `LIMIT WORKERS` says, and says why there is no more to lay out.
-pub(crate) fn lay<R: Threads + Sync>(
+pub(crate) fn lay<R: Threads + Sync, G: Gate + Sync>(
     rt: &R,
     alloc: Global,
     core: &mut Core,
     rest: &str,
+    gate: &G,
 ) -> Result<Option<String>, NoMemory> {
     let Some((limit, workers)) = rest.split_once(' ') else {
         return Ok(None);
@@ -65,29 +88,12 @@ pub(crate) fn lay<R: Threads + Sync>(
         return Ok(None);
     };
     for _batch in 0..BATCHES {
-        if let Some(idle) = lay_some(rt, alloc, core, limit, workers)? {
+        let mut list = ClaimList::with_room(alloc, limit)?;
+        if let Some(idle) = core.claim_some(limit, &mut list)? {
             return Ok(Some(shown::idle(alloc, &idle)?));
         }
-    }
-    Ok(None)
-}
-
-/// A batch from its claims to its end; why there is none, where no claim is handed out.
-fn lay_some<R: Threads + Sync>(
-    rt: &R,
-    alloc: Global,
-    core: &mut Core,
-    limit: u32,
-    workers: u32,
-) -> Result<Option<Idle>, NoMemory>
-    requires limit { (0 < limit) × (limit ≤ 64) }
-    requires workers { (0 < workers) × (workers ≤ 16) }
-{
-    let mut list = ClaimList::with_room(alloc, limit)?;
-    let idle = core.claim_some(limit, &mut list)?;
-    if idle.is_none() {
-        let outcomes = computed(rt, alloc, list, workers, &OpenGate)?;
+        let outcomes = computed(rt, alloc, list, workers, gate)?;
         let _tally = core.finish_all(outcomes);
     }
-    Ok(idle)
+    Ok(None)
 }

@@ -4,42 +4,58 @@
 //!     met                            whether that gate let a thread go since they were
 //!     claim LIMIT                    the claims that are handed out, or why there is none (`shown.rt`)
 //!     compute WORKERS                what comes of these claims, in order
+//!     share WORKERS                  deals these claims to the first of so many workers that live on, and has all of them work and finish
+//!                                    what comes of them; how many of these cells are clean then
 //!     finish                         how many of these outcomes were answered which way
 //!     lay LIMIT WORKERS              these three in turn, until no claim is handed out, and why that is
+//!     drive WORKERS                  runs the document, and its editors if it has any, with so many workers: `driven`; its core is the
+//!                                    one that is called from then on
+//!     span                           how many microseconds passed in the last of these two calls from the start of the first claim that
+//!                                    was worked out to the end of the last one; what `bench/threads` reads
 //!     laid, draws
 //!     as-scratch                     whether the tree that is published now is that of a layout from nothing
 
-use crate::batches::{Batch, computed, lay, number};
+use crate::batches::{Batch, computed, lay, number, shared};
 use crate::gates::{CaseGate, gate};
 use crate::shown;
+use crate::span::Span;
 use lay_core::{Core, Publish};
+use lay_drive::drive;
+use lay_json::read_run;
 use lay_layout::context::scratch;
 use lay_layout::frag::text_of;
 use lay_layout::units::NoMemory;
 use lay_pool::claim_lists::ClaimList;
 use std::alloc::Global;
 use std::mem::replace;
+use std::sync::Wait;
 use std::thread::Threads;
+use std::time::Clock;
 
 /// The core of a case.
 #[derive(Drop)]
 pub(crate) struct OneCore {
     core: Core,
+    bytes: Vec<u8>,
     gate: CaseGate,
     batch: Batch,
+    span: u64,
 }
 
 impl OneCore {
-    pub(crate) fn new(core: Core) -> OneCore {
+    /// That of the document of these bytes.
+    pub(crate) fn new(core: Core, bytes: Vec<u8>) -> OneCore {
         OneCore {
             core,
+            bytes,
+            span: 0,
             gate: CaseGate::Open,
             batch: Batch::None,
         }
     }
 
     /// The answer to a call; None where the line is none.
-    pub(crate) fn answer<R: Threads + Sync>(
+    pub(crate) fn answer<R: Threads + Wait + Clock + Sync>(
         &mut self,
         rt: &R,
         alloc: Global,
@@ -51,8 +67,11 @@ impl OneCore {
             "met" => self.met(alloc),
             "claim" => self.claim(alloc, rest),
             "compute" => self.compute(rt, alloc, rest),
+            "share" => self.share(rt, alloc, rest),
             "finish" => self.finish(alloc),
-            "lay" => lay(rt, alloc, &mut self.core, rest),
+            "lay" => self.lay(rt, alloc, rest),
+            "drive" => self.drive(rt, alloc, rest),
+            "span" => Ok(Some(format!(in alloc; "{}", self.span)?)),
             "laid" => Ok(Some(format!(in alloc; "{}", self.core.laid())?)),
             "draws" => Ok(Some(format!(in alloc; "{}", self.core.draws())?)),
             "as-scratch" => self.as_scratch(alloc),
@@ -105,6 +124,55 @@ impl OneCore {
                 let answer = shown::outcomes(alloc, outcomes.as_slice())?;
                 self.batch = Batch::Outcomes(outcomes);
                 Ok(Some(answer))
+            }
+            _ => Ok(None),
+        }
+    }
+
+    fn lay<R: Threads + Clock + Sync>(
+        &mut self,
+        rt: &R,
+        alloc: Global,
+        rest: &str,
+    ) -> Result<Option<String>, NoMemory> {
+        let span = Span::new(rt);
+        let answer = lay(rt, alloc, &mut self.core, rest, &span);
+        self.span = span.micros();
+        answer
+    }
+
+    fn drive<R: Threads + Wait + Clock + Sync>(
+        &mut self,
+        rt: &R,
+        alloc: Global,
+        rest: &str,
+    ) -> Result<Option<String>, NoMemory> {
+        let (Some(workers), Ok(run)) = (number(rest, 16), read_run(alloc, &self.bytes)) else {
+            return Ok(None);
+        };
+        let span = Span::new(rt);
+        self.core = drive(rt, alloc, run, workers, &span)?;
+        self.span = span.micros();
+        Ok(Some(String::from_str(alloc, "driven")?))
+    }
+
+    fn share<R: Threads + Sync>(
+        &mut self,
+        rt: &R,
+        alloc: Global,
+        rest: &str,
+    ) -> Result<Option<String>, NoMemory> {
+        let Some(workers) = number(rest, 16) else {
+            return Ok(None);
+        };
+        match replace(&mut self.batch, Batch::None) {
+            Batch::Claims(claims) => {
+                let mut cleaned = 0u64;
+                for outcomes in shared(rt, alloc, claims, workers, &self.gate)? {
+                    let tally = self.core.finish_all(outcomes);
+                    cleaned = cleaned.saturating_add(tally.cleaned() as u64);
+                }
+                Ok(Some(format!(in alloc; "cleaned {cleaned}")?))
             }
             _ => Ok(None),
         }

@@ -4,10 +4,12 @@ use crate::calls::OneCore;
 use anyhow::{Result, bail};
 use lay_layout::units::NoMemory;
 use std::alloc::Global;
+use std::sync::Wait;
 use std::thread::Threads;
+use std::time::Clock;
 
 /// The first line of a case that has another answer than it says, with that answer.
-pub(crate) fn first_difference<R: Threads + Sync>(
+pub(crate) fn first_difference<R: Threads + Wait + Clock + Sync>(
     rt: &R,
     alloc: Global,
     core: &mut OneCore,
@@ -22,7 +24,7 @@ pub(crate) fn first_difference<R: Threads + Sync>(
 }
 
 /// Makes the call of a line, if it has one, and answers what is other than it says.
-fn difference<R: Threads + Sync>(
+fn difference<R: Threads + Wait + Clock + Sync>(
     rt: &R,
     alloc: Global,
     core: &mut OneCore,

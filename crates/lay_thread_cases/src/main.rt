@@ -11,14 +11,18 @@ mod calls;
 mod case;
 mod gates;
 mod shown;
+mod span;
 
 use crate::calls::OneCore;
 use crate::case::first_difference;
 use anyhow::{Context, Result, bail};
 use lay_core::Core;
 use lay_json::read_run;
+use std::alloc::Global;
 use std::rt::{Env, Files};
+use std::sync::Wait;
 use std::thread::Threads;
+use std::time::Clock;
 use std::{env, fs};
 
 /// No editor calls.
@@ -54,7 +58,7 @@ fn files<R: Files + AllocGlobal + Clone + Drop>(rt: &R, folder: &str) -> Result<
 }
 
 /// Goes through the cases of a file, and prints a line for each.
-fn go_through<R: Files + Print + AllocGlobal + Threads + Sync>(
+fn go_through<R: Files + Print + AllocGlobal + Threads + Wait + Clock + Sync>(
     rt: &R,
     folder: &str,
     name: &str,
@@ -63,7 +67,9 @@ fn go_through<R: Files + Print + AllocGlobal + Threads + Sync>(
     let text = fs::read_to_string(rt, path.as_str()).context("reading a file of batches")?;
     for case in text.as_str().split("\ncase ").skip(1) {
         let (case, lines) = case.split_once('\n').unwrap_or((case, ""));
-        let mut subject = OneCore::new(core(rt, folder, name)?);
+        let bytes = document(rt, folder, name)?;
+        let core = core(rt.alloc(), name, &bytes)?;
+        let mut subject = OneCore::new(core, bytes);
         match first_difference(rt, rt.alloc(), &mut subject, lines)? {
             None => println!(rt; "{name}: {case}: ok")?,
             Some(found) => println!(rt; "{name}: {case}: NOT SO, but {found}")?,
@@ -72,15 +78,19 @@ fn go_through<R: Files + Print + AllocGlobal + Threads + Sync>(
     Ok(())
 }
 
-/// A core of the document in `NAME.json`.
-fn core(rt: &(impl Files + AllocGlobal), folder: &str, name: &str) -> Result<Core> {
+/// The bytes of `NAME.json`.
+fn document(rt: &(impl Files + AllocGlobal), folder: &str, name: &str) -> Result<Vec<u8>> {
     let path = format!(in rt.alloc(); "{folder}/{name}.json")?;
-    let bytes = fs::read(rt, path.as_str()).context("reading a run document")?;
-    let Ok(run) = read_run(rt.alloc(), &bytes) else {
+    fs::read(rt, path.as_str()).context("reading a run document")
+}
+
+/// A core of the document of these bytes.
+fn core(alloc: Global, name: &str, bytes: &[u8]) -> Result<Core> {
+    let Ok(run) = read_run(alloc, bytes) else {
         bail!("{name}.json has a fault");
     };
     let (doc, face, _scripts, _listed) = run.into_parts();
-    match Core::new(rt.alloc(), doc, face, CALLS) {
+    match Core::new(alloc, doc, face, CALLS) {
         Ok(core) => Ok(core),
         Err(_) => bail!("out of memory"),
     }

@@ -49,7 +49,9 @@ form_same n rows got g = by_bool (bytes_eq n (codes "run"))
     (λ e. by_bool (bytes_eq n (codes "hit"))
     (λ h. rw (r, e, h) (ap (λ vs. hit_by vs (values_at (codes "y") rows)) (g (codes "x"))
     ∙ ap (λ vs. hit_by (given (codes "x") got) vs) (g (codes "y"))))
-    (λ h. rw (r, e, h) refl)))
+    (λ h. by_bool (bytes_eq n (codes "check"))
+    (λ k. rw (r, e, h, k) refl)
+    (λ k. rw (r, e, h, k) refl))))
 
 taken : (o : Option (Text × Pairs)) (f : Kinds) (sub : Option (Text × List Row)) → Reads o f sub → f ≡ [] → form_in sub ≡ form_with o
 taken None f sub r e = absurd (r e)

@@ -44,7 +44,9 @@ named_within n values = by_bool (bytes_eq n (codes "run"))
     (λ g. rw (r, g) (gen_within _ _ _ (of_within None 1 1000 (values (codes "size")) tt) (of_within None 0 2147483647 (values (codes "seed")) tt) (workers_within (values (codes "workers")))))
     (λ g. by_bool (bytes_eq n (codes "hit"))
     (λ h. rw (r, g, h) (hit_within _ _ (of_within None 0 1000000 (values (codes "x")) tt) (of_within None 0 1000000 (values (codes "y")) tt)))
-    (λ h. rw (r, g, h) tt)))
+    (λ h. by_bool (bytes_eq n (codes "check"))
+    (λ k. rw (r, g, h, k) tt)
+    (λ k. rw (r, g, h, k) tt))))
 
 with_within : (o : Option (Text × Pairs)) → IfSome (form_with o) IsInRange
 with_within None = tt

@@ -77,6 +77,16 @@ pub hit_rows : (ws : List Text) → subcommand_of our_app (codes "hit" ∷ ws) �
 unfolding clap_on_literals
 hit_rows ws = ap (λ w. entered ours w.stopped) (on_and_on [] (names_of ours) (codes "hit") [] ws)
 
+pub check_fault_is : (ws : List Text) → fault_of our_app (codes "check" ∷ ws) ≡ level_fault (leaf (codes "check") []) [] nothing_held ws false []
+unfolding clap_on_literals
+check_fault_is ws =
+    ap (λ f. top_level (fold (walked [] (names_of ours)) (stop_at (codes "check") []) ws) f) (quiet_after ours.top (names_of ours) (codes "check") [] ws)
+    ∙ (ap (λ w. top_level w []) (on_and_on [] (names_of ours) (codes "check") [] ws) ∙ or_nothing (level_fault (leaf (codes "check") []) [] nothing_held ws false []))
+
+pub check_rows : (ws : List Text) → subcommand_of our_app (codes "check" ∷ ws) ≡ Some (codes "check", rows_after [] [] ws)
+unfolding clap_on_literals
+check_rows ws = ap (λ w. entered ours w.stopped) (on_and_on [] (names_of ours) (codes "check") [] ws)
+
 pub scratch_fault : (ws : List Text) → fault_of our_app (codes "scratch" ∷ ws) ≡ level_fault (leaf (codes "scratch") []) [] nothing_held ws false []
 unfolding clap_on_literals
 scratch_fault ws =
@@ -91,13 +101,14 @@ scratch_rows ws = ap (λ w. entered ours w.stopped) (on_and_on [] (names_of ours
 abbrev pub found_name : Option (Text × List Text) → Option Text
 found_name o = option_map (λ (x : Text × List Text). x.0) o
 
-pub no_name : (w : Text) → bytes_eq (codes "run") w ≡ false → bytes_eq (codes "gen") w ≡ false → bytes_eq (codes "hit") w ≡ false → bytes_eq (codes "scratch") w ≡ false
-    → subcommand_met (names_of ours) idle w ≡ None
-no_name w r g h s =
-    ap (λ b. found_name (if b || false then Some (codes "run", []) else find (answers_to w) ((codes "gen", []) ∷ (codes "hit", []) ∷ (codes "scratch", []) ∷ []))) r
-    ∙ (ap (λ b. found_name (if b || false then Some (codes "gen", []) else find (answers_to w) ((codes "hit", []) ∷ (codes "scratch", []) ∷ []))) g
-    ∙ (ap (λ b. found_name (if b || false then Some (codes "hit", []) else find (answers_to w) ((codes "scratch", []) ∷ []))) h
-    ∙ ap (λ b. found_name (if b || false then Some (codes "scratch", []) else None)) s))
+pub no_name : (w : Text) → bytes_eq (codes "run") w ≡ false → bytes_eq (codes "gen") w ≡ false → bytes_eq (codes "hit") w ≡ false → bytes_eq (codes "check") w ≡ false
+    → bytes_eq (codes "scratch") w ≡ false → subcommand_met (names_of ours) idle w ≡ None
+no_name w r g h k s =
+    ap (λ b. found_name (if b || false then Some (codes "run", []) else find (answers_to w) ((codes "gen", []) ∷ (codes "hit", []) ∷ (codes "check", []) ∷ (codes "scratch", []) ∷ []))) r
+    ∙ (ap (λ b. found_name (if b || false then Some (codes "gen", []) else find (answers_to w) ((codes "hit", []) ∷ (codes "check", []) ∷ (codes "scratch", []) ∷ []))) g
+    ∙ (ap (λ b. found_name (if b || false then Some (codes "hit", []) else find (answers_to w) ((codes "check", []) ∷ (codes "scratch", []) ∷ []))) h
+    ∙ (ap (λ b. found_name (if b || false then Some (codes "check", []) else find (answers_to w) ((codes "scratch", []) ∷ []))) k
+    ∙ ap (λ b. found_name (if b || false then Some (codes "scratch", []) else None)) s)))
 
 pub first_faulty : (w : Text) → Kind w → subcommand_met (names_of ours) idle w ≡ None → turn_fault ours.top (names_of ours) (walk_from nothing_held) w ≡ [] → ⊥
 first_faulty w (flag (n, v) l d) sub e = first_flag (ap (λ x. or_else x (step_fault ours.top 1 m.0 m.1)) fault)
@@ -148,6 +159,12 @@ reads_hit ws odd =
     (subst (λ f. Agrees (options hit_options None [] ws) f (rows_after (map option_rule hit_options) [] ws)) (sym (hit_fault ws)) (leaf_agrees (codes "hit") hit_options ws odd))
     (hit_rows ws)
 
+pub reads_check : (ws : List Text) → list_any is_odd ws ≡ false → Reads (named (codes "check") (options [] None [] ws)) (fault_of our_app (codes "check" ∷ ws)) (subcommand_of our_app (codes "check" ∷ ws))
+reads_check ws odd =
+    lift (codes "check") (options [] None [] ws) (fault_of our_app (codes "check" ∷ ws)) (rows_after [] [] ws) (subcommand_of our_app (codes "check" ∷ ws))
+    (subst (λ f. Agrees (options [] None [] ws) f (rows_after [] [] ws)) (sym (check_fault_is ws)) (leaf_agrees (codes "check") [] ws odd))
+    (check_rows ws)
+
 pub reads_scratch : (ws : List Text) → list_any is_odd ws ≡ false → Reads (named (codes "scratch") (options [] None [] ws)) (fault_of our_app (codes "scratch" ∷ ws)) (subcommand_of our_app (codes "scratch" ∷ ws))
 reads_scratch ws odd =
     lift (codes "scratch") (options [] None [] ws) (fault_of our_app (codes "scratch" ∷ ws)) (rows_after [] [] ws) (subcommand_of our_app (codes "scratch" ∷ ws))
@@ -159,9 +176,9 @@ unfolding clap_on_literals
 none_fault = refl
 
 pub other_word : (w : Text) (ws : List Text) → is_odd w ≡ false → bytes_eq (codes "run") w ≡ false → bytes_eq (codes "gen") w ≡ false → bytes_eq (codes "hit") w ≡ false
-    → bytes_eq (codes "scratch") w ≡ false → fault_of our_app (w ∷ ws) ≡ [] → ⊥
+    → bytes_eq (codes "check") w ≡ false → bytes_eq (codes "scratch") w ≡ false → fault_of our_app (w ∷ ws) ≡ [] → ⊥
 unfolding clap_on_literals
-other_word w ws odd r g h s e = first_faulty w (kind_of_word w odd) (no_name w r g h s) (or_first _ _ (or_first _ _ e))
+other_word w ws odd r g h k s e = first_faulty w (kind_of_word w odd) (no_name w r g h k s) (or_first _ _ (or_first _ _ e))
 
 -- what is read of a first word and those behind it
 abbrev pub ReadsFrom : List Text → Text → Type 0
@@ -170,18 +187,23 @@ ReadsFrom ws v = Reads (parsed (v ∷ ws)) (fault_of our_app (v ∷ ws)) (subcom
 abbrev pub scratch_or_none : Bool → List Text → Option (Text × Pairs)
 scratch_or_none b ws = if b then named (codes "scratch") (options [] None [] ws) else None
 
-abbrev pub hit_or_less : Bool → Bool → List Text → Option (Text × Pairs)
-hit_or_less h s ws = if h then named (codes "hit") (options hit_options None [] ws) else scratch_or_none s ws
+abbrev pub check_or_less : Bool → Bool → List Text → Option (Text × Pairs)
+check_or_less k s ws = if k then named (codes "check") (options [] None [] ws) else scratch_or_none s ws
 
-abbrev pub gen_or_less : Bool → Bool → Bool → List Text → Option (Text × Pairs)
-gen_or_less g h s ws = if g then named (codes "gen") (options gen_options None [] ws) else hit_or_less h s ws
+abbrev pub hit_or_less : Bool → Bool → Bool → List Text → Option (Text × Pairs)
+hit_or_less h k s ws = if h then named (codes "hit") (options hit_options None [] ws) else check_or_less k s ws
+
+abbrev pub gen_or_less : Bool → Bool → Bool → Bool → List Text → Option (Text × Pairs)
+gen_or_less g h k s ws = if g then named (codes "gen") (options gen_options None [] ws) else hit_or_less h k s ws
 
 pub not_parsed : (w : Text) (ws : List Text) → bytes_eq (codes "run") w ≡ false → bytes_eq (codes "gen") w ≡ false → bytes_eq (codes "hit") w ≡ false
-    → bytes_eq (codes "scratch") w ≡ false → parsed (w ∷ ws) ≡ None
-not_parsed w ws r g h s =
-    ap (λ b. if b then named (codes "run") (options run_options None [] ws) else gen_or_less (bytes_eq (codes "gen") w) (bytes_eq (codes "hit") w) (bytes_eq (codes "scratch") w) ws) r
-    ∙ (ap (λ b. gen_or_less b (bytes_eq (codes "hit") w) (bytes_eq (codes "scratch") w) ws) g
-    ∙ (ap (λ b. hit_or_less b (bytes_eq (codes "scratch") w) ws) h ∙ ap (λ b. scratch_or_none b ws) s))
+    → bytes_eq (codes "check") w ≡ false → bytes_eq (codes "scratch") w ≡ false → parsed (w ∷ ws) ≡ None
+not_parsed w ws r g h k s =
+    ap (λ b. if b then named (codes "run") (options run_options None [] ws)
+    else gen_or_less (bytes_eq (codes "gen") w) (bytes_eq (codes "hit") w) (bytes_eq (codes "check") w) (bytes_eq (codes "scratch") w) ws) r
+    ∙ (ap (λ b. gen_or_less b (bytes_eq (codes "hit") w) (bytes_eq (codes "check") w) (bytes_eq (codes "scratch") w) ws) g
+    ∙ (ap (λ b. hit_or_less b (bytes_eq (codes "check") w) (bytes_eq (codes "scratch") w) ws) h
+    ∙ (ap (λ b. check_or_less b (bytes_eq (codes "scratch") w) ws) k ∙ ap (λ b. scratch_or_none b ws) s)))
 
 pub reads : (words : List Text) → list_any is_odd words ≡ false → Reads (parsed words) (fault_of our_app words) (subcommand_of our_app words)
 reads [] odd = λ e. some_not kind.MissingSubcommand [] (sym none_fault ∙ e)
@@ -193,6 +215,8 @@ reads (w ∷ ws) odd =
     (λ g. subst (ReadsFrom ws) (same_text_at (codes "gen") w g) (reads_gen ws tidy.1))
     (λ g. by_bool (bytes_eq (codes "hit") w)
     (λ h. subst (ReadsFrom ws) (same_text_at (codes "hit") w h) (reads_hit ws tidy.1))
-    (λ h. by_bool (bytes_eq (codes "scratch") w)
+    (λ h. by_bool (bytes_eq (codes "check") w)
+    (λ k. subst (ReadsFrom ws) (same_text_at (codes "check") w k) (reads_check ws tidy.1))
+    (λ k. by_bool (bytes_eq (codes "scratch") w)
     (λ s. subst (ReadsFrom ws) (same_text_at (codes "scratch") w s) (reads_scratch ws tidy.1))
-    (λ s. subst (λ o. Reads o (fault_of our_app (w ∷ ws)) (subcommand_of our_app (w ∷ ws))) (sym (not_parsed w ws r g h s)) (other_word w ws tidy.0 r g h s)))))
+    (λ s. subst (λ o. Reads o (fault_of our_app (w ∷ ws)) (subcommand_of our_app (w ∷ ws))) (sym (not_parsed w ws r g h k s)) (other_word w ws tidy.0 r g h k s))))))

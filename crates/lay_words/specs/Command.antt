@@ -32,7 +32,7 @@ abbrev pub with_options : App
 with_options = with_subcommand (with_subcommand (with_subcommand strict run_app.top) gen_app.top) hit_app.top
 
 abbrev pub our_app : App
-our_app = with_subcommand with_options (plain (codes "scratch")).top
+our_app = with_subcommand (with_subcommand with_options (plain (codes "check")).top) (plain (codes "scratch")).top
 
 -- an option, once the command is built
 abbrev pub option_rule : List ℕ → Rule

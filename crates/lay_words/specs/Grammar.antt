@@ -3,6 +3,7 @@
 --     run [--workers N]                          N from 1 to 16, or else 4
 --     gen --size N --seed K [--workers W]        N from 1 to 1,000, K from 0 to 2,147,483,647, W as above
 --     hit --x X --y Y                            X and Y from 0 to 1,000,000
+--     check
 -- Options come in any order, each at most once, as two words or as one with `=`. A value is 1 to 10 decimal digits.
 -- A word that is empty, that is `-` or `--`, or that begins with a single hyphen is in none of them.
 use Rattle.std.specs.Prelude.{ℕ, ◌+◌, ◌*◌, ◌-◌, ◌==◌, ◌≡◌, ◌≤◌, ◌&&◌, Bool, true, not, List, [], ◌∷◌, ◌++◌, length, codes, Option, Some, None, if◌then◌else◌, nat_le, nat_lt, flat_map}
@@ -10,7 +11,7 @@ use Rattle.std.specs.List.{list_all, list_any}
 use Rattle.std.specs.Str.{bytes_eq}
 use Rattle.std.specs.Char.{is_ascii_digit}
 use Rattle.lay_words.specs.declared.form.Form.{Form}
-use Rattle.lay_words.specs.declared.form.Form.TheVariants.{Scratch, Run, Gen, Hit}
+use Rattle.lay_words.specs.declared.form.Form.TheVariants.{Scratch, Run, Gen, Hit, Check}
 use Rattle.clap.specs.Lexer.{long_of}
 
 abbrev pub Text : Type 0
@@ -119,7 +120,8 @@ parsed (w ∷ ws) =
     if bytes_eq (codes "run") w then named (codes "run") (options run_options None [] ws)
     else (if bytes_eq (codes "gen") w then named (codes "gen") (options gen_options None [] ws)
     else (if bytes_eq (codes "hit") w then named (codes "hit") (options hit_options None [] ws)
-    else (if bytes_eq (codes "scratch") w then named (codes "scratch") (options [] None [] ws) else None)))
+    else (if bytes_eq (codes "check") w then named (codes "check") (options [] None [] ws)
+    else (if bytes_eq (codes "scratch") w then named (codes "scratch") (options [] None [] ws) else None))))
 
 -- the form of a name, by the values of its options
 abbrev pub form_named : Text → (Text → List Text) → Option Form
@@ -127,7 +129,8 @@ form_named n values =
     if bytes_eq n (codes "run") then run_with (number_of (Some 4) 1 16 (values (codes "workers")))
     else (if bytes_eq n (codes "gen") then gen_with (number_of None 1 1000 (values (codes "size"))) (number_of None 0 2147483647 (values (codes "seed"))) (number_of (Some 4) 1 16 (values (codes "workers")))
     else (if bytes_eq n (codes "hit") then hit_with (number_of None 0 1000000 (values (codes "x"))) (number_of None 0 1000000 (values (codes "y")))
-    else Some Scratch))
+    else (if bytes_eq n (codes "check") then Some Check
+    else Some Scratch)))
 
 abbrev pub form_with : Option (Text × Pairs) → Option Form
 form_with None = None
@@ -143,6 +146,7 @@ IsInRange Scratch = Unit {0}
 IsInRange (Run workers) = (1 ≤ workers) × (workers ≤ 16)
 IsInRange (Gen size seed workers) = (1 ≤ size) × (size ≤ 1000) × (seed ≤ 2147483647) × (1 ≤ workers) × (workers ≤ 16)
 IsInRange (Hit x y) = (x ≤ 1000000) × (y ≤ 1000000)
+IsInRange Check = Unit {0}
 
 abbrev pub NumbersAreInRange : Type 0
 NumbersAreInRange = (words : List Text) (form : Form) → form_of words ≡ Some form → IsInRange form

@@ -8,7 +8,7 @@ ghost use Rattle.lay_words.specs.Command.{our_app, gen_app, hit_app, run_app, op
 use clap::{Arg, ArgAction, Command};
 use std::alloc::{AllocError, Global};
 
-/// The command with its four subcommands. Its words are those behind the program's name, and it answers no
+/// The command with its five subcommands. Its words are those behind the program's name, and it answers no
 /// `--help`, no `--version` and no `help`.
 pub(crate) fn command<'a>(alloc: Global) -> Result<Command<'a>, AllocError>
     ensures { IfOk result (λ c. app_of c ≡ our_app) }
@@ -24,6 +24,7 @@ pub(crate) fn command<'a>(alloc: Global) -> Result<Command<'a>, AllocError>
         .subcommand(run)?
         .subcommand(generate)?
         .subcommand(hit)?
+        .subcommand(plain(alloc, "check"))?
         .subcommand(plain(alloc, "scratch"))
 }
 

@@ -12,4 +12,6 @@ pub enum Form {
     Gen { size: u32, seed: u32, workers: u32 },
     /// To say which piece of a document is seen at a point of the page, in px, 0 to 1,000,000.
     Hit { x: u32, y: u32 },
+    /// To check a report of a run document.
+    Check,
 }

@@ -54,6 +54,8 @@ fn named_form(name: &str, matches: &ArgMatches<'_>) -> Option<Form>
         gen_found(matches)
     } else if name == "hit" {
         hit_found(matches)
+    } else if name == "check" {
+        Some(Form::Check)
     } else {
         Some(Form::Scratch)
     }

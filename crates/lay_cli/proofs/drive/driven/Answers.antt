@@ -7,18 +7,18 @@ pub returns-in-Ok-write_run-clause-ends : goal.returns-in-Ok-write_run-clause-en
 returns-in-Ok-write_run-clause-ends g c =
     let s = c.in-Ok.core in
     let by = c.in-Ok.ensures {u = tt} in
-    let took = rw (c.history.ensures.value, c.trees.ensures.value, c.laid.ensures) at (c.in-Ok-write_run.ensures {u = tt}).ok in
+    let took = rw (c.history.ensures.value, c.trees.ensures.value, c.claims_of.ensures.value) at (c.in-Ok-write_run.ensures {u = tt}).ok in
     ends_ok _ _ _ _ (Some s) (run_report s.history s.trees s.laid)
-    (record { driven = record { init = by.init; face = by.face; core = c.history.ensures.core; scripts = by.scripts; whole = by.whole }; text_is = refl }) took
+    (record { driven = record { init = by.init; face = by.face; core = c.history.ensures.core; scripts = by.scripts; whole = by.whole }; within = c.claims_of.ensures.within; text_is = refl }) took
 
 pub returns-in-Err-write_run-clause-ends : goal.returns-in-Err-write_run-clause-ends
 returns-in-Err-write_run-clause-ends g c =
     let s = c.in-Ok.core in
     let by = c.in-Ok.ensures {u = tt} in
     let e = c.in-Err-write_run.ensures {u = tt} in
-    let front = rw (c.history.ensures.value, c.trees.ensures.value, c.laid.ensures) at e.front in
+    let front = rw (c.history.ensures.value, c.trees.ensures.value, c.claims_of.ensures.value) at e.front in
     rw (c.requires.kept, c.status_of.ensures) (ends_broken _ _ _ _ (Some s) (run_report s.history s.trees s.laid) c.in-Err-write_run.fault
-    (record { driven = record { init = by.init; face = by.face; core = c.history.ensures.core; scripts = by.scripts; whole = by.whole }; text_is = refl }) front e.failed)
+    (record { driven = record { init = by.init; face = by.face; core = c.history.ensures.core; scripts = by.scripts; whole = by.whole }; within = c.claims_of.ensures.within; text_is = refl }) front e.failed)
 
 pub returns-in-Err-write_run-clause-never_usage : goal.returns-in-Err-write_run-clause-never_usage
 returns-in-Err-write_run-clause-never_usage g c = rw c.status_of.ensures (broken_not_usage c.in-Err-write_run.fault)

@@ -23,5 +23,6 @@ front_at-next-requires-in-loop-next-clause-place c =
 
 pub returns : goal.returns
 returns c =
-    sym (ends c.args.q.now c.requires.valid c.loop-next.at c.loop-next.next c.loop-next.invariant.within c.loop-next.invariant.next c.args.noted.now c.requires.noted c.loop-next-test.false)
+    c.get.ensures
+    ∙ sym (ends c.args.q.now c.requires.valid c.loop-next.at c.loop-next.next c.loop-next.invariant.within c.loop-next.invariant.next c.args.noted.now c.requires.noted c.loop-next-test.false)
     ∙ c.loop-next.invariant.seen ∙ sym (root_seen c.args.q.now c.requires.valid)

@@ -6,6 +6,6 @@ use Rattle.lay_hit.proofs.noted.note_context.Given as goal
 
 abbrev pub invariant-loop-k : goal.invariant-loop-k
 invariant-loop-k l = record {
-  count : length l.noted.items ≡ length l.q.doc.now.nodes;
-  noted : (fs : List Frag) → AreNoted l.q fs l.fn.noted.items → AreNoted l.q (fs ++ take l.k (page_pieces l.placed)) l.noted.items;
+  count : length l.noted ≡ length l.q.doc.now.nodes;
+  noted : (fs : List Frag) → AreNoted l.q fs l.fn.noted → AreNoted l.q (fs ++ take l.k (page_pieces l.placed)) l.noted;
 }

@@ -16,4 +16,4 @@ loop-placed-preserved c =
     let here : slice_get tree j ≡ Some c.placed-item.result = slice_get-get_or tree j c.placed-item.result test ∙ ap Some (sym item) in
     let more : frags_of (take (j + 1) tree) ≡ frags_of (take j tree) ++ page_pieces c.placed-item.result =
     ap frags_of (take_one_more tree j c.placed-item.result here) ∙ flat_map-append page_pieces (take j tree) (c.placed-item.result ∷ []) ∙ ap (λ (gs : List Frag). frags_of (take j tree) ++ gs) (append-nil (page_pieces c.placed-item.result)) in
-    subst (λ (gs : List Frag). AreNoted c.args.q.now gs c.note_context.new.noted.items) (sym more) (c.note_context.ensures (frags_of (take j tree)) c.loop-placed.invariant)
+    subst (λ (gs : List Frag). AreNoted c.args.q.now gs c.note_context.new.noted) (sym more) ((c.in_ok-note_context.ensures {u = tt}).noted (frags_of (take j tree)) c.loop-placed.invariant)

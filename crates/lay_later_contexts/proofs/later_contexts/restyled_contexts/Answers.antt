@@ -1,9 +1,9 @@
 use Rattle.std.proofs.Common.{◌≡◌, ap, arith, length, subst, sym}
 use Rattle.lay_doc.proofs.NodeColumns.{length-parents}
 use Rattle.lay_contexts.specs.ListedContexts.{AreContextPlaces}
-use Rattle.lay_later_contexts.proofs.BuiltSteps.{until-within}
+use Rattle.lay_later_contexts.proofs.BuiltSteps.{from-within, until-within}
 use Rattle.lay_later_contexts.proofs.ElementPlaces.{context-places}
-use Rattle.lay_later_contexts.proofs.Restyling.{restyling-of}
+use Rattle.lay_later_contexts.proofs.Restyling.{restyling-of, subject-there}
 use Rattle.lay_later_contexts.proofs.later_contexts.restyled_contexts.Goals as goal
 
 pub reach_of-reach-requires-clause-places : goal.reach_of-reach-requires-clause-places
@@ -27,3 +27,9 @@ are_alike-requires-clause-there c =
     c.nodes.ensures.valid c.requires.edited c.requires.node c.reach_of-reach.ensures.subject).parents in
     let same : length c.as_slice-2.result.now ≡ length c.args.of.now.styles.now = ap length c.as_slice-2.ensures in
     omega (arith, until, same, c.requires.edited.after.length_is, parents, length-parents d.nodes)
+
+pub reach_of-reach-requires-clause-node : goal.reach_of-reach-requires-clause-node
+reach_of-reach-requires-clause-node c = subject-there c.args.of.now.doc.now c.args.of.now.edit.now c.args.node.0 c.requires.edited.accepted c.requires.node
+
+pub stays_seen-requires : goal.stays_seen-requires
+stays_seen-requires c = from-within c.args.of.now.doc.now c.args.of.now.was.now c.deref.result.now c.args.node.0 c.reach_of-reach.result c.reach_of-reach.ensures

@@ -1,8 +1,12 @@
-use Rattle.std.proofs.Common.{Some}
-use Rattle.lay_table_sizes.proofs.ColumnSteps.{columns_count}
+use Rattle.std.proofs.Common.{◌≡◌, Bool, true, IfOk, ap, sym, subst, ◌∙◌}
+use Rattle.lay_table_bounds.specs.TableLayouts.{is_fixed}
+use Rattle.lay_table_sizes.specs.TableBoxes.{wrapper_style}
+use Rattle.lay_table_sizes.specs.TableSizes.{AreTableWidthsAs}
 use Rattle.lay_table_sizes.proofs.sizing.table_widths.Goals as goal
 
-pub returns-clause-count : goal.returns-clause-count
-returns-clause-count c =
-    let are = rw c.in_ok-columns.ensures.value at c.in_ok-columns_fixed.ensures in
-    columns_count (Some c.in_ok-wanted.wanted.width) c.args.boxes.now c.args.grid.now c.in_ok-wanted.wanted.width c.in_ok-columns_fixed.field-0 are
+pub returns-then-is_fixed-clause-widths : goal.returns-then-is_fixed-clause-widths
+returns-then-is_fixed-clause-widths c =
+    let boxes = c.args.boxes.now in
+    let fixed : is_fixed (wrapper_style boxes) ≡ true = sym (c.is_fixed.ensures ∙ ap is_fixed c.style_of_box.ensures) ∙ c.if-is_fixed.true in
+    subst (λ (b : Bool). IfOk c.fixed_widths.result (λ w. AreTableWidthsAs b c.args.containing boxes c.args.grid.now c.args.bounds.now w.wanted w.columns)) (sym fixed)
+    c.fixed_widths.ensures.widths

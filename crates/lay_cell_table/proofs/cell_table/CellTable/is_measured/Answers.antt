@@ -14,6 +14,7 @@ index-requires c =
       firsts = c.self.inside.roots.firsts.items;
       cells = c.self.inside.cells.items;
       places = c.self.inside.places.items;
+      no_widths = c.self.inside.no_widths;
       no_sizes = c.self.inside.no_sizes;
       no_place = c.self.inside.no_place;
     } in
@@ -30,6 +31,7 @@ returns c =
       firsts = c.self.inside.roots.firsts.items;
       cells = c.self.inside.cells.items;
       places = c.self.inside.places.items;
+      no_widths = c.self.inside.no_widths;
       no_sizes = c.self.inside.no_sizes;
       no_place = c.self.inside.no_place;
     } in

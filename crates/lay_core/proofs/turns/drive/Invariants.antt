@@ -1,5 +1,0 @@
-use Rattle.lay_core.proofs.TurnSteps.{AfterRounds}
-use Rattle.lay_core.proofs.turns.drive.Given as goal
-
-abbrev pub invariant-loop-index : goal.invariant-loop-index
-invariant-loop-index l = AfterRounds l.fn.run l.index l.queues.items l.core

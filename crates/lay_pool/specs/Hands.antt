@@ -1,0 +1,14 @@
+-- What workers that live on hand in. Each outcome comes of a claim, whichever worker that was dealt to.
+use Rattle.std.specs.Prelude.{◌≡◌, List, Contains}
+use Rattle.lay_claims.specs.cell_work.Claims.{Claim}
+use Rattle.lay_claims.specs.declared.outcome.Outcome.{Outcome}
+use Rattle.lay_claims.specs.declared.outcome.Outcome.TheVariants as outcome
+use Rattle.lay_claims.specs.Outcomes.{IsOutcomeOf}
+
+-- the work of a claim, right beside its input, or a claim that came back
+abbrev pub ComesOf : Outcome → Type 0
+ComesOf o = (c : Claim) × IsOutcomeOf c o
+
+-- one of these claims, which came back
+abbrev pub IsRefusedOf : List Claim → Outcome → Type 0
+IsRefusedOf claims o = (c : Claim) × Contains claims c × (o ≡ outcome.NoMemory c)
