@@ -11,18 +11,20 @@ use Rattle.lay_layout.specs.context.Solves.{Solves}
 use Rattle.lay_hit.specs.declared.point.Point.{Point}
 use Rattle.lay_hit.specs.Hits.{hit_of}
 use Rattle.lay_hit.specs.HitLines.{hit_line}
+use Rattle.lay_painted.specs.Laws.{IsPaintedOnce}
 
 -- a point of the page that is given in px
 abbrev pub point_at : ℕ → ℕ → Point
 point_at x y = record { x = px x; y = px y }
 
 -- The piece is the last that is painted of those that hold the point, of a tree that solves the document and by the
--- document's computed styles; or there is none that holds it.
+-- document's computed styles; or there is none that holds it. Each box and each text of the tree is painted once.
 pub record IsSeen (run : Run) (at : Point) (piece : Option Frag) : Type 0 where
   pub tree : List Context
   pub solves : Solves run.doc run.face tree
   pub styles : List Style
   pub has_styles : HasStyles (parents_of run.doc.nodes) (declarations_of run.doc.nodes) styles
+  pub once : IsPaintedOnce run.doc styles tree
   pub last : piece ≡ hit_of run.doc styles tree at.x.0 at.y.0
 
 -- the text is the line of the piece that is seen

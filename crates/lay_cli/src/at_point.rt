@@ -5,17 +5,19 @@ ghost use Rattle.lay_outside.specs.Outside.{Rose};
 ghost use Rattle.lay_words.specs.declared.form.Form.TheVariants as form;
 ghost use Rattle.lay_cli.specs.Answers.{Refuses, Reports};
 ghost use Rattle.lay_cli.specs.Endings.{Ends};
-ghost use Rattle.lay_cli.specs.Hits.{IsHitReport, point_at};
+ghost use Rattle.lay_cli.specs.Hits.{IsHitReport, IsSeen, point_at};
 ghost use Rattle.lay_cli.specs.Input.{IsDrained, IsReadOut};
 
 use crate::run_input::{Input, Lack, run_input};
 use crate::status::Status;
 use crate::telling::told;
 use lay_hit::{Point, hit_line};
+use lay_layout::frag::Frag;
 use lay_layout::inherit::computed;
 use lay_layout::run::RunDoc;
 use lay_layout::units::{NoMemory, Text, Unit};
 use lay_outside::{Sink, Source};
+use lay_painted::solved_documents_are_painted_once;
 use std::alloc::Global;
 
 /// Lays out the run document that the source has left, its editors taken as none, and writes which piece is seen at a
@@ -59,10 +61,22 @@ fn seen<K: Sink>(alloc: Global, run: &RunDoc, at: Point, sink: &mut K) -> Status
 fn line_at(alloc: Global, run: &RunDoc, at: Point) -> Result<Text, NoMemory>
     ensures { IfOk result (IsHitReport run.now at) }
 {
-    let tree = lay_layout::context::scratch(alloc, run.doc(), run.face())?;
-    let styles = computed(alloc, run.doc())?;
-    let piece = lay_hit::hit(alloc, run.doc(), &styles, &tree, at)?;
+    let piece = piece_at(alloc, run, at)?;
     hit_line(alloc, piece)
+}
+
+/// The piece of a run's document that is seen at a point.
+fn piece_at(alloc: Global, run: &RunDoc, at: Point) -> Result<Option<Frag>, NoMemory>
+    ensures { IfOk result (IsSeen run.now at) }
+{
+    let doc = run.doc();
+    let tree = lay_layout::context::scratch(alloc, doc, run.face())?;
+    let styles = computed(alloc, doc)?;
+    // What is asked of a document holds of this one, and so its tree is painted once.
+    doc.nodes();
+    solved_documents_are_painted_once();
+    let piece = lay_hit::hit(alloc, doc, &styles, &tree, at)?;
+    Ok(piece)
 }
 
 /// A point of the page that is given in px.
