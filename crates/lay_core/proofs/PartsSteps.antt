@@ -1,5 +1,5 @@
 -- Steps of a core that is seen by its parts.
-use Rattle.std.proofs.Common.{◌≡◌, ◌≢◌, ◌<◌, ◌≤◌, ◌*◌, ◌+◌, ◌^◌, ℕ, List, length, true, false, Option, Some, None, Result, Ok, Err, OnErr, OnOk, refl, sym, ap, ◌∙◌, subst, arith, inl, inr, ne_eqb}
+use Rattle.std.proofs.Common.{◌≡◌, ◌≢◌, ◌<◌, ◌≤◌, ◌*◌, ◌+◌, ◌^◌, ℕ, List, length, true, false, Option, Some, None, Result, Ok, Err, OnErr, OnOk, refl, sym, ap, ◌∙◌, ◌⊎◌, subst, arith, inl, inr, ne_eqb}
 use Rattle.lay_layout.specs.doc.declared.command.Reply.{Reply}
 use Rattle.lay_layout.specs.doc.declared.history.Entry.{Entry}
 use Rattle.lay_layout.specs.doc.declared.history.Entry.TheVariants.{Latest, Sync}
@@ -9,7 +9,7 @@ use Rattle.lay_layout.specs.history.Trees.{PublishedTreeValue, versions_of}
 use Rattle.lay_document_cells.specs.Settling.{SettlesTo as CellsSettleTo, StopsAt as CellsStopAt, none}
 use Rattle.lay_document_cells.specs.State.{IsOfDocument, State as DocumentCells}
 use Rattle.lay_core.specs.Parts.{parts}
-use Rattle.lay_core.specs.Publishing.{Publishes, PublishesTo, RefreshesTo, is_version}
+use Rattle.lay_core.specs.Publishing.{IsBehind, Publishes, PublishesTo, RefreshesTo, is_version}
 use Rattle.lay_core.specs.State.{HasNumbers, IsKept, State, are_clean, document_cells, with_cells}
 use Rattle.lay_core.specs.Steps.{LatestTo, ShowsLatest, ShowsPresent, SyncTo, called, is_due}
 use Rattle.lay_core.specs.Work.{ChangesCells, MaySettle, SettlesTo}
@@ -172,3 +172,8 @@ shows_latest_of s now same editor index d h ts r shows = record {
   shows = subst (λ x. ShowsLatest (is_due x) x r (parts s d h ts)) same (shows s);
   state = refl;
 }
+
+-- what is behind by its trees is so by its history
+pub behind_of : (s now : State) (n room : ℕ) → s ≡ now → IsKept s n room → (are_clean s.cells.rows ≡ false) ⊎ (last_or None (versions_of s.trees) ≢ Some n) → IsBehind now
+behind_of s now n room same is (inl dirty) = subst IsBehind same (inl dirty)
+behind_of s now n room same is (inr other) = subst IsBehind same (inr (not_last s n room is other))

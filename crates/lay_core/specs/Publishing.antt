@@ -1,11 +1,11 @@
 -- How a version is published: it is the present one, each cell is clean, and its tree is the layout of the document.
-use Rattle.std.specs.Prelude.{ℕ, ◌≡◌, ◌==◌, List, [], ◌∷◌, ◌++◌, Bool, true, false, Option, Some, None}
+use Rattle.std.specs.Prelude.{ℕ, ◌≡◌, ◌≢◌, ◌==◌, ◌⊎◌, List, [], ◌∷◌, ◌++◌, Bool, true, false, Option, Some, None}
 use Rattle.lay_layout.specs.doc.declared.history.Entry.TheVariants.{Publish as publication}
 use Rattle.lay_layout.specs.frag.Pieces.{Context}
 use Rattle.lay_layout.specs.cells.Reads.{AllClean, IsFirstDirtyKey}
 use Rattle.lay_layout.specs.history.Histories.{accepted, last_published}
 use Rattle.lay_layout.specs.context.Solves.{Solves}
-use Rattle.lay_core.specs.State.{IsCounted, State}
+use Rattle.lay_core.specs.State.{IsCounted, State, is_clean}
 use Rattle.lay_core.specs.Work.{SettlesTo}
 use Rattle.lay_core.specs.declared.answers.Publish.{Publish}
 use Rattle.lay_core.specs.declared.answers.Publish.TheVariants.{Published, Unsettled, NoMemory}
@@ -51,3 +51,8 @@ pub record RefreshesTo (s t : State) : Type 0 where
   pub settled : State
   pub settles : SettlesTo s settled
   pub publishes : Publishes settled t
+
+-- why the present version may have to be made, for which memory may be wanting: some cell is dirty, or that version isn't the one that was
+-- published last
+abbrev pub IsBehind : State → Type 0
+IsBehind s = (is_clean s ≡ false) ⊎ (last_published s.history ≢ Some (accepted s.history))

@@ -1,6 +1,7 @@
 //! The calls of editors.
 
 ghost use Rattle.std.specs.Prelude.{◌≡◌, ◌<◌, ◌≤◌, ◌^◌, ◌-◌, ◌+◌};
+ghost use Rattle.lay_core.specs.Publishing.{IsBehind};
 ghost use Rattle.lay_core.specs.Steps.{EditsTo, LatestTo, SyncTo};
 
 use crate::core_state::Core;
@@ -54,10 +55,11 @@ impl Core {
     }
 
     /// Answers an editor that asks for the present version: settles the cells, and publishes it unless it is. The reply is
-    /// Shown with the version, or NoMemory.
+    /// Shown with the version, or NoMemory, which comes only where some cell is dirty or the present version isn't published.
     pub fn sync(&mut self, editor: u32, index: u32) -> Reply
         requires calls { 0 < self.old.calls_left }
         ensures shows { SyncTo self.old editor index result self.new }
+        ensures cause { result ≡ Reply.NoMemory → IsBehind self.old }
         ensures draws { self.new.cells.draws ≤ self.old.cells.draws + 2 ^ 18 }
     {
         let reply = shown_present(

@@ -1,12 +1,13 @@
 //! How the cells are settled and a version is published.
 
-ghost use Rattle.std.specs.Prelude.{◌≡◌, ◌≢◌, ◌<◌, ◌≤◌, ◌^◌, ◌+◌, None, Some, OnErr, OnOk, false, length, vec_capacity};
+ghost use Rattle.std.specs.Prelude.{◌≡◌, ◌≢◌, ◌<◌, ◌≤◌, ◌^◌, ◌+◌, ◌⊎◌, None, Some, OnErr, OnOk, false, length, vec_capacity};
+ghost use Rattle.lay_document_cells.specs.Settling.{SettlesTo as CellsSettleTo, StopsAt as CellsStopAt};
 ghost use Rattle.lay_layout.specs.cells.Reads.{AllClean};
 ghost use Rattle.lay_layout.specs.history.Histories.{accepted, last_or};
 ghost use Rattle.lay_layout.specs.history.Trees.{HasTrees, versions_of};
 ghost use Rattle.lay_core.specs.Parts.{parts};
-ghost use Rattle.lay_core.specs.Publishing.{Publishes, PublishesTo, RefreshesTo};
-ghost use Rattle.lay_core.specs.State.{State, is_clean};
+ghost use Rattle.lay_core.specs.Publishing.{IsBehind, Publishes, PublishesTo, RefreshesTo};
+ghost use Rattle.lay_core.specs.State.{State, are_clean, is_clean};
 ghost use Rattle.lay_core.specs.Work.{MaySettle, SettlesTo, StopsAt};
 
 use crate::answers::Publish;
@@ -37,11 +38,13 @@ impl Core {
         settled
     }
 
-    /// Settles the cells, and publishes the present version unless it is. On an error nothing is published.
+    /// Settles the cells, and publishes the present version unless it is. On an error, which comes only where some cell is dirty or that
+    /// version isn't published, nothing is published.
     pub fn refresh(&mut self) -> Result<(), NoMemory>
         requires draws { self.old.cells.draws ≤ 2 ^ 63 + 2 ^ 50 }
         ensures ok { OnOk result (RefreshesTo self.old self.new) }
         ensures err { OnErr result (MaySettle self.old self.new) }
+        ensures cause { OnErr result (IsBehind self.old) }
         ensures draws { self.new.cells.draws ≤ self.old.cells.draws + 2 ^ 18 }
     {
         let refreshed = refreshed(
@@ -98,11 +101,26 @@ pub(crate) fn refreshed(
     requires draws { cells.old.cells.draws ≤ 2 ^ 63 + 2 ^ 51 }
     ensures ok { OnOk result ((s : State) → RefreshesTo (parts s cells.old history.old.items trees.old.items) (parts s cells.new history.new.items trees.new.items)) }
     ensures err { OnErr result ((s : State) → MaySettle (parts s cells.old history.old.items trees.old.items) (parts s cells.new history.new.items trees.new.items)) }
+    ensures cause { OnErr result ((are_clean cells.old.cells.rows ≡ false) ⊎ (last_or None (versions_of trees.old.items) ≢ Some version)) }
     ensures draws { cells.new.cells.draws ≤ cells.old.cells.draws + 2 ^ 18 }
     ensures capacity { vec_capacity history.new ≡ vec_capacity history.old }
 {
-    cells.settle()?;
+    settled(cells)?;
     published(alloc, cells, version, trees, history)
+}
+
+/// Settles the cells of a core that is seen by its parts, where one is dirty.
+fn settled(cells: &mut DocumentCells) -> Result<(), NoMemory>
+    requires draws { cells.old.cells.draws ≤ 2 ^ 63 + 2 ^ 51 }
+    ensures ok { OnOk result (CellsSettleTo cells.old cells.new) }
+    ensures err { OnErr result (CellsStopAt cells.old cells.new) }
+    ensures dirty { OnErr result (are_clean cells.old.cells.rows ≡ false) }
+    ensures few { cells.new.cells.draws ≤ cells.old.cells.draws + 2 ^ 18 }
+{
+    if are_clean(cells) {
+        return Ok(());
+    }
+    cells.settle()
 }
 
 /// Publishes this version, which is the present one, of a core whose cells are clean, unless it is published.

@@ -1,7 +1,7 @@
 //! What editors are shown. These functions see a core by its parts: its cells, the number of accepted edits, the trees of published
 //! versions and the history.
 
-ghost use Rattle.std.specs.Prelude.{◌≡◌, ◌<◌, ◌≤◌, ◌^◌, ◌+◌, None, IsSome, length, vec_capacity};
+ghost use Rattle.std.specs.Prelude.{◌≡◌, ◌≢◌, ◌<◌, ◌≤◌, ◌^◌, ◌+◌, ◌⊎◌, None, Some, IsSome, false, length, vec_capacity};
 ghost use Rattle.lay_layout.specs.history.Histories.{accepted, last_or};
 ghost use Rattle.lay_layout.specs.history.Trees.{HasTrees, versions_of};
 ghost use Rattle.lay_core.specs.Parts.{parts};
@@ -27,6 +27,7 @@ pub(crate) fn shown_present(
     requires room { length history.old.items < vec_capacity history.old }
     requires draws { cells.old.cells.draws ≤ 2 ^ 63 + 2 ^ 51 }
     ensures shows { (s : State) → ShowsPresent (parts s cells.old history.old.items trees.old.items) result (parts s cells.new history.new.items trees.new.items) }
+    ensures cause { result ≡ Reply.NoMemory → (are_clean cells.old.cells.rows ≡ false) ⊎ (last_or None (versions_of trees.old.items) ≢ Some version) }
     ensures draws { cells.new.cells.draws ≤ cells.old.cells.draws + 2 ^ 18 }
     ensures capacity { vec_capacity history.new ≡ vec_capacity history.old }
 {

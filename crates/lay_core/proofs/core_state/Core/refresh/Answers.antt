@@ -1,6 +1,6 @@
 use Rattle.std.proofs.Common.{refl}
 use Rattle.lay_core.proofs.Kept.{publish_room}
-use Rattle.lay_core.proofs.PartsSteps.{may_settle_of, on_err, on_ok, refresh_leaves, refreshes_of, settled_numbers}
+use Rattle.lay_core.proofs.PartsSteps.{behind_of, may_settle_of, on_err, on_ok, refresh_leaves, refreshes_of, settled_numbers}
 use Rattle.lay_core.proofs.core_state.Core.refresh.Goals as goal
 
 pub refreshed-refreshed-requires-clause-room : goal.refreshed-refreshed-requires-clause-room
@@ -26,3 +26,7 @@ returns-clause-err c =
     on_err c.refreshed-refreshed.result _ _
     (may_settle_of _ _ c.self.view_is c.refreshed-refreshed.new.cells c.refreshed-refreshed.new.history.items c.refreshed-refreshed.new.trees.items)
     c.refreshed-refreshed.ensures.err
+
+pub returns-clause-cause : goal.returns-clause-cause
+returns-clause-cause c =
+    on_err c.refreshed-refreshed.result _ _ (behind_of _ _ _ _ c.self.view_is c.self.invariant.0) c.refreshed-refreshed.ensures.cause

@@ -1,6 +1,6 @@
 use Rattle.std.proofs.Common.{refl, rules}
 use Rattle.lay_core.proofs.Kept.{call_room}
-use Rattle.lay_core.proofs.PartsSteps.{sync_leaves, sync_room_of, syncs_of}
+use Rattle.lay_core.proofs.PartsSteps.{behind_of, sync_leaves, sync_room_of, syncs_of}
 use Rattle.lay_core.proofs.core_state.Core.sync.Goals as goal
 
 pub shown_present-reply-requires-clause-room : goal.shown_present-reply-requires-clause-room
@@ -28,3 +28,6 @@ returns-clause-shows c =
     rw (c.push_reserved.ensures.items)
     (syncs_of _ _ c.self.view_is c.args.editor c.args.index c.shown_present-reply.new.cells c.shown_present-reply.new.history.items
     c.shown_present-reply.new.trees.items c.shown_present-reply.result c.shown_present-reply.ensures.shows)
+
+pub returns-clause-cause : goal.returns-clause-cause
+returns-clause-cause c = λ lacks. behind_of _ _ _ _ c.self.view_is c.self.invariant.0 (c.shown_present-reply.ensures.cause lacks)
