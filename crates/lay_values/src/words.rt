@@ -2,11 +2,9 @@
 
 ghost use Rattle.std.specs.Prelude.{◌≡◌};
 ghost use Rattle.std.specs.Str.{str_eq_ignore_ascii_case};
-ghost use Rattle.std.specs.Array.Iter.{array_into_iter_items};
-ghost use Rattle.lay_values.specs.Words.{word_name, all_words, word_of, keyword_of};
+ghost use Rattle.lay_values.specs.Words.{word_name, of_length, word_of, keyword_of};
 
 use lay_style::{Given, Word};
-use std::array;
 
 /// The keyword as the standard writes it.
 fn word_name(word: Word) -> &'static str
@@ -80,77 +78,84 @@ fn word_name(word: Word) -> &'static str
     }
 }
 
-/// All keywords but `inherit`.
-fn all_words() -> array::IntoIter<Word, 64>
-    ensures { array_into_iter_items result ≡ all_words }
+/// The keywords of this length, but `inherit`.
+fn of_length(length: usize) -> &'static [Word]
+    ensures { result.now ≡ of_length length }
 {
-    [
-        Word::Inline,
-        Word::Block,
-        Word::ListItem,
-        Word::InlineBlock,
-        Word::Table,
-        Word::InlineTable,
-        Word::TableRowGroup,
-        Word::TableHeaderGroup,
-        Word::TableFooterGroup,
-        Word::TableRow,
-        Word::TableColumnGroup,
-        Word::TableColumn,
-        Word::TableCell,
-        Word::TableCaption,
-        Word::None,
-        Word::Static,
-        Word::Relative,
-        Word::Absolute,
-        Word::Fixed,
-        Word::Left,
-        Word::Right,
-        Word::Both,
-        Word::Auto,
-        Word::Thin,
-        Word::Medium,
-        Word::Thick,
-        Word::Hidden,
-        Word::Dotted,
-        Word::Dashed,
-        Word::Solid,
-        Word::Double,
-        Word::Groove,
-        Word::Ridge,
-        Word::Inset,
-        Word::Outset,
-        Word::Visible,
-        Word::Scroll,
-        Word::XxSmall,
-        Word::XSmall,
-        Word::Small,
-        Word::Large,
-        Word::XLarge,
-        Word::XxLarge,
-        Word::Larger,
-        Word::Smaller,
-        Word::Normal,
-        Word::Center,
-        Word::Justify,
-        Word::Pre,
-        Word::Nowrap,
-        Word::PreWrap,
-        Word::PreLine,
-        Word::Baseline,
-        Word::Sub,
-        Word::Super,
-        Word::Top,
-        Word::TextTop,
-        Word::Middle,
-        Word::Bottom,
-        Word::TextBottom,
-        Word::Separate,
-        Word::Collapse,
-        Word::Show,
-        Word::Hide,
-    ]
-    .into_iter()
+    match length {
+        3 => &[Word::Pre, Word::Sub, Word::Top],
+        4 => &[
+            Word::None,
+            Word::Left,
+            Word::Both,
+            Word::Auto,
+            Word::Thin,
+            Word::Show,
+            Word::Hide,
+        ],
+        5 => &[
+            Word::Block,
+            Word::Table,
+            Word::Fixed,
+            Word::Right,
+            Word::Thick,
+            Word::Solid,
+            Word::Ridge,
+            Word::Inset,
+            Word::Small,
+            Word::Large,
+            Word::Super,
+        ],
+        6 => &[
+            Word::Inline,
+            Word::Static,
+            Word::Medium,
+            Word::Hidden,
+            Word::Dotted,
+            Word::Dashed,
+            Word::Double,
+            Word::Groove,
+            Word::Outset,
+            Word::Scroll,
+            Word::Larger,
+            Word::Normal,
+            Word::Center,
+            Word::Nowrap,
+            Word::Middle,
+            Word::Bottom,
+        ],
+        7 => &[
+            Word::Visible,
+            Word::XSmall,
+            Word::XLarge,
+            Word::Smaller,
+            Word::Justify,
+        ],
+        8 => &[
+            Word::Relative,
+            Word::Absolute,
+            Word::XxSmall,
+            Word::XxLarge,
+            Word::PreWrap,
+            Word::PreLine,
+            Word::Baseline,
+            Word::TextTop,
+            Word::Separate,
+            Word::Collapse,
+        ],
+        9 => &[Word::ListItem, Word::TableRow],
+        10 => &[Word::TableCell],
+        11 => &[Word::TextBottom],
+        12 => &[Word::InlineBlock, Word::InlineTable, Word::TableColumn],
+        13 => &[Word::TableCaption],
+        15 => &[Word::TableRowGroup],
+        18 => &[
+            Word::TableHeaderGroup,
+            Word::TableFooterGroup,
+            Word::TableColumnGroup,
+        ],
+        _ => &[],
+    }
 }
 
 /// Whether a text spells this word, in any case of its letters.
@@ -164,9 +169,10 @@ pub(crate) fn is_spelled(text: &[u8], word: &str) -> bool
 fn word_of(text: &[u8]) -> Option<Word>
     ensures { result ≡ word_of text.now }
 {
-    for word in all_words() {
-        if is_spelled(text, word_name(word)) {
-            return Some(word);
+    let words = of_length(text.len());
+    for word in words {
+        if is_spelled(text, word_name(*word)) {
+            return Some(*word);
         }
     }
     None
