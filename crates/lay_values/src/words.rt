@@ -2,7 +2,7 @@
 
 ghost use Rattle.std.specs.Prelude.{◌≡◌};
 ghost use Rattle.std.specs.Str.{str_eq_ignore_ascii_case};
-ghost use Rattle.lay_values.specs.Words.{word_name, of_length, word_of, keyword_of};
+ghost use Rattle.lay_values.specs.Words.{word_name, first_letter, beginning_with, word_of, keyword_of};
 
 use lay_style::{Given, Word};
 
@@ -78,82 +78,70 @@ fn word_name(word: Word) -> &'static str
     }
 }
 
-/// The keywords of this length, but `inherit`.
-fn of_length(length: usize) -> &'static [Word]
-    ensures { result.now ≡ of_length length }
+/// The small letter that a text begins with; 0 where it is empty.
+fn first_letter(text: &[u8]) -> u8
+    ensures { result ≡ first_letter text.now }
 {
-    match length {
-        3 => &[Word::Pre, Word::Sub, Word::Top],
-        4 => &[
-            Word::None,
-            Word::Left,
-            Word::Both,
-            Word::Auto,
-            Word::Thin,
-            Word::Show,
-            Word::Hide,
-        ],
-        5 => &[
-            Word::Block,
-            Word::Table,
-            Word::Fixed,
-            Word::Right,
-            Word::Thick,
-            Word::Solid,
-            Word::Ridge,
-            Word::Inset,
-            Word::Small,
-            Word::Large,
-            Word::Super,
-        ],
-        6 => &[
+    match text {
+        [] => 0,
+        [first, ..] => first.to_ascii_lowercase(),
+    }
+}
+
+/// The keywords that begin with this letter, but `inherit`.
+fn beginning_with(letter: u8) -> &'static [Word]
+    ensures { result.now ≡ beginning_with letter }
+{
+    match letter {
+        b'a' => &[Word::Absolute, Word::Auto],
+        b'b' => &[Word::Block, Word::Both, Word::Baseline, Word::Bottom],
+        b'c' => &[Word::Center, Word::Collapse],
+        b'd' => &[Word::Dotted, Word::Dashed, Word::Double],
+        b'f' => &[Word::Fixed],
+        b'g' => &[Word::Groove],
+        b'h' => &[Word::Hidden, Word::Hide],
+        b'i' => &[
             Word::Inline,
+            Word::InlineBlock,
+            Word::InlineTable,
+            Word::Inset,
+        ],
+        b'j' => &[Word::Justify],
+        b'l' => &[Word::ListItem, Word::Left, Word::Large, Word::Larger],
+        b'm' => &[Word::Medium, Word::Middle],
+        b'n' => &[Word::None, Word::Normal, Word::Nowrap],
+        b'o' => &[Word::Outset],
+        b'p' => &[Word::Pre, Word::PreWrap, Word::PreLine],
+        b'r' => &[Word::Relative, Word::Right, Word::Ridge],
+        b's' => &[
             Word::Static,
-            Word::Medium,
-            Word::Hidden,
-            Word::Dotted,
-            Word::Dashed,
-            Word::Double,
-            Word::Groove,
-            Word::Outset,
+            Word::Solid,
             Word::Scroll,
-            Word::Larger,
-            Word::Normal,
-            Word::Center,
-            Word::Nowrap,
-            Word::Middle,
-            Word::Bottom,
-        ],
-        7 => &[
-            Word::Visible,
-            Word::XSmall,
-            Word::XLarge,
+            Word::Small,
             Word::Smaller,
-            Word::Justify,
-        ],
-        8 => &[
-            Word::Relative,
-            Word::Absolute,
-            Word::XxSmall,
-            Word::XxLarge,
-            Word::PreWrap,
-            Word::PreLine,
-            Word::Baseline,
-            Word::TextTop,
+            Word::Sub,
+            Word::Super,
             Word::Separate,
-            Word::Collapse,
+            Word::Show,
         ],
-        9 => &[Word::ListItem, Word::TableRow],
-        10 => &[Word::TableCell],
-        11 => &[Word::TextBottom],
-        12 => &[Word::InlineBlock, Word::InlineTable, Word::TableColumn],
-        13 => &[Word::TableCaption],
-        15 => &[Word::TableRowGroup],
-        18 => &[
+        b't' => &[
+            Word::Table,
+            Word::TableRowGroup,
             Word::TableHeaderGroup,
             Word::TableFooterGroup,
+            Word::TableRow,
             Word::TableColumnGroup,
+            Word::TableColumn,
+            Word::TableCell,
+            Word::TableCaption,
+            Word::Thin,
+            Word::Thick,
+            Word::Top,
+            Word::TextTop,
+            Word::TextBottom,
         ],
+        b'v' => &[Word::Visible],
+        b'x' => &[Word::XxSmall, Word::XSmall, Word::XLarge, Word::XxLarge],
         _ => &[],
     }
 }
@@ -169,7 +157,7 @@ pub(crate) fn is_spelled(text: &[u8], word: &str) -> bool
 fn word_of(text: &[u8]) -> Option<Word>
     ensures { result ≡ word_of text.now }
 {
-    let words = of_length(text.len());
+    let words = beginning_with(first_letter(text));
     for word in words {
         if is_spelled(text, word_name(*word)) {
             return Some(*word);

@@ -1,5 +1,5 @@
 use Rattle.lay_values.specs.Lengths.{suffix_name, all_suffixes}
-use Rattle.lay_values.proofs.ByLength.{find-spelled}
+use Rattle.lay_values.proofs.Narrowed.{find-spelled}
 use Rattle.lay_values.proofs.lengths.suffix_of.Goals as goal
 
 pub loop-suffix-init : goal.loop-suffix-init

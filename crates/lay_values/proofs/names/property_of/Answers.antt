@@ -1,5 +1,5 @@
 use Rattle.lay_values.specs.Names.{name_of, all_properties}
-use Rattle.lay_values.proofs.ByLength.{find-named}
+use Rattle.lay_values.proofs.Narrowed.{find-named}
 use Rattle.lay_values.proofs.names.property_of.Goals as goal
 
 pub loop-property-init : goal.loop-property-init
