@@ -1,5 +1,5 @@
 -- A block of a text in which nothing begins is seen as it stands.
-use Rattle.std.proofs.Common.{◌≡◌, ℕ, refl, sym, subst, false, List, [], ◌∷◌, ◌++◌, take, drop, arith}
+use Rattle.std.proofs.Common.{◌≡◌, ℕ, refl, subst, false, List, [], ◌∷◌, ◌++◌, take, drop, arith}
 use Rattle.std.specs.List.{list_any}
 use Rattle.std.proofs.lemmas.Grind.{common_steps}
 use Rattle.std.proofs.lemmas.List.{take-append-drop}
