@@ -1,3 +1,4 @@
+pub mod Blocks
 pub mod Fronts
 pub mod Grammar
 pub mod Utf8Texts

@@ -3,7 +3,7 @@
 -- 12pt, so 1cm is 9600 / 254 px. A length is rounded down to 1/64 px once, and held within 2^31 of them;
 -- an em or a number is rounded down to thousandths; a percentage is rounded down to hundredths, and held
 -- within 2^30 of them. `-0.01px` is -0.64 units, and so -1.
-use Rattle.std.specs.Prelude.{ℕ, ◌*◌, ◌^◌, ◌==◌, ℤ, pos, neg_ℤ, List, [], ◌∷◌, codes, find, Option, Some, None, if◌then◌else◌}
+use Rattle.std.specs.Prelude.{ℕ, ◌*◌, ◌^◌, ◌==◌, ℤ, pos, neg_ℤ, List, [], ◌∷◌, codes, length, filter, find, Option, Some, None, if◌then◌else◌}
 use Rattle.std.specs.Int.{int_min, int_max}
 use Rattle.std.specs.Str.{str_eq_ignore_ascii_case}
 use Rattle.lay_units.specs.Units.{clamp_of}
@@ -30,6 +30,10 @@ suffix_name Pc = codes "pc"
 
 unfoldable pub all_suffixes : List Suffix
 all_suffixes = Nothing ∷ Percent ∷ Em ∷ Px ∷ In ∷ Cm ∷ Mm ∷ Pt ∷ Pc ∷ []
+
+-- those of this length
+abbrev pub of_length : ℕ → List Suffix
+of_length n = filter (λ s. length (suffix_name s) == n) all_suffixes
 
 abbrev pub suffix_of : List ℕ → Option Suffix
 suffix_of text = find (λ s. str_eq_ignore_ascii_case (suffix_name s) text) all_suffixes

@@ -1,6 +1,6 @@
 -- The properties by their names, which are written just as they stand here (CSS 2.2, 4.1.8 and appendix F).
 -- A name that differs in a letter's case or in a white space is no property's.
-use Rattle.std.specs.Prelude.{ℕ, List, [], ◌∷◌, Option, codes, find}
+use Rattle.std.specs.Prelude.{ℕ, ◌==◌, List, [], ◌∷◌, length, filter, Option, codes, find}
 use Rattle.std.specs.Str.{bytes_eq}
 use Rattle.lay_style.specs.declared.property.Property.{Property}
 use Rattle.lay_style.specs.declared.property.Property.TheVariants.{Display, Position, Float, Clear, Top, Right, Bottom, Left, ZIndex, Width, Height, MinWidth, MinHeight, MaxWidth, MaxHeight, MarginTop, MarginRight, MarginBottom, MarginLeft, PaddingTop, PaddingRight, PaddingBottom, PaddingLeft, BorderTopWidth, BorderRightWidth, BorderBottomWidth, BorderLeftWidth, BorderTopStyle, BorderRightStyle, BorderBottomStyle, BorderLeftStyle, Overflow, FontSize, LineHeight, TextIndent, TextAlign, WhiteSpace, LetterSpacing, WordSpacing, VerticalAlign, TableLayout, BorderCollapse, BorderSpacing, CaptionSide, Visibility, EmptyCells}
@@ -62,6 +62,10 @@ all_properties =
     BorderBottomStyle ∷ BorderLeftStyle ∷ Overflow ∷ FontSize ∷ LineHeight ∷ TextIndent ∷
     TextAlign ∷ WhiteSpace ∷ LetterSpacing ∷ WordSpacing ∷ VerticalAlign ∷ TableLayout ∷
     BorderCollapse ∷ BorderSpacing ∷ CaptionSide ∷ Visibility ∷ EmptyCells ∷ []
+
+-- those whose names have this length
+abbrev pub of_length : ℕ → List Property
+of_length n = filter (λ p. length (name_of p) == n) all_properties
 
 -- the property that has this name
 abbrev pub property_of : List ℕ → Option Property

@@ -1,6 +1,7 @@
 -- The keywords of the properties' values. Their letters are read in any case of ASCII (CSS 2.2, 4.1.3).
 -- `inherit` is apart, since each property takes it (6.2.1).
-use Rattle.std.specs.Prelude.{ℕ, List, [], ◌∷◌, Option, option_map, codes, find, if◌then◌else◌, Some}
+use Rattle.std.specs.Prelude.{ℕ, ◌==◌, List, [], ◌∷◌, filter, Option, option_map, codes, find, if◌then◌else◌, Some}
+use Rattle.std.specs.Char.{to_ascii_lowercase}
 use Rattle.std.specs.Str.{str_eq_ignore_ascii_case}
 use Rattle.lay_style.specs.declared.property.Given.{Given}
 use Rattle.lay_style.specs.declared.property.Given.TheVariants.{Keyword, Inherit}
@@ -86,6 +87,15 @@ all_words =
     word.Pre ∷ word.Nowrap ∷ word.PreWrap ∷ word.PreLine ∷ word.Baseline ∷ word.Sub ∷ word.Super ∷
     word.Top ∷ word.TextTop ∷ word.Middle ∷ word.Bottom ∷ word.TextBottom ∷ word.Separate ∷
     word.Collapse ∷ word.Show ∷ word.Hide ∷ []
+
+-- the small letter that a text begins with
+abbrev pub first_letter : List ℕ → ℕ
+first_letter [] = 0
+first_letter (b ∷ bs) = to_ascii_lowercase b
+
+-- those that begin with this letter
+abbrev pub beginning_with : ℕ → List Word
+beginning_with n = filter (λ w. first_letter (word_name w) == n) all_words
 
 -- the keyword that a text spells
 abbrev pub word_of : List ℕ → Option Word

@@ -1,15 +1,13 @@
 //! Lengths, percentages and bare numbers.
 
 ghost use Rattle.std.specs.Prelude.{◌≡◌, ◌<◌, ◌≤◌, ◌*◌, ◌^◌};
-ghost use Rattle.std.specs.Array.Iter.{array_into_iter_items};
 ghost use Rattle.lay_values.specs.Numbers.{IsShort};
-ghost use Rattle.lay_values.specs.Lengths.{suffix_name, all_suffixes, suffix_of, length_value, thousandths, hundredths, bare_value, value_with};
+ghost use Rattle.lay_values.specs.Lengths.{suffix_name, of_length, suffix_of, length_value, thousandths, hundredths, bare_value, value_with};
 
 use crate::numbers::{Decimal, scaled};
 use crate::words::is_spelled;
 use lay_style::{Given, Property};
 use lay_units::{Percent, Unit, clamp};
-use std::array;
 
 /// The greatest distance of a percentage from 0, in hundredths.
 const HUNDREDTHS: i128 = 1073741824;
@@ -45,30 +43,34 @@ fn suffix_name(suffix: Suffix) -> &'static str
     }
 }
 
-fn all_suffixes() -> array::IntoIter<Suffix, 9>
-    ensures { array_into_iter_items result ≡ all_suffixes }
+/// The suffixes of this length.
+fn of_length(length: usize) -> &'static [Suffix]
+    ensures { result.now ≡ of_length length }
 {
-    [
-        Suffix::Nothing,
-        Suffix::Percent,
-        Suffix::Em,
-        Suffix::Px,
-        Suffix::In,
-        Suffix::Cm,
-        Suffix::Mm,
-        Suffix::Pt,
-        Suffix::Pc,
-    ]
-    .into_iter()
+    match length {
+        0 => &[Suffix::Nothing],
+        1 => &[Suffix::Percent],
+        2 => &[
+            Suffix::Em,
+            Suffix::Px,
+            Suffix::In,
+            Suffix::Cm,
+            Suffix::Mm,
+            Suffix::Pt,
+            Suffix::Pc,
+        ],
+        _ => &[],
+    }
 }
 
 /// The suffix that a text is, in any case.
 pub(crate) fn suffix_of(text: &[u8]) -> Option<Suffix>
     ensures { result ≡ suffix_of text.now }
 {
-    for suffix in all_suffixes() {
-        if is_spelled(text, suffix_name(suffix)) {
-            return Some(suffix);
+    let suffixes = of_length(text.len());
+    for suffix in suffixes {
+        if is_spelled(text, suffix_name(*suffix)) {
+            return Some(*suffix);
         }
     }
     None

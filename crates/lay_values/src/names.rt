@@ -1,11 +1,9 @@
 //! Properties by their names.
 
 ghost use Rattle.std.specs.Prelude.{◌≡◌};
-ghost use Rattle.std.specs.Array.Iter.{array_into_iter_items};
-ghost use Rattle.lay_values.specs.Names.{name_of, all_properties, property_of};
+ghost use Rattle.lay_values.specs.Names.{name_of, of_length, property_of};
 
 use lay_style::Property;
-use std::array;
 
 /// The property's name.
 fn name_of(property: Property) -> &'static str
@@ -61,68 +59,69 @@ fn name_of(property: Property) -> &'static str
     }
 }
 
-/// All properties.
-fn all_properties() -> array::IntoIter<Property, 46>
-    ensures { array_into_iter_items result ≡ all_properties }
+/// The properties whose names have this length.
+fn of_length(length: usize) -> &'static [Property]
+    ensures { result.now ≡ of_length length }
 {
-    [
-        Property::Display,
-        Property::Position,
-        Property::Float,
-        Property::Clear,
-        Property::Top,
-        Property::Right,
-        Property::Bottom,
-        Property::Left,
-        Property::ZIndex,
-        Property::Width,
-        Property::Height,
-        Property::MinWidth,
-        Property::MinHeight,
-        Property::MaxWidth,
-        Property::MaxHeight,
-        Property::MarginTop,
-        Property::MarginRight,
-        Property::MarginBottom,
-        Property::MarginLeft,
-        Property::PaddingTop,
-        Property::PaddingRight,
-        Property::PaddingBottom,
-        Property::PaddingLeft,
-        Property::BorderTopWidth,
-        Property::BorderRightWidth,
-        Property::BorderBottomWidth,
-        Property::BorderLeftWidth,
-        Property::BorderTopStyle,
-        Property::BorderRightStyle,
-        Property::BorderBottomStyle,
-        Property::BorderLeftStyle,
-        Property::Overflow,
-        Property::FontSize,
-        Property::LineHeight,
-        Property::TextIndent,
-        Property::TextAlign,
-        Property::WhiteSpace,
-        Property::LetterSpacing,
-        Property::WordSpacing,
-        Property::VerticalAlign,
-        Property::TableLayout,
-        Property::BorderCollapse,
-        Property::BorderSpacing,
-        Property::CaptionSide,
-        Property::Visibility,
-        Property::EmptyCells,
-    ]
-    .into_iter()
+    match length {
+        3 => &[Property::Top],
+        4 => &[Property::Left],
+        5 => &[
+            Property::Float,
+            Property::Clear,
+            Property::Right,
+            Property::Width,
+        ],
+        6 => &[Property::Bottom, Property::Height],
+        7 => &[Property::Display, Property::ZIndex],
+        8 => &[Property::Position, Property::Overflow],
+        9 => &[Property::MinWidth, Property::MaxWidth, Property::FontSize],
+        10 => &[
+            Property::MinHeight,
+            Property::MaxHeight,
+            Property::MarginTop,
+            Property::TextAlign,
+            Property::Visibility,
+        ],
+        11 => &[
+            Property::MarginLeft,
+            Property::PaddingTop,
+            Property::LineHeight,
+            Property::TextIndent,
+            Property::WhiteSpace,
+            Property::EmptyCells,
+        ],
+        12 => &[
+            Property::MarginRight,
+            Property::PaddingLeft,
+            Property::WordSpacing,
+            Property::TableLayout,
+            Property::CaptionSide,
+        ],
+        13 => &[Property::MarginBottom, Property::PaddingRight],
+        14 => &[
+            Property::PaddingBottom,
+            Property::LetterSpacing,
+            Property::VerticalAlign,
+            Property::BorderSpacing,
+        ],
+        15 => &[Property::BorderCollapse],
+        16 => &[Property::BorderTopWidth, Property::BorderTopStyle],
+        17 => &[Property::BorderLeftWidth, Property::BorderLeftStyle],
+        18 => &[Property::BorderRightWidth, Property::BorderRightStyle],
+        19 => &[Property::BorderBottomWidth, Property::BorderBottomStyle],
+        _ => &[],
+    }
 }
 
 /// The property that has just this name.
 pub fn property_of(name: &str) -> Option<Property>
     ensures { result ≡ property_of name.now }
 {
-    for property in all_properties() {
-        if name_of(property) == name {
-            return Some(property);
+    let named = of_length(name.len());
+    for property in named {
+        if name_of(*property) == name {
+            return Some(*property);
         }
     }
     None

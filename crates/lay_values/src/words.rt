@@ -2,11 +2,9 @@
 
 ghost use Rattle.std.specs.Prelude.{◌≡◌};
 ghost use Rattle.std.specs.Str.{str_eq_ignore_ascii_case};
-ghost use Rattle.std.specs.Array.Iter.{array_into_iter_items};
-ghost use Rattle.lay_values.specs.Words.{word_name, all_words, word_of, keyword_of};
+ghost use Rattle.lay_values.specs.Words.{word_name, first_letter, beginning_with, word_of, keyword_of};
 
 use lay_style::{Given, Word};
-use std::array;
 
 /// The keyword as the standard writes it.
 fn word_name(word: Word) -> &'static str
@@ -80,77 +78,72 @@ fn word_name(word: Word) -> &'static str
     }
 }
 
-/// All keywords but `inherit`.
-fn all_words() -> array::IntoIter<Word, 64>
-    ensures { array_into_iter_items result ≡ all_words }
+/// The small letter that a text begins with; 0 where it is empty.
+fn first_letter(text: &[u8]) -> u8
+    ensures { result ≡ first_letter text.now }
 {
-    [
-        Word::Inline,
-        Word::Block,
-        Word::ListItem,
-        Word::InlineBlock,
-        Word::Table,
-        Word::InlineTable,
-        Word::TableRowGroup,
-        Word::TableHeaderGroup,
-        Word::TableFooterGroup,
-        Word::TableRow,
-        Word::TableColumnGroup,
-        Word::TableColumn,
-        Word::TableCell,
-        Word::TableCaption,
-        Word::None,
-        Word::Static,
-        Word::Relative,
-        Word::Absolute,
-        Word::Fixed,
-        Word::Left,
-        Word::Right,
-        Word::Both,
-        Word::Auto,
-        Word::Thin,
-        Word::Medium,
-        Word::Thick,
-        Word::Hidden,
-        Word::Dotted,
-        Word::Dashed,
-        Word::Solid,
-        Word::Double,
-        Word::Groove,
-        Word::Ridge,
-        Word::Inset,
-        Word::Outset,
-        Word::Visible,
-        Word::Scroll,
-        Word::XxSmall,
-        Word::XSmall,
-        Word::Small,
-        Word::Large,
-        Word::XLarge,
-        Word::XxLarge,
-        Word::Larger,
-        Word::Smaller,
-        Word::Normal,
-        Word::Center,
-        Word::Justify,
-        Word::Pre,
-        Word::Nowrap,
-        Word::PreWrap,
-        Word::PreLine,
-        Word::Baseline,
-        Word::Sub,
-        Word::Super,
-        Word::Top,
-        Word::TextTop,
-        Word::Middle,
-        Word::Bottom,
-        Word::TextBottom,
-        Word::Separate,
-        Word::Collapse,
-        Word::Show,
-        Word::Hide,
-    ]
-    .into_iter()
+    match text {
+        [] => 0,
+        [first, ..] => first.to_ascii_lowercase(),
+    }
+}
+
+/// The keywords that begin with this letter, but `inherit`.
+fn beginning_with(letter: u8) -> &'static [Word]
+    ensures { result.now ≡ beginning_with letter }
+{
+    match letter {
+        b'a' => &[Word::Absolute, Word::Auto],
+        b'b' => &[Word::Block, Word::Both, Word::Baseline, Word::Bottom],
+        b'c' => &[Word::Center, Word::Collapse],
+        b'd' => &[Word::Dotted, Word::Dashed, Word::Double],
+        b'f' => &[Word::Fixed],
+        b'g' => &[Word::Groove],
+        b'h' => &[Word::Hidden, Word::Hide],
+        b'i' => &[
+            Word::Inline,
+            Word::InlineBlock,
+            Word::InlineTable,
+            Word::Inset,
+        ],
+        b'j' => &[Word::Justify],
+        b'l' => &[Word::ListItem, Word::Left, Word::Large, Word::Larger],
+        b'm' => &[Word::Medium, Word::Middle],
+        b'n' => &[Word::None, Word::Normal, Word::Nowrap],
+        b'o' => &[Word::Outset],
+        b'p' => &[Word::Pre, Word::PreWrap, Word::PreLine],
+        b'r' => &[Word::Relative, Word::Right, Word::Ridge],
+        b's' => &[
+            Word::Static,
+            Word::Solid,
+            Word::Scroll,
+            Word::Small,
+            Word::Smaller,
+            Word::Sub,
+            Word::Super,
+            Word::Separate,
+            Word::Show,
+        ],
+        b't' => &[
+            Word::Table,
+            Word::TableRowGroup,
+            Word::TableHeaderGroup,
+            Word::TableFooterGroup,
+            Word::TableRow,
+            Word::TableColumnGroup,
+            Word::TableColumn,
+            Word::TableCell,
+            Word::TableCaption,
+            Word::Thin,
+            Word::Thick,
+            Word::Top,
+            Word::TextTop,
+            Word::TextBottom,
+        ],
+        b'v' => &[Word::Visible],
+        b'x' => &[Word::XxSmall, Word::XSmall, Word::XLarge, Word::XxLarge],
+        _ => &[],
+    }
 }
 
 /// Whether a text spells this word, in any case of its letters.
@@ -164,9 +157,10 @@ pub(crate) fn is_spelled(text: &[u8], word: &str) -> bool
 fn word_of(text: &[u8]) -> Option<Word>
     ensures { result ≡ word_of text.now }
 {
-    for word in all_words() {
-        if is_spelled(text, word_name(word)) {
-            return Some(word);
+    let words = beginning_with(first_letter(text));
+    for word in words {
+        if is_spelled(text, word_name(*word)) {
+            return Some(*word);
         }
     }
     None

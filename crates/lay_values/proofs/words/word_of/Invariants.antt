@@ -1,9 +1,7 @@
-use Rattle.std.proofs.Common.{◌≡◌, find}
-use Rattle.std.specs.Array.Iter.{array_into_iter_items}
+use Rattle.std.proofs.Common.{◌≡◌, find, drop}
 use Rattle.std.specs.Str.{str_eq_ignore_ascii_case}
 use Rattle.lay_values.specs.Words.{word_name, word_of}
 use Rattle.lay_values.proofs.words.word_of.Given as goal
 
 abbrev pub invariant-loop-word : goal.invariant-loop-word
-invariant-loop-word l =
-    find (λ w. str_eq_ignore_ascii_case (word_name w) l.text) (array_into_iter_items l.word-iterator) ≡ word_of l.text
+invariant-loop-word l = find (λ w. str_eq_ignore_ascii_case (word_name w) l.text) (drop l.word-index l.words) ≡ word_of l.text
