@@ -1,4 +1,3 @@
-pub mod Blocks
 pub mod Fronts
 pub mod Grammar
 pub mod Utf8Texts

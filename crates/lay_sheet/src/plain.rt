@@ -1,15 +1,11 @@
 //! What is seen of a sheet's text.
 
-ghost use Rattle.std.specs.Prelude.{◌≡◌, ◌≤◌, [], ◌++◌, IfOk, IfSome, OnOk, length};
-ghost use Rattle.std.specs.List.{list_any};
+ghost use Rattle.std.specs.Prelude.{◌≡◌, ◌≤◌, ◌==◌, ◌||◌, [], ◌++◌, IfOk, OnOk, length};
 ghost use Rattle.lay_sheet.specs.Lists.{with_found};
-ghost use Rattle.lay_sheet.specs.PlainText.{is_mark, may_open, begins_with, opens_comment, ends_comment, place_behind, seen_of, plain_from, plain_text};
+ghost use Rattle.lay_sheet.specs.PlainText.{is_mark, begins_with, opens_comment, ends_comment, place_behind, seen_of, plain_from, plain_text};
 
 use lay_units::NoMemory;
 use std::alloc::Global;
-
-/// How many bytes of a text are looked at together.
-const BLOCK: usize = 64;
 
 /// Where a byte stands in a sheet's text.
 #[derive(Clone, Copy)]
@@ -85,45 +81,16 @@ fn seen_of(place: Place, byte: u8, rest: &[u8]) -> Option<u8>
 
 /// Whether a byte may begin a string, an escape or a comment.
 fn may_open(byte: u8) -> bool
-    ensures { result ≡ may_open byte }
+    ensures { result ≡ (is_mark byte || (byte == 92) || (byte == 47)) }
 {
-    is_mark(byte) | (byte == b'\\') | (byte == b'/')
+    is_mark(byte) || byte == b'\\' || byte == b'/'
 }
 
-/// Whether one of these bytes may begin anything else. All are looked at, so that a processor can take many at once.
-fn any_opens(bytes: &[u8]) -> bool
-    ensures { result ≡ list_any may_open bytes.now }
-{
-    let mut found = false;
-    for byte in bytes {
-        found = found | may_open(*byte);
-    }
-    found
-}
-
-/// A block that a text begins with, if no byte of it may begin anything else, and what stands behind it.
-fn plain_block(text: &[u8]) -> Option<(&[u8], &[u8])>
-    ensures seen { IfSome result (λ r. plain_text text.now ≡ r.0.now ++ plain_text r.1.now) }
-    ensures shorter { IfSome result (λ r. length r.1.now ≤ length text.now) }
-{
-    if text.len() < BLOCK {
-        return None;
-    }
-    let (block, behind) = text.split_at(BLOCK);
-    if any_opens(block) {
-        return None;
-    }
-    Some((block, behind))
-}
-
-/// What a text begins with up to the first byte that may begin anything else, or a block of it: all of that is seen. And what stands behind it.
+/// What a text begins with up to the first byte that may begin anything else, all of which is seen, and what stands behind it.
 fn split_run(text: &[u8]) -> (&[u8], &[u8])
     ensures seen { plain_text text.now ≡ result.0.now ++ plain_text result.1.now }
     ensures shorter { length result.1.now ≤ length text.now }
 {
-    if let Some(parts) = plain_block(text) {
-        return parts;
-    }
     for (i, b) in text.iter().enumerate() {
         if may_open(*b) {
             return text.split_at(i);
