@@ -10,7 +10,6 @@ mod OneEdits
 mod Passing
 mod Pigeonhole
 mod SettledPlaces
-mod TextStyles
 mod WalkSteps
 mod Working
 pub use Rattle.lay_cell_table.proofs.lay_cell_laws as lay_cell_laws
