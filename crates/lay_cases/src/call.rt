@@ -10,7 +10,7 @@ use lay_cli::{Status, top};
 use lay_generator::generated_run;
 use lay_json::read_run;
 use lay_layout::run::RunDoc;
-use lay_outside::{MeetGate, MemSink, MemSource};
+use lay_outside::{Gate, MeetGate, MemSink, MemSource, Sink, Source};
 use lay_words::{Form, read_words};
 use std::alloc::{AllocError, Global};
 use std::sync::Wait;
@@ -27,8 +27,12 @@ pub(crate) fn call<R: Threads + Wait + Sync>(
     let gate = gate(alloc, terms, &words, &document)?;
     let mut source = source(alloc, document, terms.reading())?;
     let mut sink = sink(alloc, terms.room(), terms.writing())?;
-    let mut kept = None;
-    let status = top(rt, alloc, &words, &mut source, &mut sink, &gate, &mut kept);
+    let means = Means {
+        rt,
+        alloc,
+        gate: &gate,
+    };
+    let (status, kept) = answered(&means, &words, &mut source, &mut sink);
     match gate.met() {
         Some(met) => met_answer(alloc, status, met, sink.bytes()),
         None => {
@@ -36,6 +40,34 @@ pub(crate) fn call<R: Threads + Wait + Sync>(
             Ok(Answer::new(status, sink.bytes().to_vec(alloc)?))
         }
     }
+}
+
+/// What a call is made with.
+struct Means<'a, R, G> {
+    rt: &'a R,
+    alloc: Global,
+    gate: &'a G,
+}
+
+/// The status of the call, and the core that it keeps. Over any streams, whose bytes the call's contract doesn't reach: over those in
+/// memory it is large, and nothing here asks for it.
+fn answered<R: Threads + Wait + Sync, S: Source, K: Sink, G: Gate + Sync>(
+    means: &Means<'_, R, G>,
+    words: &[String],
+    source: &mut S,
+    sink: &mut K,
+) -> (Status, Option<Core>) {
+    let mut kept = None;
+    let status = top(
+        means.rt,
+        means.alloc,
+        words,
+        source,
+        sink,
+        means.gate,
+        &mut kept,
+    );
+    (status, kept)
 }
 
 /// The gate of a call on these terms: where none is to be held, the editors of a run take turns.
