@@ -43,6 +43,7 @@ pub(crate) fn call<R: Threads + Wait + Sync>(
 }
 
 /// What a call is made with.
+#[derive(Drop)]
 struct Means<'a, R, G> {
     rt: &'a R,
     alloc: Global,
