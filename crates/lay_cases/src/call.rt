@@ -1,5 +1,7 @@
 //! Calls.
 
+ghost use Rattle.std.specs.Prelude.{◌≡◌, None};
+
 use crate::answer::Answer;
 use crate::gates::CaseGate;
 use crate::terms::{Steps, Terms};
@@ -32,7 +34,8 @@ pub(crate) fn call<R: Threads + Wait + Sync>(
         alloc,
         gate: &gate,
     };
-    let (status, kept) = answered(&means, &words, &mut source, &mut sink);
+    let mut kept = None;
+    let status = answered(&means, &words, &mut source, &mut sink, &mut kept);
     match gate.met() {
         Some(met) => met_answer(alloc, status, met, sink.bytes()),
         None => {
@@ -50,25 +53,18 @@ struct Means<'a, R, G> {
     gate: &'a G,
 }
 
-/// The status of the call, and the core that it keeps. Over any streams, whose bytes the call's contract doesn't reach: over those in
-/// memory it is large, and nothing here asks for it.
+/// Makes the call over any streams, whose bytes the call's contract doesn't reach: over those in memory it is large, and nothing here
+/// asks for it.
 fn answered<R: Threads + Wait + Sync, S: Source, K: Sink, G: Gate + Sync>(
     means: &Means<'_, R, G>,
     words: &[String],
     source: &mut S,
     sink: &mut K,
-) -> (Status, Option<Core>) {
-    let mut kept = None;
-    let status = top(
-        means.rt,
-        means.alloc,
-        words,
-        source,
-        sink,
-        means.gate,
-        &mut kept,
-    );
-    (status, kept)
+    kept: &mut Option<Core>,
+) -> Status
+    requires nothing_kept { kept.old ≡ None }
+{
+    top(means.rt, means.alloc, words, source, sink, means.gate, kept)
 }
 
 /// The gate of a call on these terms: where none is to be held, the editors of a run take turns.
