@@ -34,15 +34,29 @@ pub(crate) fn call<R: Threads + Wait + Sync>(
         alloc,
         gate: &gate,
     };
-    let mut kept = None;
-    let status = answered(&means, &words, &mut source, &mut sink, &mut kept);
-    match gate.met() {
-        Some(met) => met_answer(alloc, status, met, sink.bytes()),
-        None => {
-            let status = status_text(alloc, terms, status, &kept)?;
-            Ok(Answer::new(status, sink.bytes().to_vec(alloc)?))
-        }
+    let status = status_of(&means, terms, &words, &mut source, &mut sink)?;
+    answer_of(alloc, status, gate.met(), sink.bytes())
+}
+
+/// The answer with this status and these bytes; of a run in which threads were to meet, whether they did, and no line `laid`.
+fn answer_of(alloc: Global, status: String, met: Option<bool>, bytes: &[u8]) -> Result<Answer> {
+    match met {
+        Some(met) => met_answer(alloc, status.as_str(), met, bytes),
+        None => Ok(Answer::new(status, bytes.to_vec(alloc)?)),
     }
+}
+
+/// The status of the call, and the core that it keeps where the terms ask for it.
+fn status_of<R: Threads + Wait + Sync, S: Source, K: Sink, G: Gate + Sync>(
+    means: &Means<'_, R, G>,
+    terms: &Terms<'_>,
+    words: &[String],
+    source: &mut S,
+    sink: &mut K,
+) -> Result<String, AllocError> {
+    let mut kept = None;
+    let status = answered(means, words, source, sink, &mut kept);
+    status_text(means.alloc, terms, status, &kept)
 }
 
 /// What a call is made with.
@@ -91,9 +105,9 @@ fn run_of(alloc: Global, words: &[String], document: &[u8]) -> Option<RunDoc> {
 }
 
 /// The answer of a run in which threads were to meet, without its line `laid`.
-fn met_answer(alloc: Global, status: Status, met: bool, bytes: &[u8]) -> Result<Answer> {
+fn met_answer(alloc: Global, status: &str, met: bool, bytes: &[u8]) -> Result<Answer> {
     let word = if met { "met" } else { "not met" };
-    let status = format!(in alloc; "{status:?}, {word}")?;
+    let status = format!(in alloc; "{status}, {word}")?;
     let text = str::from_utf8(bytes).unwrap_or("");
     let (front, _laid) = text.split_once("laid ").unwrap_or((text, ""));
     Ok(Answer::new(status, front.as_bytes().to_vec(alloc)?))
