@@ -93,5 +93,5 @@ pub record IsFlowTree (boxes : List FlowBox) : Type 0 where
 
 pub record AreFlowBoxes (boxes : List FlowBox) : Type 0 where
   pub is_tree : IsFlowTree boxes
-  pub light : weight boxes (length boxes) ≤ 8388608
+  pub light : weight boxes (length boxes) ≤ 16711680
   pub fits : (k : ℕ) → k < length boxes → KindFits (box_at boxes k).kind
