@@ -1,4 +1,4 @@
-use Rattle.std.proofs.Common.{◌≡◌, ◌≤◌, drop}
+use Rattle.std.proofs.Common.{◌≤◌, drop}
 use Rattle.lay_line_content.specs.LineContents.{AreNested}
 use Rattle.lay_line_content.proofs.nesting.are_nested.Given as goal
 
