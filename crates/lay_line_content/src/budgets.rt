@@ -164,7 +164,7 @@ fn positive(length: Unit) -> u64
     if length.0 < 0 {
         return 0;
     }
-    length.0.unsigned_abs()
+    distance(length)
 }
 
 fn spend(left: u64, by: u64) -> Option<u64>

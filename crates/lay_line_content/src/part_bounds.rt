@@ -47,8 +47,14 @@ fn is_reach(length: Unit) -> bool
 fn is_height_within(extent: Extent) -> bool
     ensures { IsTrue result ↔ IsWithin (pos (2 ^ 34)) (height_of extent) }
 {
-    let height = i128::from(extent.above.0) + i128::from(extent.below.0);
+    let height = height_of(extent);
     -17179869184 <= height && height <= 17179869184
+}
+
+fn height_of(extent: Extent) -> i128
+    ensures { result ≡ height_of extent }
+{
+    i128::from(extent.above.0) + i128::from(extent.below.0)
 }
 
 fn is_shift_within(shift: Shift) -> bool
