@@ -1,5 +1,5 @@
 -- How far the parts of a line reach beside its strut: an inline box at most 2^34 units, and an atomic box further by its hull.
-use Rattle.std.proofs.Common.{◌≡◌, ◌∙◌, ℕ, zero, suc, ◌+◌, ◌-◌, ◌<◌, ◌≤◌, ◌^◌, List, [], ◌∷◌, length, slice_get, Option, Some, None, All, inl, inr, refl, sym, ap, subst, arith}
+use Rattle.std.proofs.Common.{◌≡◌, ◌∙◌, ℕ, zero, suc, ◌+◌, ◌-◌, ◌<◌, ◌≤◌, ◌^◌, List, [], ◌∷◌, length, slice_get, Option, Some, None, All, inl, inr, refl, sym, subst, arith}
 use Rattle.std.specs.Prelude.{ℤ, pos, negsuc, ◌≤ℤ◌}
 use Rattle.std.proofs.lemmas.Bool.{cases_lt}
 use Rattle.std.proofs.lemmas.Int.{ints}
@@ -9,7 +9,6 @@ use Rattle.lay_floats.specs.Within.{IsWithin}
 use Rattle.lay_valign.specs.declared.parts.Part.{Part as LinePart}
 use Rattle.lay_valign.specs.declared.parts.Shift.{Shift}
 use Rattle.lay_valign.specs.Low.{PartReaches}
-use Rattle.lay_valign.specs.Near.{IsNear}
 use Rattle.lay_valign.specs.Parts.{part_at}
 use Rattle.lay_line_content.specs.declared.content.InlineStart.{InlineStart}
 use Rattle.lay_line_content.specs.declared.content.Part.{Part}
@@ -17,7 +16,7 @@ use Rattle.lay_line_content.specs.declared.content.Part.TheVariants.{Space, Pres
 use Rattle.lay_line_content.specs.declared.content.Stretch.{Stretch}
 use Rattle.lay_line_content.specs.declared.frame.Extent.{Extent}
 use Rattle.lay_line_content.specs.declared.frame.Frame.{Frame}
-use Rattle.lay_line_content.specs.Extents.{LineParts, part_by, innermost, strut_alone, stood, opened, opened_all, closed, Reading, read, read_all, read_at, reading_to, height_of}
+use Rattle.lay_line_content.specs.Extents.{LineParts, part_by, innermost, strut_alone, stood, opened, opened_all, Reading, read, read_all, read_at, reading_to, height_of}
 use Rattle.lay_line_content.specs.LineContents.{total, positive, hull_of_part, ExtentWithin, ShiftWithin, InlineStartWithin, PartWithin, StretchWithin}
 use Rattle.lay_line_content.proofs.LineParts.{length_more, part_before, part_last}
 use Rattle.lay_line_content.proofs.Totals.{part_of, total_to}

@@ -1,9 +1,8 @@
 -- How far the shape of a line reaches, by how far its parts do and how deep they stand in each other.
-use Rattle.std.proofs.Common.{◌≡◌, ℕ, zero, suc, ◌+◌, ◌*◌, ◌^◌, ◌<◌, ◌≤◌, List, [], ◌∷◌, length, All, sym, ap, subst, arith}
-use Rattle.std.specs.Prelude.{ℤ, ◌+ℤ◌}
+use Rattle.std.proofs.Common.{◌≡◌, ℕ, zero, suc, ◌+◌, ◌*◌, ◌^◌, ◌<◌, ◌≤◌, List, ◌∷◌, length, All, sym, ap, subst, arith}
+use Rattle.std.specs.Prelude.{◌+ℤ◌}
 use Rattle.std.proofs.lemmas.Int.{ints}
 use Rattle.std.proofs.lemmas.List.{get_or_default}
-use Rattle.lay_units.specs.Units.{IsPosition}
 use Rattle.lay_units.specs.declared.length.Unit.{Unit}
 use Rattle.lay_valign.specs.declared.parts.LineShape.{LineShape}
 use Rattle.lay_valign.specs.declared.parts.Part.{Part as LinePart}
@@ -19,7 +18,7 @@ use Rattle.lay_line_content.specs.LineContents.{ExtentWithin}
 use Rattle.lay_line_content.proofs.LineLevels.{LineLevels, levels_of}
 use Rattle.lay_line_content.proofs.LineParts.{strut_part, Counted}
 use Rattle.lay_line_content.proofs.LineReaches.{LineReaches, PartStands}
-use Rattle.lay_line_content.proofs.PensWithin.{wider, position}
+use Rattle.lay_line_content.proofs.PensWithin.{position}
 
 -- the shape of a line, within what all lines keep to
 pub record ShapeWithin (shape : LineShape) : Type 0 where
