@@ -35,5 +35,5 @@ weight_over boxes j k lt =
     let up = weight_up boxes (j + 1) k (omega (arith, lt)) in
     omega (arith, one, up)
 
-pub light_at : (boxes : List FlowBox) → AreFlowBoxes boxes → (k : ℕ) → k ≤ length boxes → weight boxes k ≤ 8388608
+pub light_at : (boxes : List FlowBox) → AreFlowBoxes boxes → (k : ℕ) → k ≤ length boxes → weight boxes k ≤ 16711680
 light_at boxes are k le = let up = weight_up boxes k (length boxes) le in let light = are.light in omega (arith, up, light)

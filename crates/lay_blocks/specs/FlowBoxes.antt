@@ -1,6 +1,6 @@
 -- What is known of the boxes of a block formatting context (CSS 2.2, 9.4.1 and 9.4.2): they are a tree, boxes stand in block
 -- boxes alone, those of lines stand in the box with the lines, the used values of each lie within their bounds, and all
--- together weigh at most 2^23, so that they are at most so many.
+-- together weigh at most 2^24 - 2^16, so that they are at most so many.
 use Rattle.std.specs.Prelude.{ℕ, ◌≡◌, ◌<◌, ◌≤◌, pos, Bool, true, false, not, ⊤, ℤ, List, length}
 use Rattle.lay_units.specs.Units.{IsUsed, IsUsedSize}
 use Rattle.lay_doc.specs.Tree.{IsTree}
@@ -93,5 +93,5 @@ pub record IsFlowTree (boxes : List FlowBox) : Type 0 where
 
 pub record AreFlowBoxes (boxes : List FlowBox) : Type 0 where
   pub is_tree : IsFlowTree boxes
-  pub light : weight boxes (length boxes) ≤ 8388608
+  pub light : weight boxes (length boxes) ≤ 16711680
   pub fits : (k : ℕ) → k < length boxes → KindFits (box_at boxes k).kind

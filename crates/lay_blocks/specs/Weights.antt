@@ -1,15 +1,15 @@
 -- How much the boxes of a block formatting context have to lay out. It bounds how far from the origin they can come to stand.
-use Rattle.std.specs.Prelude.{ℕ, zero, suc, ◌+◌, ◌*◌, List}
+use Rattle.std.specs.Prelude.{ℕ, zero, suc, ◌+◌, List}
 use Rattle.lay_line_content.specs.LineContents.{lines_weight}
 use Rattle.lay_blocks.specs.declared.flow_box.FlowBox.{FlowBox}
 use Rattle.lay_blocks.specs.declared.flow_box.FlowKind.{FlowKind}
 use Rattle.lay_blocks.specs.declared.flow_box.FlowKind.TheVariants.{Block as block, Lines as lines, Solid as solid, Float as float, LineFloat as line_float, Inline as inline}
 use Rattle.lay_blocks.specs.Boxes.{box_at}
 
--- each box counts once, and one that holds lines four times more for each weight of these
+-- each box counts once, and one that holds lines once more for each weight of these
 abbrev pub weight_of : FlowKind → ℕ
 weight_of (block b) = 1
-weight_of (lines l) = 1 + 4 * lines_weight l.content
+weight_of (lines l) = 1 + lines_weight l.content
 weight_of (solid b) = 1
 weight_of (float b) = 1
 weight_of (line_float b) = 1

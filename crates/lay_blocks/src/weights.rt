@@ -1,16 +1,16 @@
 //! How much the boxes of a context have to lay out.
 
-ghost use Rattle.std.specs.Prelude.{◌≡◌, ◌↔◌, ◌+◌, ◌*◌, ◌≤◌, ◌<◌, IsTrue, length, None, IfSome};
+ghost use Rattle.std.specs.Prelude.{◌≡◌, ◌↔◌, ◌+◌, ◌≤◌, ◌<◌, IsTrue, length, None, IfSome};
 ghost use Rattle.lay_blocks.specs.Weights.{weight, weight_of};
 
 use crate::flow_box::{FlowBox, FlowKind};
 
 /// Whether boxes, with their lines, are few enough to be a context's: each counts once, and one that holds lines
-/// four times more for each weight of their content. All together are at most 2^23.
+/// once more for each weight of their content. All together are at most 2^24 - 2^16.
 pub fn is_light(boxes: &[FlowBox]) -> bool
-    ensures { IsTrue result ↔ weight boxes.now (length boxes.now) ≤ 8388608 }
+    ensures { IsTrue result ↔ weight boxes.now (length boxes.now) ≤ 16711680 }
 {
-    let mut left = 8388608;
+    let mut left = 16711680;
     for k in 0..boxes.len() {
         match spend_box(left, &boxes[k]) {
             None => return false,
@@ -32,7 +32,7 @@ fn box_weight(flow_box: &FlowBox) -> u64
     ensures { result ≡ weight_of flow_box.now.kind }
 {
     match &flow_box.kind {
-        FlowKind::Lines(l) => 1 + 4 * l.content.weight(),
+        FlowKind::Lines(l) => 1 + l.content.weight(),
         FlowKind::Block(_)
         | FlowKind::Solid(_)
         | FlowKind::Float(_)

@@ -42,7 +42,7 @@ one_more P ps n p counted so_far is k lt = elim (cases_lt k n) [
   | inr high ↦ (let q : k ≡ n = omega (arith, lt, high) in subst (P k) (sym (read_last ps p k (q ∙ sym counted))) (subst (λ (j : ℕ). P j p) (sym q) is))
 ]
 
-far_place : (w : ℕ) (p : Place) → w ≤ 8388608 → IsWithin (reach w) p.x.0 → IsWithin (reach w) p.y.0 → IsFarPlace p
+far_place : (w : ℕ) (p : Place) → w ≤ 16711680 → IsWithin (reach w) p.x.0 → IsWithin (reach w) p.y.0 → IsFarPlace p
 far_place w p light x y = record {
   x = (omega (arith, ints, light, x), omega (arith, ints, light, x));
   y = (omega (arith, ints, light, y), omega (arith, ints, light, y));
@@ -74,7 +74,7 @@ all_met : (w : ℕ) (ps : List Spot) → ((k : ℕ) → k < length ps → IsPlac
 all_met w [] near = All-nil (NodePlaceWithin (reach w))
 all_met w (p ∷ ps) near = All-append (NodePlaceWithin (reach w)) p.lines.places (line_places ps) (near 0 (omega arith)).lines.places (all_met w ps (λ k lt. near (suc k) (omega (arith, lt))))
 
-all_rows : (w : ℕ) (ps : List Spot) → w ≤ 8388608 → ((k : ℕ) → k < length ps → IsPlaceNear w (spot_at ps k)) → AreNearRows (map (λ p. p.lines.rows) ps)
+all_rows : (w : ℕ) (ps : List Spot) → w ≤ 16711680 → ((k : ℕ) → k < length ps → IsPlaceNear w (spot_at ps k)) → AreNearRows (map (λ p. p.lines.rows) ps)
 all_rows w [] light near = All-nil (λ (rows : List Ended). All (RowWithin (pos 1152921504606846976)) rows)
 all_rows w (p ∷ ps) light near = All-cons (λ (rows : List Ended). All (RowWithin (pos 1152921504606846976)) rows) p.lines.rows (map (λ p. p.lines.rows) ps) (lines_near p.lines (near 0 (omega arith)).lines) (all_rows w ps light (λ k lt. near (suc k) (omega (arith, lt))))
   where

@@ -25,7 +25,7 @@ use Rattle.lay_flow.proofs.PlaceSteps.{lines_wider, wider}
 use Rattle.lay_blocks.proofs.Truths.{true_false}
 use Rattle.lay_blocks.proofs.WeightFacts.{light_at, weight_next}
 
-lines_weigh : (kind : FlowKind) → is_lines (block_of kind).inside ≡ true → weight_of kind ≡ 1 + 4 * lines_weight (line_content_of kind)
+lines_weigh : (kind : FlowKind) → is_lines (block_of kind).inside ≡ true → weight_of kind ≡ 1 + lines_weight (line_content_of kind)
 lines_weigh (block b) e = absurd (true_false false e refl)
 lines_weigh (lines l) e = refl
 lines_weigh (solid b) e = absurd (true_false false e refl)
@@ -37,13 +37,13 @@ lines_weigh inline e = absurd (true_false false e refl)
 top_within : (w : ℕ) (mark edge top : ℤ) → IsMarkNear w mark → IsInset edge → top ≡ mark +ℤ edge → IsWithin (pos (2251799813685248 + 68719476736 * w + 10737418240)) top
 top_within w mark edge top near inset e = let a = near.0 in let b = near.1 in let c = inset.0 in let d = inset.1 in (omega (arith, ints, a, c, e), omega (arith, ints, b, d, e))
 
-within_near : (w : ℕ) (v : ℤ) → w ≤ 8388608 → IsWithin (pos (2251799813685248 + 68719476736 * w + 10737418240)) v → IsNear v
+within_near : (w : ℕ) (v : ℤ) → w ≤ 16711680 → IsWithin (pos (2251799813685248 + 68719476736 * w + 10737418240)) v → IsNear v
 within_near w v light near = let a = near.0 in let b = near.1 in (omega (arith, ints, light, a), omega (arith, ints, light, b))
 
-reaches : (w v lw : ℕ) → v ≡ w + (1 + 4 * lw) → 2251799813685248 + 68719476736 * w + 10737418240 + 274877906944 * lw ≤ 2251799813685248 + 68719476736 * v
+reaches : (w v lw : ℕ) → v ≡ w + (1 + lw) → 2251799813685248 + 68719476736 * w + 10737418240 + 68719476736 * lw ≤ 2251799813685248 + 68719476736 * v
 reaches w v lw e = omega (arith, e)
 
-pub mark_position : (w : ℕ) (v : ℤ) → w ≤ 8388608 → IsMarkNear w v → IsPosition v
+pub mark_position : (w : ℕ) (v : ℤ) → w ≤ 16711680 → IsMarkNear w v → IsPosition v
 mark_position w v light near = let a = near.0 in let b = near.1 in (omega (arith, ints, light, a), omega (arith, ints, light, b))
 
 pub inset_position : (v : ℤ) → IsInset v → IsPosition v
@@ -57,7 +57,7 @@ floats_near boxes input k le floats all =
 
 module _ (boxes : List FlowBox) (input : AreFlowBoxes boxes) (marks : List Length) (k : ℕ) (within : k < length boxes) (near : IsMarkNear (weight boxes k) (length_at marks k))
     (top : ℤ) (top_is : top ≡ length_at marks k +ℤ (block_at boxes k).edge_top.0) where
-  light : weight boxes k ≤ 8388608
+  light : weight boxes k ≤ 16711680
   light = light_at boxes input k (omega (arith, within))
 
   here : IsWithin (pos (2251799813685248 + 68719476736 * weight boxes k + 10737418240)) top
@@ -78,7 +78,7 @@ module _ (boxes : List FlowBox) (input : AreFlowBoxes boxes) (marks : List Lengt
         (laid r (omega arith) (omega (arith, small)) here (All-weaker (BoxWithin (reach w)) (BoxWithin (pos r)) (λ f b. wider (reach w) (pos r) f (omega (arith, ints)) b) floats all)) in
         let e = weight_next boxes k ∙ ap (λ (n : ℕ). w + n) (lines_weigh (box_at boxes k).kind holds) in
         let le = reaches w (weight boxes (k + 1)) (lines_weight content) e in
-        let grows : growth content ≡ 274877906944 * lines_weight content = refl in
+        let grows : growth content ≡ 68719476736 * lines_weight content = refl in
         lines_wider (pos (r + growth content)) (reach (weight boxes (k + 1))) v (omega (arith, ints, le, grows)) laid'
 
     pub end_near : IsNear v.end.0

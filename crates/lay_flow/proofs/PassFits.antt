@@ -24,10 +24,10 @@ use Rattle.lay_blocks.proofs.Truths.{true_false, true_or}
 use Rattle.lay_blocks.specs.FlowBoxes.{AreFlowBoxes}
 use Rattle.lay_blocks.proofs.WeightFacts.{light_at, weight_up}
 
-pub start_is_near : (k : ℕ) (v : ℤ) → k ≤ 8388608 → IsRunNear k v → IsNear v
+pub start_is_near : (k : ℕ) (v : ℤ) → k ≤ 16711680 → IsRunNear k v → IsNear v
 start_is_near k v few near = let a = near.0 in let b = near.1 in (omega (arith, ints, few, a), omega (arith, ints, few, b))
 
-pub mark_is_near : (k : ℕ) (v : ℤ) → k ≤ 8388608 → IsMarkNear k v → IsNear v
+pub mark_is_near : (k : ℕ) (v : ℤ) → k ≤ 16711680 → IsMarkNear k v → IsNear v
 mark_is_near k v few near = let a = near.0 in let b = near.1 in (omega (arith, ints, few, a), omega (arith, ints, few, b))
 
 module _ (boxes : List FlowBox) (are : AreFlowBoxes boxes) (now : PassState) (p m : ℕ) (fits : StateFits boxes now p m) where
@@ -264,5 +264,5 @@ pub box_height_position : (h : ℤ) → IsBoxSize h → IsPosition h
 box_height_position h size = let a = size.0 in let b = size.1 in (omega (arith, ints, a), omega (arith, ints, b))
 
 -- what is added to a mark to come to a bottom edge
-pub extent_position : (m : ℕ) (mark x : ℤ) → m ≤ 8388608 → IsNear mark → (neg_ℤ (reach m)) ≤ℤ (mark +ℤ x) → (mark +ℤ x) ≤ℤ reach m → IsPosition x
+pub extent_position : (m : ℕ) (mark x : ℤ) → m ≤ 16711680 → IsNear mark → (neg_ℤ (reach m)) ≤ℤ (mark +ℤ x) → (mark +ℤ x) ≤ℤ reach m → IsPosition x
 extent_position m mark x few near least most = let a = near.0 in let b = near.1 in (omega (arith, ints, few, a, b, least, most), omega (arith, ints, few, a, b, least, most))

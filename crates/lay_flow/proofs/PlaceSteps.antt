@@ -70,7 +70,7 @@ request_within n s side top fits near =
       ceiling = near;
     }
 
-pub request_fits : (n : ℕ) (s : Shape) (side : Side) (top : ℤ) → n ≤ 8388608 → ShapeFits s → IsCeilingNear n top → RequestFits (float_request s side top)
+pub request_fits : (n : ℕ) (s : Shape) (side : Side) (top : ℤ) → n ≤ 16711680 → ShapeFits s → IsCeilingNear n top → RequestFits (float_request s side top)
 request_fits n s side top few fits near =
     let w = fits.width in let h = fits.height in let l = fits.left in let r = fits.right in
     record {
@@ -99,7 +99,7 @@ put_within n floats s side top x y fits near all place =
     let all' : All (BoxWithin m) floats = All-weaker (BoxWithin (reach n)) (BoxWithin m) (λ f b. wider (reach n) m f (omega (arith, ints)) b) floats all in
     wider (m +ℤ pos 17179869184) (reach (n + 1)) _ (omega (arith, ints)) (place_within_lem m (pos 17179869184) floats (float_request s side top) x y all' (request_within n s side top fits near) place)
 
-pub box_fits : (n : ℕ) (floats : List Placed) (s : Shape) (side : Side) (top x y : ℤ) → n ≤ 8388608 → ShapeFits s → IsCeilingNear n top → All (BoxWithin (reach n)) floats → IsFloatPlace floats (float_request s side top) x y
+pub box_fits : (n : ℕ) (floats : List Placed) (s : Shape) (side : Side) (top x y : ℤ) → n ≤ 16711680 → ShapeFits s → IsCeilingNear n top → All (BoxWithin (reach n)) floats → IsFloatPlace floats (float_request s side top) x y
     → BoxFits (placed_at (float_request s side top) x y)
 box_fits n floats s side top x y few fits near all place =
     let b = put_within n floats s side top x y fits near all place in
@@ -113,7 +113,7 @@ box_fits n floats s side top x y few fits near all place =
       bottom = (omega (arith, ints, d, few), omega (arith, ints, d, few));
     }
 
-pub solid_fits : (n : ℕ) (s : Shape) (mark : ℤ) → n ≤ 8388608 → ShapeFits s → IsMarkNear n mark → SolidFits (solid_request s mark)
+pub solid_fits : (n : ℕ) (s : Shape) (mark : ℤ) → n ≤ 16711680 → ShapeFits s → IsMarkNear n mark → SolidFits (solid_request s mark)
 solid_fits n s mark few fits near =
     let w = fits.width in let h = fits.height in let l = fits.x in let r = fits.right in let a = near.0 in let b = near.1 in
     record {
@@ -452,11 +452,11 @@ ceiling_near k parent mark over edge top le near above least most e =
     let a = near.0 in let b = near.1 in let c = above.0 in let d = above.1 in
     (omega (arith, ints, clamps, a, b, c, d, least, most, le, e), omega (arith, ints, clamps, a, b, c, d, least, most, le, e))
 
-pub mark_is_position : (k : ℕ) (v : ℤ) → k ≤ 8388608 → IsMarkNear k v → IsPosition v
+pub mark_is_position : (k : ℕ) (v : ℤ) → k ≤ 16711680 → IsMarkNear k v → IsPosition v
 mark_is_position k v few near = let a = near.0 in let b = near.1 in (omega (arith, ints, few, a), omega (arith, ints, few, b))
 
 -- the lowest bottom of floats is near
-pub clear_edge_position : (n : ℕ) (floats : List Placed) (clear : Clear) (bottom : Option Length) → n ≤ 8388608 → All (BoxWithin (reach n)) floats → IsClearEdge floats clear bottom → IfSome bottom (λ v. IsPosition v.0)
+pub clear_edge_position : (n : ℕ) (floats : List Placed) (clear : Clear) (bottom : Option Length) → n ≤ 16711680 → All (BoxWithin (reach n)) floats → IsClearEdge floats clear bottom → IfSome bottom (λ v. IsPosition v.0)
 clear_edge_position n floats clear None few all is = tt
 clear_edge_position n floats clear (Some v) few all is =
     let w = is.one_of in

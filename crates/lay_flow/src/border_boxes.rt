@@ -95,7 +95,7 @@ fn float_box(b: &FloatBox, place: Place) -> BoxPlace
 
 // The edge that is a margin away from that of a margin box.
 fn edge_inside(edge: Unit, margin: Unit) -> Unit
-    requires edge { IsWithin (pos 864691128455135232) edge.0 }
+    requires edge { IsWithin (pos 1151795604700004352) edge.0 }
     requires margin { IsUsed margin.0 }
     ensures value { result ≡ record { 0 = edge.0 +ℤ margin.0 } }
     ensures near { IsNear result.0 }

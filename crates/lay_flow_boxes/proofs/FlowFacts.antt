@@ -327,7 +327,7 @@ module _ (m : BoxMeasuresValue) (own_height : HeightRule) (lefts : List Length) 
         rw (same, above, here) (holds_by m own_height lefts k (holds_lines m lefts (container_of m.boxes k)) are positive there refl);
   }
 
-  pub are_flow_boxes : weight flow_boxes (length flow_boxes) ≤ 8388608 → length m.sizes ≡ length m.boxes → HaveSizeBounds m.sizes → length m.inner ≡ length m.boxes → OwnBoxesFit m.inner → HeightRuleFits own_height → length lefts ≡ length m.boxes → AreNearLefts lefts → AreFlowBoxes flow_boxes
+  pub are_flow_boxes : weight flow_boxes (length flow_boxes) ≤ 16711680 → length m.sizes ≡ length m.boxes → HaveSizeBounds m.sizes → length m.inner ≡ length m.boxes → OwnBoxesFit m.inner → HeightRuleFits own_height → length lefts ≡ length m.boxes → AreNearLefts lefts → AreFlowBoxes flow_boxes
   are_flow_boxes light sizes_counted bounds inner_counted inner_bounds rule lefts_counted near = record {
     is_tree = is_flow_tree;
     light = light;

@@ -14,12 +14,13 @@ use Rattle.lay_inlines.specs.declared.spans.Span.{Span}
 use Rattle.lay_inlines.specs.declared.strokes.Stroke.{Stroke}
 use Rattle.lay_inlines.specs.Raises.{RaisesValue}
 
--- an extent of a line, a shift of a part of it, or a margin
+-- an extent of a line, or a margin
 abbrev pub IsReach : ℤ → Type 0
 IsReach v = IsWithin (pos (2 ^ 59)) v
 
+-- a shift of a part of a line
 abbrev pub RaiseWithin : Unit → Type 0
-RaiseWithin raise = IsReach raise.0
+RaiseWithin raise = IsWithin (pos (2 ^ 60)) raise.0
 
 pub record RowWithin (row : Ended) : Type 0 where
   pub top : IsWithin (pos (2 ^ 61)) row.top.0
@@ -79,7 +80,7 @@ abbrev pub IsBaseline : ℤ → Type 0
 IsBaseline v = IsWithin (pos (2 ^ 61 + 2 ^ 59)) v
 
 abbrev pub IsRaised : ℤ → Type 0
-IsRaised v = IsWithin (pos (2 ^ 61 + 2 ^ 60)) v
+IsRaised v = IsWithin (pos (2 ^ 61 + 2 ^ 60 + 2 ^ 59)) v
 
 pub record LineWithin (c : Container) (fr : Frame) (r : Ended) (bs : List InlineArea) : Type 0 where
   pub left : IsWithin (pos (2 ^ 50)) c.left.0

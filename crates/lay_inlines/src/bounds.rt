@@ -8,8 +8,8 @@ use lay_line_content::InlineArea;
 use lay_lines::Ended;
 use lay_units::Unit;
 
-/// A line: its top and its room are at most 2^61 units of 1/64 px from the origin, its extents and its shifts at most
-/// 2^59 units.
+/// A line: its top and its room are at most 2^61 units of 1/64 px from the origin, its extents at most 2^59 units and its
+/// shifts at most 2^60.
 pub fn is_row_within(row: &Ended) -> bool
     ensures { IsTrue result ↔ RowWithin row.now }
 {
@@ -40,7 +40,7 @@ fn are_raises_within(raises: &[Unit]) -> bool
 fn is_raise_within(raise: &Unit) -> bool
     ensures { IsTrue result ↔ RaiseWithin raise.now }
 {
-    is_reach(*raise)
+    is_extent(*raise)
 }
 
 fn is_far(v: Unit) -> bool

@@ -1,5 +1,7 @@
 pub mod AllLists
+pub mod LineLevels
 pub mod LineParts
+pub mod LineReaches
 pub mod Outcomes
 pub mod PartShapes
 pub mod PenOrder

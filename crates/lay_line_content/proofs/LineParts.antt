@@ -1,4 +1,4 @@
--- The parts of a line: they are those of a shape, and how many there are, and how much they lift.
+-- The parts of a line: they are those of a shape, and how many there are.
 use Rattle.std.proofs.Common.{◌≡◌, ◌∙◌, ℕ, zero, suc, ◌+◌, ◌-◌, ◌<◌, ◌≤◌, List, [], ◌∷◌, ◌++◌, length, take, slice_get, Option, Some, None, All, inl, inr, refl, sym, ap, subst, arith, add-one}
 use Rattle.std.proofs.lemmas.Bool.{cases_lt}
 use Rattle.std.proofs.lemmas.Grind.{elements}
@@ -6,7 +6,6 @@ use Rattle.std.proofs.lemmas.List.Elements.{All-push, All-take, All-weaker}
 use Rattle.lay_valign.specs.declared.parts.Part.{Part as LinePart}
 use Rattle.lay_valign.specs.declared.parts.Shift.{Shift}
 use Rattle.lay_valign.specs.Parts.{part_at, AreParts}
-use Rattle.lay_valign.specs.Near.{lift, lift_of as lift_of_list}
 use Rattle.lay_line_content.specs.declared.content.InlineStart.{InlineStart}
 use Rattle.lay_line_content.specs.declared.content.Part.{Part}
 use Rattle.lay_line_content.specs.declared.content.Part.TheVariants.{Space, PreservedSpace, Tab, Linefeed, Text, Start, End, Atomic}
@@ -14,27 +13,20 @@ use Rattle.lay_line_content.specs.declared.content.Stretch.{Stretch}
 use Rattle.lay_line_content.specs.declared.frame.Extent.{Extent}
 use Rattle.lay_line_content.specs.declared.frame.Frame.{Frame}
 use Rattle.lay_line_content.specs.Extents.{LineParts, part_by, innermost, strut_alone, stood, opened, opened_all, closed, Reading, read, read_all, read_at, reading_to, parts_to}
-use Rattle.lay_line_content.specs.LineContents.{total, lift_by, lift_of_part, boxes_of_part}
+use Rattle.lay_line_content.specs.LineContents.{total, boxes_of_part}
 use Rattle.lay_line_content.proofs.Totals.{part_of, total_to}
 
 abbrev pub strut_part : Extent → LinePart
 strut_part e = part_at (strut_alone e).parts 0
 
-abbrev pub box_lift : InlineStart → ℕ
-box_lift b = lift_by b.extent b.shift
-
-length_more : (ps : List LinePart) (x : LinePart) → length (ps ++ x ∷ []) ≡ length ps + 1
+pub length_more : (ps : List LinePart) (x : LinePart) → length (ps ++ x ∷ []) ≡ length ps + 1
 length_more [] x = refl
 length_more (p ∷ ps) x = let e = length_more ps x in omega (arith, e)
 
-lift_more : (ps : List LinePart) (x : LinePart) → lift_of_list (ps ++ x ∷ []) ≡ lift_of_list ps + lift x
-lift_more [] x = omega arith
-lift_more (p ∷ ps) x = let e = lift_more ps x in omega (arith, e)
-
-part_before : (ps : List LinePart) (x : LinePart) (k : ℕ) → k < length ps → part_at (ps ++ x ∷ []) k ≡ part_at ps k
+pub part_before : (ps : List LinePart) (x : LinePart) (k : ℕ) → k < length ps → part_at (ps ++ x ∷ []) k ≡ part_at ps k
 part_before ps x k lt = grind (arith, elements)
 
-part_last : (ps : List LinePart) (x : LinePart) (k : ℕ) → k ≡ length ps → part_at (ps ++ x ∷ []) k ≡ x
+pub part_last : (ps : List LinePart) (x : LinePart) (k : ℕ) → k ≡ length ps → part_at (ps ++ x ∷ []) k ≡ x
 part_last ps x k e = grind (arith, elements)
 
 parts_more : (ps : List LinePart) (x : LinePart) → AreParts ps → x.parent < length ps → AreParts (ps ++ x ∷ [])
@@ -49,166 +41,140 @@ parts_more ps x are parent = record {
   ];
 }
 
-innermost_before : (places : List ℕ) (n : ℕ) → 0 < n → All (λ (k : ℕ). k < n) places → innermost places < n
+pub innermost_before : (places : List ℕ) (n : ℕ) → 0 < n → All (λ (k : ℕ). k < n) places → innermost places < n
 innermost_before [] n some all = some
 innermost_before (k ∷ places) n some all = all (length (k ∷ places) - 1) 0 (omega arith)
 
--- a line whose parts but the strut lift so much, and are so many
-pub record Counted (strut : LinePart) (m n : ℕ) (l : LineParts) : Type 0 where
+-- a line that has so many parts beside the strut
+pub record Counted (strut : LinePart) (n : ℕ) (l : LineParts) : Type 0 where
   pub rest : List LinePart
   pub is : l.parts ≡ strut ∷ rest
-  pub lifts : lift_of_list rest ≡ m
   pub count : length rest ≡ n
   pub are : AreParts l.parts
   pub places : All (λ (k : ℕ). k < length l.parts) l.places
 
-counted_as : (strut : LinePart) (m n m' n' : ℕ) (l : LineParts) → m ≡ m' → n ≡ n' → Counted strut m n l → Counted strut m' n' l
-counted_as strut m n m' n' l e f c = record { rest = c.rest; is = c.is; lifts = c.lifts ∙ e; count = c.count ∙ f; are = c.are; places = c.places }
+counted_as : (strut : LinePart) (n n' : ℕ) (l : LineParts) → n ≡ n' → Counted strut n l → Counted strut n' l
+counted_as strut n n' l e c = record { rest = c.rest; is = c.is; count = c.count ∙ e; are = c.are; places = c.places }
 
-alone_counted : (e : Extent) → Counted (strut_part e) 0 0 (strut_alone e)
+pub alone_counted : (e : Extent) → Counted (strut_part e) 0 (strut_alone e)
 alone_counted e = record {
   rest = [];
   is = refl;
-  lifts = refl;
   count = refl;
   are = record { strut = omega arith; before = λ k some within. absurd (omega (arith, some, within)) };
   places = λ k d lt. absurd (omega (arith, lt));
 }
 
-stood_counted : (strut : LinePart) (m n : ℕ) (l : LineParts) (e : Extent) (shift : Shift) → Counted strut m n l → Counted strut (m + lift_by e shift) (n + 1) (stood l e shift)
-stood_counted strut m n l e shift c =
+stood_counted : (strut : LinePart) (n : ℕ) (l : LineParts) (e : Extent) (shift : Shift) → Counted strut n l → Counted strut (n + 1) (stood l e shift)
+stood_counted strut n l e shift c =
     let x = part_by e shift (innermost l.places) in
     let some = c.are.strut in
     let more = length_more l.parts x in
     record {
       rest = c.rest ++ x ∷ [];
       is = ap (λ (ps : List LinePart). ps ++ x ∷ []) c.is;
-      lifts = (let a = lift_more c.rest x in let b = c.lifts in omega (arith, a, b));
       count = (let a = length_more c.rest x in let b = c.count in omega (arith, a, b));
       are = parts_more l.parts x c.are (innermost_before l.places (length l.parts) some c.places);
       places = All-weaker (λ (k : ℕ). k < length l.parts) (λ (k : ℕ). k < length (l.parts ++ x ∷ [])) (λ k lt. omega (arith, more, lt)) l.places c.places;
     }
 
-opened_counted : (strut : LinePart) (m n : ℕ) (l : LineParts) (e : Extent) (shift : Shift) → Counted strut m n l → Counted strut (m + lift_by e shift) (n + 1) (opened l e shift)
-opened_counted strut m n l e shift c =
-    let s = stood_counted strut m n l e shift c in
+pub opened_counted : (strut : LinePart) (n : ℕ) (l : LineParts) (e : Extent) (shift : Shift) → Counted strut n l → Counted strut (n + 1) (opened l e shift)
+opened_counted strut n l e shift c =
+    let s = stood_counted strut n l e shift c in
     let more = length_more l.parts (part_by e shift (innermost l.places)) in
     record {
       rest = s.rest;
       is = s.is;
-      lifts = s.lifts;
       count = s.count;
       are = s.are;
       places = All-push (λ (k : ℕ). k < length (stood l e shift).parts) l.places (length l.parts) s.places (omega (arith, more));
     }
 
-closed_counted : (strut : LinePart) (m n : ℕ) (l : LineParts) → Counted strut m n l → Counted strut m n (closed l)
-closed_counted strut m n l c = record {
+closed_counted : (strut : LinePart) (n : ℕ) (l : LineParts) → Counted strut n l → Counted strut n (closed l)
+closed_counted strut n l c = record {
   rest = c.rest;
   is = c.is;
-  lifts = c.lifts;
   count = c.count;
   are = c.are;
   places = All-take (λ (k : ℕ). k < length l.parts) _ l.places c.places;
 }
 
-all_opened : (strut : LinePart) (m n : ℕ) (l : LineParts) (bs : List InlineStart) → Counted strut m n l → Counted strut (m + total box_lift bs) (n + length bs) (opened_all l bs)
-all_opened strut m n l [] c = counted_as strut m n (m + 0) (n + 0) l (omega arith) (omega arith) c
-all_opened strut m n l (b ∷ bs) c =
-    counted_as strut ((m + box_lift b) + total box_lift bs) ((n + 1) + length bs) (m + total box_lift (b ∷ bs)) (n + length (b ∷ bs)) (opened_all (opened l b.extent b.shift) bs)
-    (omega arith) (omega arith)
-    (all_opened strut (m + box_lift b) (n + 1) (opened l b.extent b.shift) bs (opened_counted strut m n l b.extent b.shift c))
+all_opened : (strut : LinePart) (n : ℕ) (l : LineParts) (bs : List InlineStart) → Counted strut n l → Counted strut (n + length bs) (opened_all l bs)
+all_opened strut n l [] c = counted_as strut n (n + 0) l (omega arith) c
+all_opened strut n l (b ∷ bs) c =
+    counted_as strut ((n + 1) + length bs) (n + length (b ∷ bs)) (opened_all (opened l b.extent b.shift) bs)
+    (omega arith)
+    (all_opened strut (n + 1) (opened l b.extent b.shift) bs (opened_counted strut n l b.extent b.shift c))
 
--- and the inline boxes that are open then lift no more, and are no more
-pub record ReadingCounted (strut : LinePart) (m n : ℕ) (r : Reading) : Type 0 where
-  pub line : Counted strut m n r.line
-  pub open_lifts : total box_lift r.open_boxes ≤ m
+-- and the inline boxes that are open then are no more
+pub record ReadingCounted (strut : LinePart) (n : ℕ) (r : Reading) : Type 0 where
+  pub line : Counted strut n r.line
   pub open_count : length r.open_boxes ≤ n
 
-reading_as : (strut : LinePart) (m n m' n' : ℕ) (r : Reading) → m ≡ m' → n ≡ n' → ReadingCounted strut m n r → ReadingCounted strut m' n' r
-reading_as strut m n m' n' r e f c = record {
-  line = counted_as strut m n m' n' r.line e f c.line;
-  open_lifts = (let a = c.open_lifts in omega (arith, a, e));
+reading_as : (strut : LinePart) (n n' : ℕ) (r : Reading) → n ≡ n' → ReadingCounted strut n r → ReadingCounted strut n' r
+reading_as strut n n' r f c = record {
+  line = counted_as strut n n' r.line f c.line;
   open_count = (let a = c.open_count in omega (arith, a, f));
 }
 
-box_more : (bs : List InlineStart) (b : InlineStart) → total box_lift (bs ++ b ∷ []) ≡ total box_lift bs + box_lift b
-box_more [] b = omega arith
-box_more (x ∷ bs) b = let e = box_more bs b in omega (arith, e)
-
-boxes_more : (bs : List InlineStart) (b : InlineStart) → length (bs ++ b ∷ []) ≡ length bs + 1
+pub boxes_more : (bs : List InlineStart) (b : InlineStart) → length (bs ++ b ∷ []) ≡ length bs + 1
 boxes_more [] b = refl
 boxes_more (x ∷ bs) b = let e = boxes_more bs b in omega (arith, e)
-
-take_lifts : (n : ℕ) (bs : List InlineStart) → total box_lift (take n bs) ≤ total box_lift bs
-take_lifts zero bs = omega arith
-take_lifts (suc n) [] = omega arith
-take_lifts (suc n) (b ∷ bs) = let e = take_lifts n bs in omega (arith, e)
 
 take_count : (n : ℕ) (bs : List InlineStart) → length (take n bs) ≤ length bs
 take_count zero bs = omega arith
 take_count (suc n) [] = omega arith
 take_count (suc n) (b ∷ bs) = let e = take_count n bs in omega (arith, e)
 
-same_counted : (strut : LinePart) (m n : ℕ) (r : Reading) → ReadingCounted strut m n r → ReadingCounted strut (m + 0) (n + 0) r
-same_counted strut m n r c = reading_as strut m n (m + 0) (n + 0) r (omega arith) (omega arith) c
+same_counted : (strut : LinePart) (n : ℕ) (r : Reading) → ReadingCounted strut n r → ReadingCounted strut (n + 0) r
+same_counted strut n r c = reading_as strut n (n + 0) r (omega arith) c
 
-read_counted : (strut : LinePart) (m n : ℕ) (r : Reading) (x : Part) → ReadingCounted strut m n r → ReadingCounted strut (m + lift_of_part x) (n + boxes_of_part x) (read r x)
-read_counted strut m n r (Space w) c = same_counted strut m n r c
-read_counted strut m n r (PreservedSpace w) c = same_counted strut m n r c
-read_counted strut m n r (Tab t) c = same_counted strut m n r c
-read_counted strut m n r Linefeed c = same_counted strut m n r c
-read_counted strut m n r (Text w) c = same_counted strut m n r c
-read_counted strut m n r (Start b) c = record {
-  line = opened_counted strut m n r.line b.extent b.shift c.line;
-  open_lifts = (let a = c.open_lifts in let e = box_more r.open_boxes b in omega (arith, a, e));
+pub read_counted : (strut : LinePart) (n : ℕ) (r : Reading) (x : Part) → ReadingCounted strut n r → ReadingCounted strut (n + boxes_of_part x) (read r x)
+read_counted strut n r (Space w) c = same_counted strut n r c
+read_counted strut n r (PreservedSpace w) c = same_counted strut n r c
+read_counted strut n r (Tab t) c = same_counted strut n r c
+read_counted strut n r Linefeed c = same_counted strut n r c
+read_counted strut n r (Text w) c = same_counted strut n r c
+read_counted strut n r (Start b) c = record {
+  line = opened_counted strut n r.line b.extent b.shift c.line;
   open_count = (let a = c.open_count in let e = boxes_more r.open_boxes b in omega (arith, a, e));
 }
-read_counted strut m n r (End b) c = same_counted strut m n (read r (End b)) record {
-  line = closed_counted strut m n r.line c.line;
-  open_lifts = (let a = c.open_lifts in let e = take_lifts (length r.open_boxes - 1) r.open_boxes in omega (arith, a, e));
+read_counted strut n r (End b) c = same_counted strut n (read r (End b)) record {
+  line = closed_counted strut n r.line c.line;
   open_count = (let a = c.open_count in let e = take_count (length r.open_boxes - 1) r.open_boxes in omega (arith, a, e));
 }
-read_counted strut m n r (Atomic a) c = record {
-  line = stood_counted strut m n r.line a.extent a.shift c.line;
-  open_lifts = (let e = c.open_lifts in omega (arith, e));
+read_counted strut n r (Atomic a) c = record {
+  line = stood_counted strut n r.line a.extent a.shift c.line;
   open_count = (let e = c.open_count in omega (arith, e));
 }
 
-all_counted : (strut : LinePart) (m n : ℕ) (r : Reading) (xs : List Part) → ReadingCounted strut m n r → ReadingCounted strut (m + total lift_of_part xs) (n + total boxes_of_part xs) (read_all r xs)
-all_counted strut m n r [] c = same_counted strut m n r c
-all_counted strut m n r (x ∷ xs) c =
-    reading_as strut ((m + lift_of_part x) + total lift_of_part xs) ((n + boxes_of_part x) + total boxes_of_part xs) (m + total lift_of_part (x ∷ xs)) (n + total boxes_of_part (x ∷ xs))
-    (read_all (read r x) xs) (omega arith) (omega arith)
-    (all_counted strut (m + lift_of_part x) (n + boxes_of_part x) (read r x) xs (read_counted strut m n r x c))
-
-abbrev pub stretch_lift : Stretch → ℕ
-stretch_lift s = total lift_of_part s.parts
+all_counted : (strut : LinePart) (n : ℕ) (r : Reading) (xs : List Part) → ReadingCounted strut n r → ReadingCounted strut (n + total boxes_of_part xs) (read_all r xs)
+all_counted strut n r [] c = same_counted strut n r c
+all_counted strut n r (x ∷ xs) c =
+    reading_as strut ((n + boxes_of_part x) + total boxes_of_part xs) (n + total boxes_of_part (x ∷ xs))
+    (read_all (read r x) xs) (omega arith)
+    (all_counted strut (n + boxes_of_part x) (read r x) xs (read_counted strut n r x c))
 
 abbrev pub stretch_boxes : Stretch → ℕ
 stretch_boxes s = total boxes_of_part s.parts
 
-at_counted : (strut : LinePart) (m n : ℕ) (r : Reading) (o : Option Stretch) → ReadingCounted strut m n r → ReadingCounted strut (m + part_of stretch_lift o) (n + part_of stretch_boxes o) (read_at r o)
-at_counted strut m n r None c = same_counted strut m n r c
-at_counted strut m n r (Some s) c = all_counted strut m n r s.parts c
+at_counted : (strut : LinePart) (n : ℕ) (r : Reading) (o : Option Stretch) → ReadingCounted strut n r → ReadingCounted strut (n + part_of stretch_boxes o) (read_at r o)
+at_counted strut n r None c = same_counted strut n r c
+at_counted strut n r (Some s) c = all_counted strut n r s.parts c
 
 pub to_counted : (fr : Frame) (bs : List InlineStart) (ss : List Stretch) (k : ℕ)
-    → ReadingCounted (strut_part fr.strut) (total box_lift bs + total_to stretch_lift ss k) (length bs + total_to stretch_boxes ss k) (reading_to fr bs ss k)
+    → ReadingCounted (strut_part fr.strut) (length bs + total_to stretch_boxes ss k) (reading_to fr bs ss k)
 to_counted fr bs ss zero = record {
-  line = counted_as (strut_part fr.strut) (0 + total box_lift bs) (0 + length bs) (total box_lift bs + 0) (length bs + 0) _ (omega arith) (omega arith)
-      (all_opened (strut_part fr.strut) 0 0 (strut_alone fr.strut) bs (alone_counted fr.strut));
-  open_lifts = omega arith;
+  line = counted_as (strut_part fr.strut) (0 + length bs) (length bs + 0) _ (omega arith)
+      (all_opened (strut_part fr.strut) 0 (strut_alone fr.strut) bs (alone_counted fr.strut));
   open_count = omega arith;
 }
 to_counted fr bs ss (suc k) =
-    let m = total box_lift bs in
-    let n = total_to stretch_lift ss k in
-    let here = part_of stretch_lift (slice_get ss k) in
     let i = length bs in
     let j = total_to stretch_boxes ss k in
     let there = part_of stretch_boxes (slice_get ss k) in
-    reading_as (strut_part fr.strut) ((m + n) + here) ((i + j) + there) (m + (n + here)) (i + (j + there)) (reading_to fr bs ss (suc k)) (omega arith) (omega arith)
-    (at_counted (strut_part fr.strut) (m + n) (i + j) (reading_to fr bs ss k) (slice_get ss k) (to_counted fr bs ss k))
+    reading_as (strut_part fr.strut) ((i + j) + there) (i + (j + there)) (reading_to fr bs ss (suc k)) (omega arith)
+    (at_counted (strut_part fr.strut) (i + j) (reading_to fr bs ss k) (slice_get ss k) (to_counted fr bs ss k))
 
 pub are_parts : (fr : Frame) (bs : List InlineStart) (ss : List Stretch) (k : ℕ) → AreParts (parts_to fr bs ss k)
 are_parts fr bs ss k = (to_counted fr bs ss k).line.are

@@ -18,6 +18,8 @@ ghost use Rattle.lay_line_content.specs.LineContents.{
 use crate::budgets::{Budget, weight_by};
 use crate::content::{LineFloat, Stretch};
 use crate::frame::Extent;
+use crate::nesting::are_nested;
+use crate::part_bounds::{are_parts_within, is_extent_within};
 use lay_units::Unit;
 
 /// What is kept of content that is within its bounds: its weight, and whether it has inline boxes or atomic boxes.
@@ -34,12 +36,12 @@ pub fn summary_of(strut: Extent, indent: Unit, tab: Unit, stretches: &[Stretch])
     ensures fits { IfSome result (λ _. IsLineContent (content_of strut indent tab stretches.now)) }
     ensures none { result ≡ None → IsLineContent (content_of strut indent tab stretches.now) → ⊥ }
 {
-    if !is_extent_within(strut) || !is_used(indent) || !is_tab_distance(tab) {
+    if !is_frame_within(strut, indent, tab) || !are_nested(stretches) {
         return None;
     }
     let full = Budget::full();
     let left = left_after(full, tab, stretches)?;
-    let weight = weight_by(full.weight - left.weight, full.lift - left.lift)?;
+    let weight = weight_by(full.weight - left.weight, full.hulls - left.hulls)?;
     Some(Summary {
         weight,
         has_boxes: left.boxes < full.boxes,
@@ -71,6 +73,12 @@ fn left_after_one(left: Budget, tab: Unit, stretch: &Stretch) -> Option<Budget>
     left.after_stretch(tab, stretch)
 }
 
+fn is_frame_within(strut: Extent, indent: Unit, tab: Unit) -> bool
+    ensures { IsTrue result ↔ ExtentWithin strut × IsUsed indent.0 × IsTabDistance tab.0 }
+{
+    is_extent_within(strut) && is_used(indent) && is_tab_distance(tab)
+}
+
 fn is_used(length: Unit) -> bool
     ensures { IsTrue result ↔ IsUsed length.0 }
 {
@@ -86,7 +94,9 @@ fn is_tab_distance(tab: Unit) -> bool
 fn is_stretch_within(stretch: &Stretch) -> bool
     ensures { IsTrue result ↔ StretchWithin stretch.now }
 {
-    are_floats_within(stretch.heads.as_slice()) && are_floats_within(stretch.floats.as_slice())
+    are_floats_within(stretch.heads.as_slice())
+        && are_parts_within(stretch.parts.as_slice())
+        && are_floats_within(stretch.floats.as_slice())
 }
 
 fn are_floats_within(floats: &[LineFloat]) -> bool
@@ -120,16 +130,4 @@ fn is_float_edge(edge: Unit) -> bool
     ensures { IsTrue result ↔ IsWithin (pos (2 ^ 50)) edge.0 }
 {
     -1125899906842624 <= edge.0 && edge.0 <= 1125899906842624
-}
-
-fn is_extent_within(extent: Extent) -> bool
-    ensures { IsTrue result ↔ ExtentWithin extent }
-{
-    is_reach(extent.above) && is_reach(extent.below)
-}
-
-fn is_reach(length: Unit) -> bool
-    ensures { IsTrue result ↔ IsWithin (pos (2 ^ 36)) length.0 }
-{
-    -68719476736 <= length.0 && length.0 <= 68719476736
 }

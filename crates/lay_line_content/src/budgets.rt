@@ -1,8 +1,7 @@
 //! What content may come to at most, and what is left of that after some of it.
 
-ghost use Rattle.std.specs.Prelude.{◌≡◌, ◌+◌, ◌*◌, ◌/◌, ◌≤◌, ◌<◌, ◌^◌, None, IfSome};
+ghost use Rattle.std.specs.Prelude.{◌≡◌, ◌+◌, ◌*◌, ◌/◌, ◌≤◌, ◌<◌, None, IfSome};
 ghost use Rattle.lay_valign.specs.Near.{distance};
-ghost use Rattle.lay_valign.specs.PartsFit.{length_of};
 ghost use Rattle.lay_line_content.specs.Budgets.{
   Covers,
   Leaves,
@@ -14,19 +13,18 @@ ghost use Rattle.lay_line_content.specs.Budgets.{
   own_need,
   width_need,
 };
-ghost use Rattle.lay_line_content.specs.LineContents.{boxes_of_part, lift_by};
+ghost use Rattle.lay_line_content.specs.LineContents.{boxes_of_part, hull, positive};
 
 use crate::content::{Part, Stretch};
 use crate::frame::Extent;
 use lay_units::Unit;
-use lay_valign::Shift;
 
-/// What is left for content: how far its parts may still take its end, and how much its boxes may add to the extents of a
-/// line, in 1/64 px; how many inline boxes and atomic boxes may come; and how many stretches and floats.
+/// What is left for content: how far its parts may still take its end, and how high its atomic boxes may be, each together with
+/// its baseline, in 1/64 px; how many inline boxes and atomic boxes may come; and how many stretches and floats.
 #[derive(Clone, Copy)]
 pub struct Budget {
     pub spread: u64,
-    pub lift: u64,
+    pub hulls: u64,
     pub boxes: u64,
     pub weight: u64,
 }
@@ -38,7 +36,7 @@ impl Budget {
     {
         Budget {
             spread: 288230376151711744,
-            lift: 72057594037927935,
+            hulls: 558446353793941504,
             boxes: 2147483648,
             weight: 2097151,
         }
@@ -85,9 +83,9 @@ impl Budget {
             }
             Part::Tab(_) => self.after_width(tab),
             Part::Linefeed => Some(self),
-            Part::Start(start) => self.after_box(start.width, start.extent, start.shift),
+            Part::Start(start) => self.after_inline_box(start.width),
             Part::End(end) => self.after_width(end.width),
-            Part::Atomic(atomic) => self.after_box(atomic.width, atomic.extent, atomic.shift),
+            Part::Atomic(atomic) => self.after_atomic_box(atomic.width, atomic.extent),
         }
     }
 
@@ -99,14 +97,22 @@ impl Budget {
         Some(Budget { spread, ..self })
     }
 
-    /// What an inline box or an atomic box leaves.
-    fn after_box(self, width: Unit, extent: Extent, shift: Shift) -> Option<Budget>
-        ensures some { IfSome result (λ left. Leaves (box_need width.0 extent shift) self left) }
-        ensures none { result ≡ None → Covers (box_need width.0 extent shift) self → ⊥ }
+    fn after_inline_box(self, width: Unit) -> Option<Budget>
+        ensures some { IfSome result (λ left. Leaves (box_need width.0 0) self left) }
+        ensures none { result ≡ None → Covers (box_need width.0 0) self → ⊥ }
+    {
+        let left = self.after_width(width)?;
+        let boxes = spend(left.boxes, 1)?;
+        Some(Budget { boxes, ..left })
+    }
+
+    fn after_atomic_box(self, width: Unit, extent: Extent) -> Option<Budget>
+        ensures some { IfSome result (λ left. Leaves (box_need width.0 (hull extent)) self left) }
+        ensures none { result ≡ None → Covers (box_need width.0 (hull extent)) self → ⊥ }
     {
         Some(Budget {
             spread: spend(self.spread, distance(width))?,
-            lift: spend_lift(self.lift, extent, shift)?,
+            hulls: spend_hull(self.hulls, extent)?,
             boxes: spend(self.boxes, 1)?,
             weight: self.weight,
         })
@@ -123,20 +129,19 @@ pub fn boxes_of_part(part: &Part) -> u64
     }
 }
 
-/// The weight of lines with so many stretches and floats, whose boxes can add so much to the extents of a line, if it is at
-/// most 2^21.
-pub fn weight_by(weight: u64, lift: u64) -> Option<u64>
+/// The weight of lines with so many stretches and floats, whose atomic boxes have these hulls together, if it is at most
+/// 16,711,680.
+pub fn weight_by(weight: u64, hulls: u64) -> Option<u64>
     requires weight { weight < 2097152 }
-    requires lift { lift < 72057594037927936 }
-    ensures some { IfSome result (λ w. w ≡ (weight + 1) * (lift / 34359738368 + 1)) }
-    ensures small { IfSome result (λ w. w ≤ 2 ^ 21) }
-    ensures none { result ≡ None → 2 ^ 21 < (weight + 1) * (lift / 34359738368 + 1) }
+    ensures some { IfSome result (λ w. w ≡ 9 * weight + hulls / 68719476736 + 1) }
+    ensures small { IfSome result (λ w. w ≤ 16711680) }
+    ensures none { result ≡ None → 16711680 < 9 * weight + hulls / 68719476736 + 1 }
 {
-    let product = (weight + 1) * (lift / 34359738368 + 1);
-    if 2097152 < product {
+    let sum = 9 * weight + hulls / 68719476736 + 1;
+    if 16711680 < sum {
         return None;
     }
-    Some(product)
+    Some(sum)
 }
 
 fn distance(length: Unit) -> u64
@@ -145,25 +150,21 @@ fn distance(length: Unit) -> u64
     length.0.unsigned_abs()
 }
 
-fn spend_lift(left: u64, extent: Extent, shift: Shift) -> Option<u64>
-    ensures some { IfSome result (λ rest. lift_by extent shift + rest ≡ left) }
-    ensures none { result ≡ None → left < lift_by extent shift }
+fn spend_hull(left: u64, extent: Extent) -> Option<u64>
+    ensures some { IfSome result (λ rest. hull extent + rest ≡ left) }
+    ensures none { result ≡ None → left < hull extent }
 {
-    let left = spend(left, distance(extent.above))?;
-    let left = spend(left, distance(extent.below))?;
-    spend(left, distance(length_of(shift)))
+    let left = spend(left, positive(extent.above))?;
+    spend(left, positive(extent.below))
 }
 
-fn length_of(shift: Shift) -> Unit
-    ensures { result.0 ≡ length_of shift }
+fn positive(length: Unit) -> u64
+    ensures { result ≡ positive length.0 }
 {
-    match shift {
-        Shift::By(length)
-        | Shift::Middle(length)
-        | Shift::TextTop(length)
-        | Shift::TextBottom(length) => length,
-        Shift::Top | Shift::Bottom => Unit(0),
+    if length.0 < 0 {
+        return 0;
     }
+    distance(length)
 }
 
 fn spend(left: u64, by: u64) -> Option<u64>

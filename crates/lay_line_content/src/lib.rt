@@ -15,6 +15,8 @@ mod frame;
 mod line_content;
 mod line_parts;
 mod lists;
+mod nesting;
+mod part_bounds;
 mod pen;
 
 pub use content::{

@@ -1,6 +1,6 @@
 //! The content of the lines of a container.
 
-ghost use Rattle.std.specs.Prelude.{◌≡◌, ◌↔◌, ◌<◌, ◌≤◌, ◌^◌, IsTrue, None, IfSome};
+ghost use Rattle.std.specs.Prelude.{◌≡◌, ◌↔◌, ◌<◌, ◌≤◌, IsTrue, None, IfSome};
 ghost use Rattle.lay_line_content.specs.LineContents.{IsLineContent, boxes_of, content_of, lines_weight};
 
 use crate::bounds::{Summary, summary_of};
@@ -11,10 +11,11 @@ use lay_units::Unit;
 use std::marker::Model;
 
 /// The content of the lines of a container, measured, with the container's strut, its `text-indent` and the
-/// distance between its tab stops. The strut is at most 2^36 units of 1/64 px, the indent is a used length and the
-/// distance 0 to 2^45 units; no float is larger than 2^34 units or has a containing block edge further than 2^50 away;
-/// all widths together are at most 2^58 units, with a tab as wide as the distance of stops; inline boxes and atomic boxes
-/// are at most 2^31, and the weight is at most 2^21.
+/// distance between its tab stops. The strut and each inline box reach at most 2^34 units of 1/64 px, no atomic box and no float is
+/// larger, and the length of an alignment is at most 2^35; the indent is a used length and the distance 0 to 2^45 units; no
+/// float has a containing block edge further than 2^50 away; all widths together are at most 2^58 units, with a tab as wide as
+/// the distance of stops; all atomic boxes, each together with its baseline, are at most 2^59 - 2^54 units high; inline boxes and
+/// atomic boxes are at most 2^31, of which at most 128 stand in each other, and the weight is at most 16,711,680.
 #[derive(Drop)]
 pub struct LineContent {
     strut: Extent,
@@ -81,12 +82,11 @@ impl LineContent {
         self.tab
     }
 
-    /// How much there is to lay out: its stretches and their floats, and one more, once and again for each 2^35 units
-    /// that its inline boxes and atomic boxes can add to the height of a line. Lines reach at most 2^38 units further for
-    /// each weight.
+    /// How much there is to lay out: nine for each of its stretches and their floats, one for each 2^36 units that its atomic
+    /// boxes are high, each together with its baseline, and one more. Lines reach at most 2^36 units further for each weight.
     pub fn weight(&self) -> u64
         ensures value { result ≡ lines_weight self.now }
-        ensures small { result ≤ 2 ^ 21 }
+        ensures small { result ≤ 16711680 }
     {
         self.summary.weight
     }

@@ -1,6 +1,5 @@
 -- How far the lines of a container can stand, and that all that they can give is so within bounds.
 use Rattle.std.proofs.Common.{◌≡◌, ◌∙◌, ℕ, zero, suc, ◌+◌, ◌*◌, ◌<◌, ◌≤◌, ◌^◌, ℤ, pos, ◌+ℤ◌, Bool, true, false, if◌then◌else◌, List, [], ◌∷◌, ◌++◌, length, drop, map, slice_get, Option, Some, None, All, sym, ap, subst, arith}
-use Rattle.std.proofs.Math.Nat.{mul-le-mul_left, mul-le-mul_right}
 use Rattle.std.proofs.lemmas.Int.{ints}
 use Rattle.std.proofs.lemmas.List.Elements.{All-push, All-weaker, All-drop}
 use Rattle.std.proofs.lemmas.Option.{slice_get_within}
@@ -13,8 +12,10 @@ use Rattle.lay_line_content.specs.declared.content.LineFloat.{LineFloat}
 use Rattle.lay_line_content.specs.declared.content.Stretch.{Stretch}
 use Rattle.lay_line_content.specs.declared.frame.Frame.{Frame}
 use Rattle.lay_line_content.specs.Extents.{reading_to, shape_of, height_of}
-use Rattle.lay_line_content.specs.LineContents.{total, spread_of_parts, spread_of, weight_of_stretch, weight_of, StretchWithin}
-use Rattle.lay_line_content.proofs.LineParts.{strut_part, box_lift, stretch_lift, stretch_boxes, Counted, to_counted}
+use Rattle.lay_line_content.specs.LineContents.{total, spread_of_parts, spread_of, hulls_of, weight_of_stretch, weight_of, AreNested, InlineStartWithin, StretchWithin}
+use Rattle.lay_line_content.proofs.LineLevels.{ReadingLevels, open_to, nested_drop, to_levels}
+use Rattle.lay_line_content.proofs.LineParts.{strut_part, stretch_boxes, Counted, to_counted}
+use Rattle.lay_line_content.proofs.LineReaches.{ReadingReaches, stretch_hulls, to_reaches}
 use Rattle.lay_line_content.proofs.PartShapes.{ShapeWithin, parts_fit, height_near, shape_within}
 use Rattle.lay_line_content.proofs.PensWithin.{wider, position}
 use Rattle.lay_line_content.proofs.Totals.{part_of, total_to, total_to_most, total_split, drop_less}
@@ -27,30 +28,33 @@ use Rattle.lay_lines.proofs.LineLists.{map_append_one}
 use Rattle.lay_lines.proofs.Steps.{none_waits, takes_some, top_fits}
 use Rattle.lay_lines.proofs.FloatsWithin.{at_of, StateWithin, state_wider, FrameWithin, further, meets_within, can_meet_all, top_within, floats_to, fills_within, can_fill, room_start, room_end, rooms_fit}
 
--- where the content of lines lifts at most t units, a line and each float add at most g
-pub record Grows (t g : ℕ) : Type 0 where
-  pub low : t < 72057594037927936
-  pub high : 137438953472 + 4 * t ≤ g
-  pub least : 274877906944 ≤ g
-
--- where a line begins, with all that stands at most m units from the origin, and content that lifts at most t units
-pub record PositionWithin (t m : ℕ) (p : Position) : Type 0 where
+-- where a line begins, with all that stands at most m units from the origin
+pub record PositionWithin (m : ℕ) (p : Position) : Type 0 where
   pub least : 1125899906842624 ≤ m
   pub frame : FrameWithin p.frame
   pub from : IsWithin (pos m) p.from
-  pub lifts : total box_lift p.open_boxes + total stretch_lift p.rest ≤ t
+  pub open_boxes : All InlineStartWithin p.open_boxes
+  pub nested : AreNested (length p.open_boxes) p.rest
+  pub hulls : total stretch_hulls p.rest ≤ 558446353793941504
   pub boxes : length p.open_boxes + total stretch_boxes p.rest ≤ 2147483648
   pub rest : All StretchWithin p.rest
   pub spread : spread_of p.frame.tab.0 p.rest ≤ 2 ^ 58
   pub state : StateWithin m p.state
   pub none : length p.state.put_off ≡ 0
 
--- how far the lines from here can reach
-abbrev pub reach_from : ℕ → ℕ → List Stretch → ℕ
-reach_from g m ss = m + g * weight_of ss
+-- how far the lines from here can reach: nine times 2^36 units for each line and each float, and what atomic boxes do
+abbrev pub reach_from : ℕ → List Stretch → ℕ
+reach_from m ss = m + 618475290624 * weight_of ss + hulls_of ss
 
 abbrev weight_to : List Stretch → ℕ → ℕ
 weight_to ss k = total_to weight_of_stretch ss k
+
+abbrev hulls_to : List Stretch → ℕ → ℕ
+hulls_to ss k = total_to stretch_hulls ss k
+
+-- and a line that takes the first k of these
+abbrev pub reach_to : ℕ → List Stretch → ℕ → ℕ
+reach_to m ss k = m + 618475290624 * weight_to ss k + hulls_to ss k
 
 -- the floats before the first stretch, those in the first n, and a line, are no more than these weigh
 counted : (ss : List Stretch) (first : Stretch) (n : ℕ) → 0 < n → slice_get ss 0 ≡ Some first → ((length first.heads + floats_to ss n) + 1) ≤ weight_to ss n
@@ -98,15 +102,8 @@ frame_fits fr w =
       indent = position 2147483648 _ (omega arith) w.indent;
     }
 
-module _ (law : PlaceWithin) (t g : ℕ) (grows : Grows t g) (m : ℕ) (p : Position) (w : PositionWithin t m p) (reach_most : reach_from g m p.rest ≤ 2305843009213693952) where
-  -- as if each float and each line added 2^38 units alone
-  most : m + 274877906944 * weight_of p.rest ≤ 2305843009213693952
-  most = let more = mul-le-mul_right (weight_of p.rest) grows.least in omega (arith, more, reach_most)
-
+module _ (law : PlaceWithin) (m : ℕ) (p : Position) (w : PositionWithin m p) (reach_most : reach_from m p.rest ≤ 2305843009213693952) where
   -- the parts of a line
-  abbrev lifts_to : ℕ → ℕ
-  lifts_to count = total box_lift p.open_boxes + total_to stretch_lift p.rest count
-
   abbrev boxes_to : ℕ → ℕ
   boxes_to count = length p.open_boxes + total_to stretch_boxes p.rest count
 
@@ -123,7 +120,7 @@ module _ (law : PlaceWithin) (t g : ℕ) (grows : Grows t g) (m : ℕ) (p : Posi
   heads_can first is =
       let here = at_of StretchWithin p.rest 0 first w.rest is in
       let few = floats_counted p.rest first is in
-      can_meet_all law m p.frame p.from p.rest 0 first.heads p.state w.least (omega (arith, few, most)) w.spread w.frame w.from here.heads w.state
+      can_meet_all law m p.frame p.from p.rest 0 first.heads p.state w.least (omega (arith, few, reach_most)) w.spread w.frame w.from here.heads w.state
 
   line_within : (first : Stretch) (headed : State) (top : ℤ) → slice_get p.rest 0 ≡ Some first → Meets p.frame p.from p.rest 0 first.heads p.state headed → IsTop p.frame p.from p.rest headed.floats top
       → IsWithin (pos (further m (length first.heads))) top
@@ -134,45 +131,52 @@ module _ (law : PlaceWithin) (t g : ℕ) (grows : Grows t g) (m : ℕ) (p : Posi
   rooms_can first headed is meets =
       let few = floats_counted p.rest first is in
       let least = w.least in
-      rooms_fit (further m (length first.heads)) p.frame headed.floats p.rest (omega (arith, least)) (omega (arith, few, most)) w.spread w.frame (headed_within first headed is meets).0.floats
+      rooms_fit (further m (length first.heads)) p.frame headed.floats p.rest (omega (arith, least)) (omega (arith, few, reach_most)) w.spread w.frame (headed_within first headed is meets).0.floats
 
   fills_can : (first : Stretch) (headed : State) (top : ℤ) → slice_get p.rest 0 ≡ Some first → Meets p.frame p.from p.rest 0 first.heads p.state headed → IsTop p.frame p.from p.rest headed.floats top
       → CanFill p.frame top p.rest headed
   fills_can first headed top is meets top_is =
       let few = floats_counted p.rest first is in
       let least = w.least in
-      can_fill law (further m (length first.heads)) p.frame top p.rest headed (omega (arith, least)) (omega (arith, few, most)) w.spread w.frame (line_within first headed top is meets top_is) w.rest
+      can_fill law (further m (length first.heads)) p.frame top p.rest headed (omega (arith, least)) (omega (arith, few, reach_most)) w.spread w.frame (line_within first headed top is meets top_is) w.rest
       (headed_within first headed is meets).0
 
-  few_lift : (count : ℕ) → lifts_to count ≤ t
-  few_lift count = let a = w.lifts in let b = total_to_most stretch_lift p.rest count in omega (arith, a, b)
+  few_hulls : (count : ℕ) → hulls_to p.rest count ≤ 558446353793941504
+  few_hulls count = let a = w.hulls in let b = total_to_most stretch_hulls p.rest count in omega (arith, a, b)
 
   few_boxes : (count : ℕ) → boxes_to count ≤ 2147483648
   few_boxes count = let a = w.boxes in let b = total_to_most stretch_boxes p.rest count in omega (arith, a, b)
 
-  line_of : (count : ℕ) → Counted (strut_part p.frame.strut) (lifts_to count) (boxes_to count) (reading_to p.frame p.open_boxes p.rest count).line
+  line_of : (count : ℕ) → Counted (strut_part p.frame.strut) (boxes_to count) (reading_to p.frame p.open_boxes p.rest count).line
   line_of count = (to_counted p.frame p.open_boxes p.rest count).line
 
+  levels_of : (count : ℕ) → ReadingLevels (strut_part p.frame.strut) (open_to (length p.open_boxes) p.rest count) (reading_to p.frame p.open_boxes p.rest count)
+  levels_of count = to_levels p.frame p.open_boxes p.rest count w.nested
+
+  reaches_of : (count : ℕ) → ReadingReaches (hulls_to p.rest count) (reading_to p.frame p.open_boxes p.rest count)
+  reaches_of count = to_reaches p.frame p.open_boxes p.rest count w.open_boxes w.rest
+
+  low_of : (count : ℕ) → (reaches_of count).up + (reaches_of count).down ≤ 558446353793941504
+  low_of count = let a = few_hulls count in let e = (reaches_of count).sum in omega (arith, a, e)
+
   parts_can : (count : ℕ) → PartsFit (parts_of p count)
-  parts_can count = parts_fit p.frame.strut w.frame.strut (lifts_to count) (boxes_to count) _ (line_of count)
-      (let a = few_lift count in let b = grows.low in omega (arith, a, b)) (few_boxes count)
+  parts_can count = parts_fit p.frame.strut w.frame.strut (boxes_to count) _ _ _ _ (line_of count) (levels_of count).line (reaches_of count).line (low_of count) (few_boxes count)
 
   shape_can : (count : ℕ) (shape : LineShape) → IsShape (parts_of p count) shape → ShapeWithin shape
-  shape_can count shape is = shape_within p.frame.strut w.frame.strut (lifts_to count) (boxes_to count) _ (line_of count)
-      (let a = few_lift count in let b = grows.low in omega (arith, a, b)) shape is
+  shape_can count shape is = shape_within p.frame.strut w.frame.strut (boxes_to count) _ _ _ _ (line_of count) (levels_of count).line (reaches_of count).line (low_of count) shape is
 
-  height_can : (count : ℕ) (shape : LineShape) → IsShape (parts_of p count) shape → IsWithin (pos (137438953472 + 4 * t)) (shape.above.0 +ℤ shape.below.0)
+  abbrev tall : ℕ → ℕ
+  tall count = 618475290624 + hulls_to p.rest count
+
+  height_can : (count : ℕ) (shape : LineShape) → IsShape (parts_of p count) shape → IsWithin (pos (tall count)) (shape.above.0 +ℤ shape.below.0)
   height_can count shape is =
-      wider (137438953472 + 4 * lifts_to count) (137438953472 + 4 * t) _ (let a = few_lift count in omega (arith, a))
-      (height_near p.frame.strut w.frame.strut (lifts_to count) (boxes_to count) _ (line_of count) shape is)
+      wider (618475290624 + ((reaches_of count).up + (reaches_of count).down)) (tall count) _ (let e = (reaches_of count).sum in omega (arith, e))
+      (height_near p.frame.strut w.frame.strut (boxes_to count) _ _ _ _ (line_of count) (levels_of count).line (reaches_of count).line shape is)
 
-  abbrev tall : ℕ
-  tall = 137438953472 + 4 * t
-
-  ends_within : (r : Row) (f : IsFilled p r) → IsWithin (pos (further m (length f.first.heads) + tall)) r.to
+  ends_within : (r : Row) (f : IsFilled p r) → IsWithin (pos (further m (length f.first.heads) + tall r.reach.count)) r.to
   ends_within r f =
       let far = further m (length f.first.heads) in
-      end_within r.seen far tall r.top (height_of r.extent) p.from r.to (line_within f.first r.headed r.top f.is f.heads f.top_is) (height_can r.reach.count (shape_of r.shifts r.extent) f.shape_is)
+      end_within r.seen far (tall r.reach.count) r.top (height_of r.extent) p.from r.to (line_within f.first r.headed r.top f.is f.heads f.top_is) (height_can r.reach.count (shape_of r.shifts r.extent) f.shape_is)
       (wider m far p.from (omega arith) w.from) f.to_is
 
   filled_within : (r : Row) (f : IsFilled p r)
@@ -193,19 +197,13 @@ module _ (law : PlaceWithin) (t g : ℕ) (grows : Grows t g) (m : ℕ) (p : Posi
 
   -- where a line ends, with all that it met and the line itself
   abbrev under : (r : Row) → IsFilled p r → ℕ
-  under r f = further (further m (length f.first.heads)) (floats_to p.rest r.reach.count) + tall
+  under r f = further (further m (length f.first.heads)) (floats_to p.rest r.reach.count) + tall r.reach.count
 
-  few_wait : (r : Row) (f : IsFilled p r) → further (under r f) (length r.filled.put_off) ≤ m + g * weight_to p.rest r.reach.count
+  few_wait : (r : Row) (f : IsFilled p r) → further (under r f) (length r.filled.put_off) ≤ reach_to m p.rest r.reach.count
   few_wait r f =
       let few = (filled_within r f).1 in
-      wait_by (length f.first.heads) (floats_to p.rest r.reach.count) (length r.filled.put_off) (weight_to p.rest r.reach.count) few (counted p.rest f.first r.reach.count (some_taken r f) f.is)
-    where
-      wait_by : (heads floats waiting weight : ℕ) → waiting ≤ heads + floats → ((heads + floats) + 1) ≤ weight → further (further (further m heads) floats + tall) waiting ≤ m + g * weight
-      wait_by heads floats waiting weight few weigh =
-          let more = mul-le-mul_left g weigh in
-          let each = mul-le-mul_right (heads + floats) grows.least in
-          let high = grows.high in
-          omega (arith, few, more, each, high)
+      let weigh = counted p.rest f.first r.reach.count (some_taken r f) f.is in
+      omega (arith, few, weigh)
 
   under_least : (r : Row) (f : IsFilled p r) → 1125899906842624 ≤ under r f
   under_least r f = let least = w.least in omega (arith, least)
@@ -216,10 +214,13 @@ module _ (law : PlaceWithin) (t g : ℕ) (grows : Grows t g) (m : ℕ) (p : Posi
       record { floats = a.floats; places = a.places; put_off = λ k d lt. absurd (omega (arith, lt)) }
 
   under_end : (r : Row) (f : IsFilled p r) → IsWithin (pos (under r f)) r.to
-  under_end r f = wider (further m (length f.first.heads) + tall) (under r f) r.to (omega arith) (ends_within r f)
+  under_end r f = wider (further m (length f.first.heads) + tall r.reach.count) (under r f) r.to (omega arith) (ends_within r f)
 
-  weight_most : (n : ℕ) → m + g * weight_to p.rest n ≤ 2305843009213693952
-  weight_most n = let few = mul-le-mul_left g (total_to_most weight_of_stretch p.rest n) in omega (arith, few, reach_most)
+  weight_most : (n : ℕ) → reach_to m p.rest n ≤ 2305843009213693952
+  weight_most n =
+      let weight = total_to_most weight_of_stretch p.rest n in
+      let hulls = total_to_most stretch_hulls p.rest n in
+      omega (arith, weight, hulls, reach_most)
 
   later_can : (r : Row) (f : IsFilled p r) → CanMeetAll p.frame r.to p.rest 0 r.filled.put_off (emptied r.filled)
   later_can r f =
@@ -236,27 +237,27 @@ module _ (law : PlaceWithin) (t g : ℕ) (grows : Grows t g) (m : ℕ) (p : Posi
   pub can_row : CanRow p
   can_row = record {
     frame = frame_fits p.frame w.frame;
-    from = position m p.from (omega (arith, most)) w.from;
+    from = position m p.from (omega (arith, reach_most)) w.from;
     heads = λ first is. heads_can first is;
     rooms = λ first headed is meets. rooms_can first headed is meets;
     fills = λ first headed top is meets top_is. fills_can first headed top is meets top_is;
     parts = λ count. parts_can count;
-    height = λ count shape is. position tall _ (let low = grows.low in omega (arith, low)) (height_can count shape is);
+    height = λ count shape is. position (tall count) _ (let low = few_hulls count in omega (arith, low)) (height_can count shape is);
     to = λ r f. to_fits r f;
     later = λ r f. later_can r f;
   }
 
-  later_within : (r : Row) → IsRow p r → StateWithin (m + g * weight_to p.rest r.reach.count) r.after
+  later_within : (r : Row) → IsRow p r → StateWithin (reach_to m p.rest r.reach.count) r.after
   later_within r row =
       let f = row.filled in
       let a = meets_within law (under r f) p.frame r.to p.rest 0 r.filled.put_off (emptied r.filled) r.after (length r.filled.put_off) (under_least r f) (under_end r f) (filled_within r f).0.put_off (under_state r f) row.later in
-      state_wider (further (under r f) (length r.filled.put_off)) (m + g * weight_to p.rest r.reach.count) r.after (few_wait r f) a.0
+      state_wider (further (under r f) (length r.filled.put_off)) (reach_to m p.rest r.reach.count) r.after (few_wait r f) a.0
 
-  pub row_within : (r : Row) → IsRow p r → RowWithin (pos (m + g * weight_to p.rest r.reach.count)) (ended_of r)
+  pub row_within : (r : Row) → IsRow p r → RowWithin (pos (reach_to m p.rest r.reach.count)) (ended_of r)
   row_within r row =
       let f = row.filled in
       let h = length f.first.heads in
-      let far = m + g * weight_to p.rest r.reach.count in
+      let far = reach_to m p.rest r.reach.count in
       let wait = few_wait r f in
       let least = w.least in
       let filled = filled_within r f in
@@ -276,9 +277,9 @@ module _ (law : PlaceWithin) (t g : ℕ) (grows : Grows t g) (m : ℕ) (p : Posi
   indent_used true = (omega (arith, ints), omega (arith, ints))
   indent_used false = w.frame.indent
 
-  pub next_within : (r : Row) → IsRow p r → PositionWithin t (m + g * weight_to p.rest r.reach.count) (after_row p r)
+  pub next_within : (r : Row) → IsRow p r → PositionWithin (reach_to m p.rest r.reach.count) (after_row p r)
   next_within r row =
-      let far = m + g * weight_to p.rest r.reach.count in
+      let far = reach_to m p.rest r.reach.count in
       let least = w.least in
       let spread = w.spread in
       let less = drop_less (λ (s : Stretch). spread_of_parts p.frame.tab.0 s.parts) p.rest r.reach.count in
@@ -286,7 +287,9 @@ module _ (law : PlaceWithin) (t g : ℕ) (grows : Grows t g) (m : ℕ) (p : Posi
         least = omega (arith, least);
         frame = record { left = w.frame.left; right = w.frame.right; strut = w.frame.strut; indent = indent_used r.seen };
         from = (row_within r row).to;
-        lifts = (let a = (to_counted p.frame p.open_boxes p.rest r.reach.count).open_lifts in let b = total_split stretch_lift p.rest r.reach.count in let c = w.lifts in omega (arith, a, b, c));
+        open_boxes = (reaches_of r.reach.count).open_boxes;
+        nested = subst (λ (n : ℕ). AreNested n (drop r.reach.count p.rest)) (sym (levels_of r.reach.count).count) (nested_drop (length p.open_boxes) p.rest r.reach.count w.nested);
+        hulls = (let less = drop_less stretch_hulls p.rest r.reach.count in let a = w.hulls in omega (arith, less, a));
         boxes = (let a = (to_counted p.frame p.open_boxes p.rest r.reach.count).open_count in let b = total_split stretch_boxes p.rest r.reach.count in let c = w.boxes in omega (arith, a, b, c));
         rest = All-drop StretchWithin r.reach.count p.rest w.rest;
         spread = omega (arith, spread, less);
@@ -295,8 +298,8 @@ module _ (law : PlaceWithin) (t g : ℕ) (grows : Grows t g) (m : ℕ) (p : Posi
       }
 
 -- what stands after some lines
-pub record LaidWithin (t m : ℕ) (l : Laid) : Type 0 where
-  pub position : PositionWithin t m l.position
+pub record LaidWithin (m : ℕ) (l : Laid) : Type 0 where
+  pub position : PositionWithin m l.position
   pub rows : All (RowWithin (pos m)) (map ended_of l.rows)
 
 pub row_wider : (n m : ℕ) → n ≤ m → (e : Ended) → RowWithin (pos n) e → RowWithin (pos m) e
@@ -305,24 +308,25 @@ row_wider n m le e is = record { top = wider n m _ le is.top; start = wider n m 
 abbrev laid_with : List Row → Row → Position → Laid
 laid_with rows r p = record { rows = rows ++ r ∷ []; position = after_row p r }
 
-module _ (law : PlaceWithin) (t g : ℕ) (grows : Grows t g) where
-  added_within : (m : ℕ) (a b : Laid) (k : ℕ) → LaidWithin t m a → reach_from g m a.position.rest ≤ 2305843009213693952 → AddsRow k a b
-      → (n : ℕ) × LaidWithin t n b × (reach_from g n b.position.rest ≡ reach_from g m a.position.rest)
+module _ (law : PlaceWithin) where
+  added_within : (m : ℕ) (a b : Laid) (k : ℕ) → LaidWithin m a → reach_from m a.position.rest ≤ 2305843009213693952 → AddsRow k a b
+      → (n : ℕ) × LaidWithin n b × (reach_from n b.position.rest ≡ reach_from m a.position.rest)
   added_within m a b k is most s =
       let p = a.position in
       let r = s.row in
-      let n = m + g * total_to weight_of_stretch p.rest r.reach.count in
-      let next = next_within law t g grows m p is.position most r s.is in
+      let n = reach_to m p.rest r.reach.count in
+      let next = next_within law m p is.position most r s.is in
       let older = All-weaker (RowWithin (pos m)) (RowWithin (pos n)) (row_wider m n (omega arith)) (map ended_of a.rows) is.rows in
-      let rows = All-push (RowWithin (pos n)) (map ended_of a.rows) (ended_of r) older (row_within law t g grows m p is.position most r s.is) in
-      let all : LaidWithin t n (laid_with a.rows r p) = record { position = next; rows = subst (All (RowWithin (pos n))) (sym (map_append_one a.rows r)) rows } in
-      let same = ap (λ (w : ℕ). g * w) (total_split weight_of_stretch p.rest r.reach.count) in
-      let e : reach_from g n (drop r.reach.count p.rest) ≡ reach_from g m p.rest = omega (arith, same) in
-      (n, subst (LaidWithin t n) (sym s.after) all, ap (λ (l : Laid). reach_from g n l.position.rest) s.after ∙ e)
+      let rows = All-push (RowWithin (pos n)) (map ended_of a.rows) (ended_of r) older (row_within law m p is.position most r s.is) in
+      let all : LaidWithin n (laid_with a.rows r p) = record { position = next; rows = subst (All (RowWithin (pos n))) (sym (map_append_one a.rows r)) rows } in
+      let weight = total_split weight_of_stretch p.rest r.reach.count in
+      let hulls = total_split stretch_hulls p.rest r.reach.count in
+      let e : reach_from n (drop r.reach.count p.rest) ≡ reach_from m p.rest = omega (arith, weight, hulls) in
+      (n, subst (LaidWithin n) (sym s.after) all, ap (λ (l : Laid). reach_from n l.position.rest) s.after ∙ e)
 
-  pub rows_within : (m n : ℕ) (a b : Laid) → LaidWithin t m a → reach_from g m a.position.rest ≤ 2305843009213693952 → RowsTo n a b
-      → (k : ℕ) × LaidWithin t k b × (reach_from g k b.position.rest ≡ reach_from g m a.position.rest)
-  rows_within m zero a b is most c = (m, subst (LaidWithin t m) (sym c) is, ap (λ (l : Laid). reach_from g m l.position.rest) c)
+  pub rows_within : (m n : ℕ) (a b : Laid) → LaidWithin m a → reach_from m a.position.rest ≤ 2305843009213693952 → RowsTo n a b
+      → (k : ℕ) × LaidWithin k b × (reach_from k b.position.rest ≡ reach_from m a.position.rest)
+  rows_within m zero a b is most c = (m, subst (LaidWithin m) (sym c) is, ap (λ (l : Laid). reach_from m l.position.rest) c)
   rows_within m (suc n) a b is most c =
       let before = rows_within m n a c.0 is most c.1 in
       let e = before.2 in
@@ -330,8 +334,8 @@ module _ (law : PlaceWithin) (t g : ℕ) (grows : Grows t g) where
       (after.0, after.1, after.2 ∙ before.2)
 
   -- all that the lines of a container can give is within bounds
-  pub can_lay : (m : ℕ) (p : Position) → PositionWithin t m p → reach_from g m p.rest ≤ 2305843009213693952 → CanLay p
+  pub can_lay : (m : ℕ) (p : Position) → PositionWithin m p → reach_from m p.rest ≤ 2305843009213693952 → CanLay p
   can_lay m p is most n mid rows some =
       let w = rows_within m n (record { rows = []; position = p }) mid (record { position = is; rows = λ k d lt. absurd (omega (arith, lt)) }) most rows in
       let e = w.2 in
-      can_row law t g grows w.0 mid.position w.1.position (omega (arith, e, most))
+      can_row law w.0 mid.position w.1.position (omega (arith, e, most))

@@ -37,9 +37,9 @@ pub record AreLines (c : LineContentValue) (left right : Unit) (top : ℤ) (befo
   pub end : laid.position.from ≡ v.end.0
   pub floats : laid.position.state.floats ≡ v.floats
 
--- how much further than what is given lines reach at most: 2^38 units for each weight of the content
+-- how much further than what is given lines reach at most: 2^36 units for each weight of the content
 abbrev pub growth : LineContentValue → ℕ
-growth c = 2 ^ 38 * lines_weight c
+growth c = 2 ^ 36 * lines_weight c
 
 -- a line, with its room, its extent and the baselines of its parts
 pub record RowWithin (m : ℤ) (e : Ended) : Type 0 where
@@ -48,7 +48,7 @@ pub record RowWithin (m : ℤ) (e : Ended) : Type 0 where
   pub end : IsWithin m e.reach.end.0
   pub above : IsWithin (pos (2 ^ 59)) e.extent.above.0
   pub below : IsWithin (pos (2 ^ 59)) e.extent.below.0
-  pub shifts : All (λ (s : Unit). IsWithin (pos (2 ^ 59)) s.0) e.shifts
+  pub shifts : All (λ (s : Unit). IsWithin (pos (2 ^ 60)) s.0) e.shifts
   pub to : IsWithin m e.to.0
 
 pub record NodePlaceWithin (m : ℤ) (p : NodePlace) : Type 0 where

@@ -124,7 +124,7 @@ inside_fits left o inset own = record {
   height = own.height;
 }
 
-pub are_wrapper_boxes : (i : TableInput) (rows : Tracks) (boxes : List FlowBox) → boxes ≡ boxes_in_wrapper i rows → AllFit boxes → weight boxes (length boxes) ≤ 8388608 → AreFlowBoxes boxes
+pub are_wrapper_boxes : (i : TableInput) (rows : Tracks) (boxes : List FlowBox) → boxes ≡ boxes_in_wrapper i rows → AllFit boxes → weight boxes (length boxes) ≤ 16711680 → AreFlowBoxes boxes
 are_wrapper_boxes i rows boxes are fit light = record {
   is_tree = rw are (is_wrapper_tree i rows);
   light = light;

@@ -3,3 +3,4 @@ pub mod Widened
 pub mod Extents
 pub mod OneShape
 pub mod NearShapes
+pub mod LowShapes

@@ -5,5 +5,6 @@ pub mod LineShape
 pub mod PartsFit
 pub mod ShiftLists
 pub mod Near
+pub mod Low
 pub mod Laws
 pub mod Pass

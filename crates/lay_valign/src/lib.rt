@@ -3,7 +3,8 @@
 //!
 //! Contracts cite `IsShape` of `specs/LineShape.antt`, which stands on `AreSubtrees` of
 //! `specs/Subtrees.antt`. A line has one shape (`specs/Laws.antt`), which reaches
-//! no further than its parts can lift it (`specs/Near.antt`).
+//! no further than its parts can lift it (`specs/Near.antt`), nor than they reach where they stand in
+//! each other so deep (`specs/Low.antt`).
 #![tactic(auto)]
 
 mod laws;
@@ -16,7 +17,7 @@ mod shift_list;
 mod subtrees;
 mod sums;
 
-pub use laws::{one_shape, shapes_are_near};
+pub use laws::{one_shape, shapes_are_low, shapes_are_near};
 pub use line::align;
 pub use parts::{LineShape, Part, Shift};
 pub use shift_list::ShiftList;

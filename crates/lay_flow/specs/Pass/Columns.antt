@@ -15,10 +15,10 @@ use Rattle.lay_blocks.specs.BlockSizes.{IsBoxSize, IsNear}
 use Rattle.lay_blocks.specs.ContextFlow.{AreContextPlaces}
 use Rattle.lay_blocks.specs.FlowPlaces.{AreNearRows, border_box, box_place_at, own_place, corner_at, AreCorners}
 
--- a place at most 2^59 + 2^58 units away
+-- a place at most 2^60 - 2^50 units away
 pub record IsFarPlace (p : Place) : Type 0 where
-  pub x : IsWithin (pos 864691128455135232) p.x.0
-  pub y : IsWithin (pos 864691128455135232) p.y.0
+  pub x : IsWithin (pos 1151795604700004352) p.x.0
+  pub y : IsWithin (pos 1151795604700004352) p.y.0
 
 -- the columns that a pass leaves are those of the context's flow, with these spots
 pub record AreColumnsOf (boxes : List FlowBox) (out : FlowColumns) : Type 0 where

@@ -2,7 +2,7 @@ use Rattle.std.proofs.Common.{◌≡◌, ◌∙◌, ◌∷◌, ◌+◌, drop, ru
 use Rattle.std.proofs.lemmas.List.{drop_more}
 use Rattle.lay_line_content.specs.declared.content.Stretch.{Stretch}
 use Rattle.lay_line_content.specs.Budgets.{Leaves, need_of_stretch}
-use Rattle.lay_line_content.specs.LineContents.{StretchWithin, boxes_of, lift_of, spread_of, weight_of}
+use Rattle.lay_line_content.specs.LineContents.{StretchWithin, boxes_of, hulls_of, spread_of, weight_of}
 use Rattle.lay_line_content.proofs.AllLists.{all_more, all_of}
 use Rattle.lay_line_content.proofs.bounds.left_after.Goals as goal
 
@@ -13,13 +13,13 @@ returns-in_err-left-clause-none c =
     let k = c.loop-k.k in
     let more : drop k ss ≡ s ∷ drop (k + 1) ss = drop_more ss k s (search rules) ∙ ap (λ x. x ∷ drop (k + 1) ss) (sym c.index-stretches-k.is) in
     let spread = ap (spread_of c.args.tab.0) more in
-    let lift = ap lift_of more in
+    let hulls = ap hulls_of more in
     let boxes = ap boxes_of more in
     let weight = ap weight_of more in
     let old = c.loop-k.invariant in
     λ _ all covers. c.in_err-left.ensures.none (search rules) (subst (λ (x : Stretch). StretchWithin x) (sym c.index-stretches-k.is) (all k s (search rules))) record {
       spread = omega (arith, spread, old.spread, covers.spread);
-      lift = omega (arith, lift, old.lift, covers.lift);
+      hulls = omega (arith, hulls, old.hulls, covers.hulls);
       boxes = omega (arith, boxes, old.boxes, covers.boxes);
       weight = omega (arith, weight, old.weight, covers.weight);
     }
@@ -31,7 +31,7 @@ loop-k-preserved c =
     let k = c.loop-k.k in
     let more : drop k ss ≡ s ∷ drop (k + 1) ss = drop_more ss k s (search rules) ∙ ap (λ x. x ∷ drop (k + 1) ss) (sym c.index-stretches-k.is) in
     let spread = ap (spread_of c.args.tab.0) more in
-    let lift = ap lift_of more in
+    let hulls = ap hulls_of more in
     let boxes = ap boxes_of more in
     let weight = ap weight_of more in
     let old = c.loop-k.invariant in
@@ -39,7 +39,7 @@ loop-k-preserved c =
     let within : StretchWithin s = c.in_ok-left.ensures.within in
     record {
       spread = omega (arith, spread, old.spread, now.spread);
-      lift = omega (arith, lift, old.lift, now.lift);
+      hulls = omega (arith, hulls, old.hulls, now.hulls);
       boxes = omega (arith, boxes, old.boxes, now.boxes);
       weight = omega (arith, weight, old.weight, now.weight);
       within = all_more StretchWithin ss k s old.within (subst (λ (x : Stretch). StretchWithin x) c.index-stretches-k.is within);

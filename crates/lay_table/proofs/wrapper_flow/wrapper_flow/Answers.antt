@@ -7,7 +7,7 @@ use Rattle.lay_table.proofs.wrapper_flow.wrapper_flow.Goals as goal
 pub new-requires : goal.new-requires
 new-requires c =
     let made = c.in_ok-boxes.ensures {u = tt} in
-    let light : weight c.in_ok-boxes.boxes.items (length c.in_ok-boxes.boxes.items) ≤ 8388608 = search rules in
+    let light : weight c.in_ok-boxes.boxes.items (length c.in_ok-boxes.boxes.items) ≤ 16711680 = search rules in
     are_wrapper_boxes c.args.input.now c.args.rows.now c.in_ok-boxes.boxes.items made.boxes made.fit light
 
 pub returns-clause-count : goal.returns-clause-count
