@@ -33,10 +33,14 @@ abbrev pub first_edit : Spot → Items → Result (Data × Items) InputFault
 first_edit place no_items = Err (Missing Edits place)
 first_edit place (item first rest) = Ok (first, rest)
 
+-- these edits with the one that a value is
+abbrev pub with_edit : Spot → List Edit → Data → Result (List Edit) InputFault
+with_edit place before d = map_read (λ e. before ++ e ∷ []) (edit_of place d)
+
 -- these edits and those of the items
 abbrev pub edits_from : Spot → List Edit → Items → Result (List Edit) InputFault
 edits_from place before no_items = Ok before
-edits_from place before (item d ds) = then_read (edit_of place d) (λ e. edits_from place (before ++ e ∷ []) ds)
+edits_from place before (item d ds) = then_read (with_edit place before d) (λ longer. edits_from place longer ds)
 
 -- the edits of a list, whose first is read before the others
 abbrev pub edits_in : Spot → Data × Items → Result (List Edit) InputFault
