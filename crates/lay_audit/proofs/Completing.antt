@@ -1,22 +1,23 @@
--- Each history that is read can be completed: an edit that is left is refused for its fault, or for want of memory, as is
+-- Each history that is read can be completed: a list of edits that is left is refused for its first fault, or for want of memory, as is
 -- what is left to be shown; then the present version is published, where it isn't.
 use Rattle.std.proofs.Common.{◌≡◌, ℕ, ◌+◌, ◌<◌, ◌≤◌, ◌*◌, ◌^◌, ◌==◌, zero, suc, List, [], ◌∷◌, ◌++◌, length, fold, Option, Some, None, IfSome, refl, sym, ap, ◌∙◌, subst, arith, append_assoc, append-nil, slice_get, slice_index_or, slice_set, inl, inr}
 use Rattle.std.specs.List.{flat_map}
 use Rattle.std.proofs.lemmas.Bool.{cases_eq, cases_lt}
 use Rattle.std.proofs.lemmas.List.{get_or-set_other, get_or-set_same}
 use Rattle.lay_doc.specs.Document.{Document}
-use Rattle.lay_doc.specs.Edits.{after, fault}
+use Rattle.lay_edits.specs.EditLists.{IsFirst, after_all, first}
+use Rattle.lay_edits.proofs.Firsts.{first_is}
 use Rattle.lay_doc.specs.declared.edit.EditFault.{EditFault}
 use Rattle.lay_doc.specs.declared.edit.Edit.{Edit as Change}
-use Rattle.lay_doc.specs.declared.command.Cmd.{Cmd}
-use Rattle.lay_doc.specs.declared.command.Cmd.TheVariants as command
-use Rattle.lay_doc.specs.declared.command.Reply.{Reply}
-use Rattle.lay_doc.specs.declared.command.Reply.TheVariants.{Refused, NoMemory}
-use Rattle.lay_doc.specs.declared.history.Entry.{Entry}
-use Rattle.lay_doc.specs.declared.history.Entry.TheVariants.{Edit, Publish, Latest, Sync}
+use Rattle.lay_edits.specs.declared.command.Cmd.{Cmd}
+use Rattle.lay_edits.specs.declared.command.Cmd.TheVariants as command
+use Rattle.lay_edits.specs.declared.command.Reply.{Reply}
+use Rattle.lay_edits.specs.declared.command.Reply.TheVariants.{Refused, NoMemory}
+use Rattle.lay_edits.specs.declared.history.Entry.{Entry}
+use Rattle.lay_edits.specs.declared.history.Entry.TheVariants.{Edit, Publish, Latest, Sync}
 use Rattle.lay_face.specs.FaceValue.{FaceValue}
 use Rattle.lay_frag.specs.Lines.{tree_text}
-use Rattle.lay_history.specs.Histories.{accepted, edit_in, last_or, version_in}
+use Rattle.lay_history.specs.Histories.{accepted, list_in, last_or, version_in}
 use Rattle.lay_history.specs.Trees.{PublishedTreeValue, tree_at}
 use Rattle.lay_history.proofs.Lists.{not_none, some_is, get_some}
 use Rattle.lay_report.specs.Report.{run_report}
@@ -36,15 +37,16 @@ use Rattle.lay_audit.proofs.VerdictLaws.{CanGoOn}
 record IsQuiet (p : PresentValue) (editor index : ℕ) (c : Cmd) : Type 0 where
   reply : Reply
   right : Answers p c reply
-  no_edit : edit_in (entry_of editor index c reply) ≡ []
+  no_edit : list_in (entry_of editor index c reply) ≡ []
   no_version : version_in (entry_of editor index c reply) ≡ []
 
-quiet_edit : (p : PresentValue) (editor index : ℕ) (edit : Change) (o : Option EditFault) → fault p.document edit ≡ o → IsQuiet p editor index (command.Edit edit)
-quiet_edit p editor index edit None e = record { reply = NoMemory; right = e; no_edit = refl; no_version = refl }
-quiet_edit p editor index edit (Some f) e = record { reply = Refused f; right = e; no_edit = refl; no_version = refl }
+quiet_edits : (p : PresentValue) (editor index : ℕ) (edits : List Change) (o : Option (ℕ × EditFault)) → first p.document edits ≡ o → IsQuiet p editor index (command.Edits edits)
+quiet_edits p editor index edits None e =
+    record { reply = NoMemory; right = λ one. subst (IsFirst p.document edits) e (first_is p.document edits) 0; no_edit = refl; no_version = refl }
+quiet_edits p editor index edits (Some (k, f)) e = record { reply = Refused k f; right = e; no_edit = refl; no_version = refl }
 
 quiet : (p : PresentValue) (editor index : ℕ) (c : Cmd) → IsQuiet p editor index c
-quiet p editor index (command.Edit edit) = quiet_edit p editor index edit (fault p.document edit) refl
+quiet p editor index (command.Edits edits) = quiet_edits p editor index edits (first p.document edits) refl
 quiet p editor index command.Latest = record { reply = NoMemory; right = tt; no_edit = refl; no_version = refl }
 quiet p editor index command.Sync = record { reply = NoMemory; right = tt; no_edit = refl; no_version = refl }
 
@@ -80,8 +82,8 @@ one_answer basis h p t place c played at q = record {
     played = played_more basis h p now t (step.Answer place q.reply) (entry_of (suc place) (slice_index_or p.next place 0) c q.reply) q.no_version played
         (record { command = c; command_is = at; answers = q.right; entry_is = refl })
         (record {
-          document_is = ap (fold after p.document) (sym q.no_edit);
-          count_is = (let l : length (edit_in (entry_of (suc place) (slice_index_or p.next place 0) c q.reply)) ≡ 0 = ap (λ x. length x) q.no_edit in omega (arith, l));
+          document_is = ap (fold after_all p.document) (sym q.no_edit);
+          count_is = (let l : length (list_in (entry_of (suc place) (slice_index_or p.next place 0) c q.reply)) ≡ 0 = ap (λ x. length x) q.no_edit in omega (arith, l));
           last_is = ap (last_or p.last) (sym q.no_version);
           next_is = refl;
         });

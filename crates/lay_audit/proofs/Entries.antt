@@ -1,13 +1,16 @@
 -- The lines of entries: which entry a line tells.
 use Rattle.std.proofs.Common.{◌≡◌, ℕ, ◌+◌, ◌<◌, ◌≤◌, ◌^◌, zero, suc, List, [], ◌∷◌, ◌++◌, length, Option, Some, None, codes, refl, sym, ap, ◌∙◌, subst, arith, append_assoc, slice_index_or, slice_get}
 use Rattle.std.specs.Fmt.{decimal}
+use Rattle.std.specs.List.{All}
+use Rattle.std.proofs.lemmas.Option.{get_or_from_slice_get}
 use Rattle.lay_doc.specs.declared.edit.Edit.{Edit as Change}
-use Rattle.lay_doc.specs.declared.command.Cmd.{Cmd}
-use Rattle.lay_doc.specs.declared.command.Cmd.TheVariants as command
-use Rattle.lay_doc.specs.declared.command.Reply.{Reply}
-use Rattle.lay_doc.specs.declared.command.Reply.TheVariants.{Accepted, Refused, Shown, NoMemory}
-use Rattle.lay_doc.specs.declared.history.Entry.{Entry}
-use Rattle.lay_doc.specs.declared.history.Entry.TheVariants.{Edit, Publish, Latest, Sync}
+use Rattle.lay_edits.proofs.Firsts.{first_within}
+use Rattle.lay_edits.specs.declared.command.Cmd.{Cmd}
+use Rattle.lay_edits.specs.declared.command.Cmd.TheVariants as command
+use Rattle.lay_edits.specs.declared.command.Reply.{Reply}
+use Rattle.lay_edits.specs.declared.command.Reply.TheVariants.{Accepted, Refused, Shown, NoMemory}
+use Rattle.lay_edits.specs.declared.history.Entry.{Entry}
+use Rattle.lay_edits.specs.declared.history.Entry.TheVariants.{Edit, Publish, Latest, Sync}
 use Rattle.lay_history.specs.Laws.{ShowsSame}
 use Rattle.lay_history.proofs.Lists.{not_none, some_is}
 use Rattle.lay_report.specs.Laws.{IsEntryWithin, IsReplyWithin}
@@ -18,7 +21,7 @@ use Rattle.lay_report.proofs.Telling.{entry_same}
 use Rattle.lay_audit.specs.declared.step.Step.{Step}
 use Rattle.lay_audit.specs.declared.step.Step.TheVariants as step
 use Rattle.lay_audit.specs.Lines.{behind_line, first_line}
-use Rattle.lay_audit.specs.Presents.{Answers, IsAnswer, IsPresentWithin, IsStep, PresentValue, entry_of, next_command}
+use Rattle.lay_audit.specs.Presents.{Answers, AreCommandsWithin, IsAnswer, IsCommandWithin, IsPresentWithin, IsStep, PresentValue, entry_of, next_command}
 use Rattle.lay_audit.specs.WholeLines.{AreLines, LacksEnd, ended}
 use Rattle.lay_audit.proofs.LineFacts.{first_ended, behind_ended, line_parts, one_line}
 use Rattle.lay_audit.proofs.NextEntries.{index_within, place_within}
@@ -64,33 +67,41 @@ not_final (Sync a i r) v s t e = let x : 115 ≡ 102 = ap first_byte e in omega 
 abbrev pub IsLastWithin : PresentValue → Type 0
 IsLastWithin p = (v : ℕ) → p.last ≡ Some v → v < 2 ^ 64
 
-reply_edit : (p : PresentValue) (edit : Change) (r : Reply) → p.count + 1 < 2 ^ 64 → Answers p (command.Edit edit) r → IsReplyWithin r
-reply_edit p edit (Accepted v) few is = let e = is.1 in omega (arith, few, e)
-reply_edit p edit (Refused f) few is = tt
-reply_edit p edit (Shown v) few is = absurd is
-reply_edit p edit NoMemory few is = tt
+reply_edits : (p : PresentValue) (edits : List Change) (r : Reply) → p.count + 1 < 2 ^ 64 → length edits < 2 ^ 64 → Answers p (command.Edits edits) r
+    → IsReplyWithin (length edits) r
+reply_edits p edits (Accepted v) few short is = let e = is.1 in omega (arith, few, e)
+reply_edits p edits (Refused k f) few short is = let lt = first_within p.document edits k f is in (lt, omega (arith, lt, short))
+reply_edits p edits (Shown v) few short is = absurd is
+reply_edits p edits NoMemory few short is = tt
 
-reply_latest : (p : PresentValue) (r : Reply) → ((v : ℕ) → p.last ≡ Some v → v < 2 ^ 64) → Answers p command.Latest r → IsReplyWithin r
+reply_latest : (p : PresentValue) (r : Reply) → ((v : ℕ) → p.last ≡ Some v → v < 2 ^ 64) → Answers p command.Latest r → IsReplyWithin 0 r
 reply_latest p (Accepted v) few is = absurd is
-reply_latest p (Refused f) few is = absurd is
+reply_latest p (Refused k f) few is = absurd is
 reply_latest p (Shown v) few is = few v is
 reply_latest p NoMemory few is = tt
 
-reply_sync : (p : PresentValue) (r : Reply) → ((v : ℕ) → p.last ≡ Some v → v < 2 ^ 64) → Answers p command.Sync r → IsReplyWithin r
+reply_sync : (p : PresentValue) (r : Reply) → ((v : ℕ) → p.last ≡ Some v → v < 2 ^ 64) → Answers p command.Sync r → IsReplyWithin 0 r
 reply_sync p (Accepted v) few is = absurd is
-reply_sync p (Refused f) few is = absurd is
+reply_sync p (Refused k f) few is = absurd is
 reply_sync p (Shown v) few is = few v is.0
 reply_sync p NoMemory few is = tt
 
-entry_within : (scripts : List (List Cmd)) (p : PresentValue) (editor index : ℕ) (c : Cmd) (r : Reply) → IsPresentWithin scripts p → IsLastWithin p
+entry_within : (scripts : List (List Cmd)) (p : PresentValue) (editor index : ℕ) (c : Cmd) (r : Reply) → IsPresentWithin scripts p → IsLastWithin p → IsCommandWithin c
     → editor < 2 ^ 64 → index < 2 ^ 64 → Answers p c r → IsEntryWithin (entry_of editor index c r)
-entry_within scripts p editor index (command.Edit edit) r few last a b is = (a, b, reply_edit p edit r few.count is)
-entry_within scripts p editor index command.Latest r few last a b is = (a, b, reply_latest p r last is)
-entry_within scripts p editor index command.Sync r few last a b is = (a, b, reply_sync p r last is)
+entry_within scripts p editor index (command.Edits edits) r few last short a b is = (a, b, reply_edits p edits r few.count short is)
+entry_within scripts p editor index command.Latest r few last short a b is = (a, b, reply_latest p r last is)
+entry_within scripts p editor index command.Sync r few last short a b is = (a, b, reply_sync p r last is)
+
+-- the next command is one of its script
+next_within : (scripts : List (List Cmd)) (p : PresentValue) (place : ℕ) (c : Cmd) → All AreCommandsWithin scripts → next_command scripts p place ≡ Some c → IsCommandWithin c
+next_within scripts p place c lists is =
+    let script = lists place [] (place_within scripts p place c is) in
+    subst IsCommandWithin (get_or_from_slice_get (slice_index_or scripts place []) (slice_index_or p.next place 0) c c is)
+    (script (slice_index_or p.next place 0) c (index_within scripts p place c is))
 
 step_within : (scripts : List (List Cmd)) (p : PresentValue) (s : Step) (e : Entry) → IsPresentWithin scripts p → IsLastWithin p → IsStep scripts p s e → IsEntryWithin e
 step_within scripts p (step.Answer place reply) e few last is =
-    subst IsEntryWithin (sym is.entry_is) (entry_within scripts p (suc place) (slice_index_or p.next place 0) is.command reply few last
+    subst IsEntryWithin (sym is.entry_is) (entry_within scripts p (suc place) (slice_index_or p.next place 0) is.command reply few last (next_within scripts p place is.command few.lists is.command_is)
     (let lt = place_within scripts p place is.command is.command_is in let m = few.editors in omega (arith, lt, m)) (few.indices place) is.answers)
 step_within scripts p step.Publish e few last is = subst IsEntryWithin (sym is.1) (let c = few.count in omega (arith, c))
 
@@ -102,23 +113,23 @@ record SameAnswer (a b i j : ℕ) (r s : Reply) : Type 0 where
   replies : r ≡ s
 
 same_parts : (a i b j : ℕ) (c d : Cmd) (r s : Reply) → ShowsSame (entry_of a i c r) (entry_of b j d s) → SameAnswer a b i j r s
-same_parts a i b j (command.Edit f) (command.Edit g) r s same = record { editors = same.0; indices = same.1; replies = same.2 }
-same_parts a i b j (command.Edit f) command.Latest r s same = absurd same
-same_parts a i b j (command.Edit f) command.Sync r s same = absurd same
-same_parts a i b j command.Latest (command.Edit g) r s same = absurd same
+same_parts a i b j (command.Edits es) (command.Edits fs) r s same = record { editors = same.0; indices = same.1; replies = same.2 }
+same_parts a i b j (command.Edits es) command.Latest r s same = absurd same
+same_parts a i b j (command.Edits es) command.Sync r s same = absurd same
+same_parts a i b j command.Latest (command.Edits fs) r s same = absurd same
 same_parts a i b j command.Latest command.Latest r s same = record { editors = same.0; indices = same.1; replies = same.2 }
 same_parts a i b j command.Latest command.Sync r s same = absurd same
-same_parts a i b j command.Sync (command.Edit g) r s same = absurd same
+same_parts a i b j command.Sync (command.Edits fs) r s same = absurd same
 same_parts a i b j command.Sync command.Latest r s same = absurd same
 same_parts a i b j command.Sync command.Sync r s same = record { editors = same.0; indices = same.1; replies = same.2 }
 
 not_publication : (a i v : ℕ) (c : Cmd) (r : Reply) → ShowsSame (entry_of a i c r) (Publish v) → ⊥
-not_publication a i v (command.Edit f) r same = same
+not_publication a i v (command.Edits es) r same = same
 not_publication a i v command.Latest r same = same
 not_publication a i v command.Sync r same = same
 
 no_publication : (a i v : ℕ) (c : Cmd) (r : Reply) → ShowsSame (Publish v) (entry_of a i c r) → ⊥
-no_publication a i v (command.Edit f) r same = same
+no_publication a i v (command.Edits es) r same = same
 no_publication a i v command.Latest r same = same
 no_publication a i v command.Sync r same = same
 

@@ -15,3 +15,4 @@ mod Judging
 mod Numbers
 mod Rooms
 mod Taking
+pub mod OnlyReplies

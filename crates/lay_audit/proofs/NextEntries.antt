@@ -3,16 +3,16 @@ use Rattle.std.proofs.Common.{◌≡◌, ℕ, ◌+◌, ◌<◌, ◌≤◌, ◌^�
 use Rattle.std.proofs.lemmas.Bool.{cases_eq, cases_lt}
 use Rattle.std.proofs.lemmas.List.{get_or-set_other, get_or-set_same, length-set}
 use Rattle.lay_doc.specs.Document.{Document}
-use Rattle.lay_doc.specs.Edits.{after}
+use Rattle.lay_edits.specs.EditLists.{after_all}
 use Rattle.lay_doc.specs.declared.edit.Edit.{Edit as Change}
-use Rattle.lay_doc.specs.declared.command.Cmd.{Cmd}
-use Rattle.lay_doc.specs.declared.command.Cmd.TheVariants as command
-use Rattle.lay_doc.specs.declared.command.Reply.{Reply}
-use Rattle.lay_doc.specs.declared.history.Entry.{Entry}
-use Rattle.lay_doc.specs.declared.history.Entry.TheVariants.{Edit, Publish, Latest, Sync}
+use Rattle.lay_edits.specs.declared.command.Cmd.{Cmd}
+use Rattle.lay_edits.specs.declared.command.Cmd.TheVariants as command
+use Rattle.lay_edits.specs.declared.command.Reply.{Reply}
+use Rattle.lay_edits.specs.declared.history.Entry.{Entry}
+use Rattle.lay_edits.specs.declared.history.Entry.TheVariants.{Edit, Publish, Latest, Sync}
 use Rattle.lay_history.specs.Calls.{AnswersScripts, Call, call_in, calls, calls_of, script_calls, script_of}
-use Rattle.lay_history.specs.Histories.{accepted, edit_in, last_or, last_published, published, version_in}
-use Rattle.lay_history.specs.Legal.{AnswersEdit, AnswersLatest, AnswersSync, IsLegal, MayFollow, doc_after}
+use Rattle.lay_history.specs.Histories.{accepted, list_in, last_or, last_published, published, version_in}
+use Rattle.lay_history.specs.Legal.{AnswersEdits, AnswersLatest, AnswersSync, IsLegal, MayFollow, doc_after}
 use Rattle.lay_history.proofs.Lists.{not_none, take_front, take_whole}
 use Rattle.lay_history.proofs.OneMore.{accepted_more, doc_after_more, legal_more, published_more}
 use Rattle.lay_history.proofs.Versions.{all_below, last_of_all}
@@ -53,10 +53,10 @@ answer_is basis h rest p (suc place) index c reply present answers is right =
 
 pub next_is_step : (basis : Basis) (h rest : List Entry) (e : Entry) (p : PresentValue) → IsPresent basis h p → IsLegal basis.init (h ++ e ∷ rest)
     → AnswersScripts (h ++ e ∷ rest) basis.scripts → HasStep basis.scripts p e
-next_is_step basis h rest (Edit editor index edit reply) p present legal answers =
-    answer_is basis h rest p editor index (command.Edit edit) reply present answers refl
-    (subst (λ n. AnswersEdit p.document n edit reply) (sym present.count_is)
-    (subst (λ d. AnswersEdit d (accepted h) edit reply) (sym present.document_is) (follows_in basis.init h rest (Edit editor index edit reply) legal)))
+next_is_step basis h rest (Edit editor index edits reply) p present legal answers =
+    answer_is basis h rest p editor index (command.Edits edits) reply present answers refl
+    (subst (λ n. AnswersEdits p.document n edits reply) (sym present.count_is)
+    (subst (λ d. AnswersEdits d (accepted h) edits reply) (sym present.document_is) (follows_in basis.init h rest (Edit editor index edits reply) legal)))
 next_is_step basis h rest (Publish v) p present legal answers =
     let may = follows_in basis.init h rest (Publish v) legal in
     record {
@@ -79,8 +79,8 @@ next_is_step basis h rest (Sync editor index reply) p present legal answers =
 
 may_answer : (basis : Basis) (h : List Entry) (p : PresentValue) (editor index : ℕ) (c : Cmd) (reply : Reply) → IsPresent basis h p → Answers p c reply
     → MayFollow basis.init h (entry_of editor index c reply)
-may_answer basis h p editor index (command.Edit edit) reply present right =
-    subst (λ n. AnswersEdit (doc_after basis.init h) n edit reply) present.count_is (subst (λ d. AnswersEdit d p.count edit reply) present.document_is right)
+may_answer basis h p editor index (command.Edits edits) reply present right =
+    subst (λ n. AnswersEdits (doc_after basis.init h) n edits reply) present.count_is (subst (λ d. AnswersEdits d p.count edits reply) present.document_is right)
 may_answer basis h p editor index command.Latest reply present right = subst (λ o. AnswersLatest o reply) present.last_is right
 may_answer basis h p editor index command.Sync reply present right =
     subst (λ n. AnswersSync (last_published h) n reply) present.count_is (subst (λ o. AnswersSync o p.count reply) present.last_is right)
@@ -102,7 +102,7 @@ last_append o [] ys = refl
 last_append o (x ∷ xs) ys = last_append (Some x) xs ys
 
 call_of : (editor index : ℕ) (c : Cmd) (reply : Reply) → call_in (entry_of editor index c reply) ≡ record { editor = editor; index = index; command = c } ∷ []
-call_of editor index (command.Edit edit) reply = refl
+call_of editor index (command.Edits edits) reply = refl
 call_of editor index command.Latest reply = refl
 call_of editor index command.Sync reply = refl
 
@@ -140,7 +140,7 @@ pub present_more : (basis : Basis) (h : List Entry) (p q : PresentValue) (s : St
     → Moves p s e q → IsPresent basis (h ++ e ∷ []) q
 present_more basis h p q s e present is moves = record {
   legal = legal_more basis.init h e present.legal (step_follows basis h p s e present is);
-  document_is = moves.document_is ∙ (ap (λ d. fold after d (edit_in e)) present.document_is ∙ sym (doc_after_more basis.init h e));
+  document_is = moves.document_is ∙ (ap (λ d. fold after_all d (list_in e)) present.document_is ∙ sym (doc_after_more basis.init h e));
   count_is = let a = accepted_more h e in let b = moves.count_is in let c = present.count_is in omega (arith, a, b, c);
   last_is = moves.last_is ∙ (ap (λ o. last_or o (version_in e)) present.last_is ∙ (sym (last_append None (published h) (version_in e)) ∙ ap (last_or None) (sym (published_more h e))));
   answered = subst (λ n. (editor : ℕ) → calls_of editor (calls (h ++ e ∷ [])) ≡ script_calls editor 0 (take (answered_of n editor) (script_of basis.scripts editor))) (sym moves.next_is) (fronts s is);

@@ -2,24 +2,24 @@
 use Rattle.std.proofs.Common.{◌≡◌, ◌⊎◌, ℕ, suc, ◌+◌, ◌<◌, Bool, true, false, List, [], ◌∷◌, ◌++◌, length, Option, Some, None, Result, Ok, Err, IfOk, IfSome, refl, sym, ap, ◌∙◌, subst, arith, append_assoc, codes, inl, inr, slice_get, slice_index_or}
 use Rattle.std.proofs.lemmas.Bool.{cases_lt}
 use Rattle.std.proofs.lemmas.List.{append_cancel_left}
-use Rattle.lay_doc.specs.declared.command.Cmd.{Cmd}
-use Rattle.lay_doc.specs.declared.command.Cmd.TheVariants as command
-use Rattle.lay_doc.specs.declared.command.Reply.{Reply}
-use Rattle.lay_doc.specs.declared.command.Reply.TheVariants.{NoMemory}
-use Rattle.lay_doc.specs.declared.history.Entry.{Entry}
+use Rattle.lay_edits.specs.declared.command.Cmd.{Cmd}
+use Rattle.lay_edits.specs.declared.command.Cmd.TheVariants as command
+use Rattle.lay_edits.specs.declared.command.Reply.{Reply}
+use Rattle.lay_edits.specs.declared.command.Reply.TheVariants.{NoMemory}
+use Rattle.lay_edits.specs.declared.history.Entry.{Entry}
 use Rattle.lay_report.specs.Report.{entry_line, reply_text}
 use Rattle.lay_history.proofs.Lists.{not_none, some_is}
 use Rattle.lay_audit.specs.declared.step.Step.{Step}
 use Rattle.lay_audit.specs.declared.step.Step.TheVariants as step
-use Rattle.lay_audit.specs.NextLines.{BeginsWith, RepliesNext, StandsNext, StandsNot, command_front, reply_end}
+use Rattle.lay_audit.specs.NextLines.{BeginsWith, RepliesNext, StandsNext, StandsNot, command_front, edit_count, reply_end}
 use Rattle.lay_audit.proofs.NextEntries.{place_within}
 use Rattle.lay_audit.specs.Presents.{Answers, IsAnswer, IsStep, PresentValue, entry_of, next_command}
 
 -- the line of a command is its front and its end
-pub line_is : (editor index : ℕ) (c : Cmd) (r : Reply) → entry_line (entry_of editor index c r) ≡ command_front editor index c ++ reply_end r
-line_is editor index (command.Edit edit) r = append_assoc (command_front editor index (command.Edit edit)) (reply_text r) (codes "\n")
-line_is editor index command.Latest r = append_assoc (command_front editor index command.Latest) (reply_text r) (codes "\n")
-line_is editor index command.Sync r = append_assoc (command_front editor index command.Sync) (reply_text r) (codes "\n")
+pub line_is : (editor index : ℕ) (c : Cmd) (r : Reply) → entry_line (entry_of editor index c r) ≡ command_front editor index c ++ reply_end (edit_count c) r
+line_is editor index (command.Edits edits) r = append_assoc (command_front editor index (command.Edits edits)) (reply_text (length edits) r) (codes "\n")
+line_is editor index command.Latest r = append_assoc (command_front editor index command.Latest) (reply_text 0 r) (codes "\n")
+line_is editor index command.Sync r = append_assoc (command_front editor index command.Sync) (reply_text 0 r) (codes "\n")
 
 -- a right reply that is said behind the front makes the line of an entry
 pub stands_so : (scripts : List (List Cmd)) (p : PresentValue) (place : ℕ) (c : Cmd) (rest said : List ℕ) (r : Reply) → next_command scripts p place ≡ Some c
@@ -30,7 +30,7 @@ stands_so scripts p place c rest said r at parts is = record {
   begins = record {
     more = is.begins.more;
     text_is = parts ∙ (ap (λ x. command_front (suc place) (slice_index_or p.next place 0) c ++ x) is.begins.text_is
-        ∙ (sym (append_assoc (command_front (suc place) (slice_index_or p.next place 0) c) (reply_end r) is.begins.more)
+        ∙ (sym (append_assoc (command_front (suc place) (slice_index_or p.next place 0) c) (reply_end (edit_count c) r) is.begins.more)
         ∙ ap (λ x. x ++ is.begins.more) (sym (line_is (suc place) (slice_index_or p.next place 0) c r))));
   };
 }
@@ -39,7 +39,7 @@ stands_so scripts p place c rest said r at parts is = record {
 pub record HasSaid (p : PresentValue) (place : ℕ) (c : Cmd) (rest : List ℕ) (r : Reply) : Type 0 where
   pub right : Answers p c r
   pub more : List ℕ
-  pub rest_is : rest ≡ command_front (suc place) (slice_index_or p.next place 0) c ++ (reply_end r ++ more)
+  pub rest_is : rest ≡ command_front (suc place) (slice_index_or p.next place 0) c ++ (reply_end (edit_count c) r ++ more)
 
 pub has_said : (scripts : List (List Cmd)) (p : PresentValue) (place : ℕ) (c : Cmd) (rest : List ℕ) (r : Reply) (e : Entry) → next_command scripts p place ≡ Some c
     → IsAnswer scripts p place r e → BeginsWith rest (entry_line e) → HasSaid p place c rest r
@@ -48,7 +48,7 @@ has_said scripts p place c rest r e at is begins = record {
   more = begins.more;
   rest_is = begins.text_is ∙ (ap (λ x. entry_line x ++ begins.more) (is.entry_is ∙ ap (λ x. entry_of (suc place) (slice_index_or p.next place 0) x r) same)
       ∙ (ap (λ x. x ++ begins.more) (line_is (suc place) (slice_index_or p.next place 0) c r)
-      ∙ append_assoc (command_front (suc place) (slice_index_or p.next place 0) c) (reply_end r) begins.more));
+      ∙ append_assoc (command_front (suc place) (slice_index_or p.next place 0) c) (reply_end (edit_count c) r) begins.more));
 }
   where
     same : is.command ≡ c
@@ -61,7 +61,7 @@ no_command scripts p place rest r none e is begins = not_none is.command (sym no
 pub no_front : (scripts : List (List Cmd)) (p : PresentValue) (place : ℕ) (c : Cmd) (rest : List ℕ) (r : Reply) → next_command scripts p place ≡ Some c
     → (BeginsWith rest (command_front (suc place) (slice_index_or p.next place 0) c) → ⊥) → StandsNot scripts p rest (step.Answer place r)
 no_front scripts p place c rest r at other e is begins =
-    let said = has_said scripts p place c rest r e at is begins in other (record { more = reply_end r ++ said.more; text_is = said.rest_is })
+    let said = has_said scripts p place c rest r e at is begins in other (record { more = reply_end (edit_count c) r ++ said.more; text_is = said.rest_is })
 
 pub no_reply : (scripts : List (List Cmd)) (p : PresentValue) (place : ℕ) (c : Cmd) (rest said : List ℕ) (r : Reply) → next_command scripts p place ≡ Some c
     → rest ≡ command_front (suc place) (slice_index_or p.next place 0) c ++ said → (RepliesNext p c said r → ⊥) → StandsNot scripts p rest (step.Answer place r)
@@ -69,7 +69,7 @@ no_reply scripts p place c rest said r at parts other e is begins =
     let has = has_said scripts p place c rest r e at is begins in
     other (record {
       right = has.right;
-      begins = record { more = has.more; text_is = append_cancel_left (command_front (suc place) (slice_index_or p.next place 0) c) said (reply_end r ++ has.more) (sym parts ∙ has.rest_is) };
+      begins = record { more = has.more; text_is = append_cancel_left (command_front (suc place) (slice_index_or p.next place 0) c) said (reply_end (edit_count c) r ++ has.more) (sym parts ∙ has.rest_is) };
     })
 
 -- of results

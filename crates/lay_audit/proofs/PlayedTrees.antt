@@ -5,12 +5,12 @@ use Rattle.std.proofs.lemmas.Bool.{cases_eq}
 use Rattle.std.proofs.lemmas.List.Concat.{flat_map-append}
 use Rattle.std.proofs.lemmas.List.Elements.{All-push}
 use Rattle.lay_doc.specs.Document.{Document, IsDocument}
-use Rattle.lay_doc.specs.Edits.{after}
-use Rattle.lay_doc.specs.declared.history.Entry.{Entry}
-use Rattle.lay_doc.specs.declared.history.Entry.TheVariants.{Edit, Publish, Latest, Sync}
+use Rattle.lay_edits.specs.EditLists.{after_all}
+use Rattle.lay_edits.specs.declared.history.Entry.{Entry}
+use Rattle.lay_edits.specs.declared.history.Entry.TheVariants.{Edit, Publish, Latest, Sync}
 use Rattle.lay_frag.specs.Pieces.{Context}
 use Rattle.lay_frag.specs.Lines.{tree_text}
-use Rattle.lay_history.specs.Histories.{accepted, doc_at, edit_in, edits, last_or, last_published, published, shown_version, version_in}
+use Rattle.lay_history.specs.Histories.{accepted, doc_at, list_in, lists, last_or, last_published, published, shown_version, version_in}
 use Rattle.lay_history.specs.Legal.{IsLegal, doc_after}
 use Rattle.lay_history.specs.Trees.{HasTrees, PublishedTreeValue, tree_at, versions_of}
 use Rattle.lay_history.proofs.Lists.{not_none, some_is, take_front}
@@ -82,7 +82,7 @@ any_more v (x ∷ xs) ys e = or_true_left (list_any (λ y. y == v) xs) (list_any
 
 pub doc_front : (init : Document) (h later : List Entry) (v : ℕ) → v ≤ accepted h → doc_at init (h ++ later) v ≡ doc_at init h v
 doc_front init h later v le =
-    ap (fold after init) (ap (take v) (flat_map-append edit_in h later) ∙ take_front v (edits h) (edits later) le)
+    ap (fold after_all init) (ap (take v) (flat_map-append list_in h later) ∙ take_front v (lists h) (lists later) le)
 
 pub last_not_past : (init : Document) (h : List Entry) (v : ℕ) → IsLegal init h → last_published h ≡ Some v → v ≤ accepted h
 last_not_past init h v legal e = last_of_all (λ w. w ≤ accepted h) (published h) v (none_greater init h legal) e

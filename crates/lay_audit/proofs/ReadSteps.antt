@@ -3,8 +3,8 @@ use Rattle.std.proofs.Common.{◌≡◌, ℕ, ◌+◌, ◌<◌, ◌≤◌, ◌*�
 use Rattle.std.specs.List.{flat_map}
 use Rattle.std.proofs.lemmas.List.{append_cancel_left}
 use Rattle.std.proofs.lemmas.List.Concat.{flat_map-append}
-use Rattle.lay_doc.specs.declared.command.Cmd.{Cmd}
-use Rattle.lay_doc.specs.declared.history.Entry.{Entry}
+use Rattle.lay_edits.specs.declared.command.Cmd.{Cmd}
+use Rattle.lay_edits.specs.declared.history.Entry.{Entry}
 use Rattle.lay_frag.specs.Pieces.{Context}
 use Rattle.lay_frag.specs.Lines.{tree_text}
 use Rattle.lay_history.specs.Calls.{AnswersScripts}

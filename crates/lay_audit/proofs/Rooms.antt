@@ -1,8 +1,8 @@
 -- Numbers that are counted while a text is read.
 use Rattle.std.proofs.Common.{◌≡◌, ℕ, ◌+◌, ◌<◌, ◌≤◌, ◌^◌, suc, List, [], ◌∷◌, ◌++◌, length, Option, Some, None, refl, sym, ap, ◌∙◌, subst, arith, length-append, slice_index_or}
-use Rattle.lay_doc.specs.declared.command.Cmd.{Cmd}
-use Rattle.lay_doc.specs.declared.history.Entry.{Entry}
-use Rattle.lay_doc.specs.declared.history.Entry.TheVariants as entry
+use Rattle.lay_edits.specs.declared.command.Cmd.{Cmd}
+use Rattle.lay_edits.specs.declared.history.Entry.{Entry}
+use Rattle.lay_edits.specs.declared.history.Entry.TheVariants as entry
 use Rattle.lay_report.specs.Report.{entry_line}
 use Rattle.lay_audit.specs.declared.step.Step.{Step}
 use Rattle.lay_audit.specs.declared.step.Step.TheVariants as step
@@ -34,6 +34,7 @@ same_length step.Publish next = refl
 pub steady_more : (scripts : List (List Cmd)) (r s : ReadingValue) (which : Step) (e : Entry) → IsSteady scripts r → BeginsWith r.rest (entry_line e)
     → Moves r.present which e s.present → s.rest ≡ behind_line r.rest → s.lines ≡ r.lines + 1 → IsSteady scripts s
 steady_more scripts r s which e steady begins moves rest lines = record {
+  lists = steady.lists;
   room = let a = steady.room in let b = passes_line e r.rest s.rest begins rest in omega (arith, a, b, lines);
   few = let a = steady.few in let b = one_more r.present s.present which e moves in omega (arith, a, b, lines);
   editors = ap (λ x. length x) moves.next_is ∙ (same_length which r.present.next ∙ steady.editors);

@@ -1,21 +1,22 @@
 -- What stands after a history, and the entries that may come next: the next command of an editor with a reply that is right
 -- now, or that the present version is published.
-use Rattle.std.specs.Prelude.{ℕ, zero, suc, ◌≡◌, ◌+◌, ◌≤◌, ◌<◌, ◌^◌, List, [], length, take, fold, slice_get, slice_index_or, slice_set, Option, Some, None}
+use Rattle.std.specs.Prelude.{ℕ, ⊤, zero, suc, ◌≡◌, ◌+◌, ◌≤◌, ◌<◌, ◌^◌, List, [], length, take, fold, slice_get, slice_index_or, slice_set, Option, Some, None}
+use Rattle.std.specs.List.{All}
 use Rattle.lay_doc.specs.Document.{Document}
-use Rattle.lay_doc.specs.Edits.{after}
-use Rattle.lay_doc.specs.declared.command.Cmd.{Cmd}
-use Rattle.lay_doc.specs.declared.command.Cmd.TheVariants as command
-use Rattle.lay_doc.specs.declared.command.Reply.{Reply}
-use Rattle.lay_doc.specs.declared.history.Entry.{Entry}
-use Rattle.lay_doc.specs.declared.history.Entry.TheVariants as entry
+use Rattle.lay_edits.specs.EditLists.{after_all}
+use Rattle.lay_edits.specs.declared.command.Cmd.{Cmd}
+use Rattle.lay_edits.specs.declared.command.Cmd.TheVariants as command
+use Rattle.lay_edits.specs.declared.command.Reply.{Reply}
+use Rattle.lay_edits.specs.declared.history.Entry.{Entry}
+use Rattle.lay_edits.specs.declared.history.Entry.TheVariants as entry
 use Rattle.lay_history.specs.Calls.{calls, calls_of, script_calls, script_of}
-use Rattle.lay_history.specs.Histories.{accepted, edit_in, last_or, last_published, shown_by, version_in}
-use Rattle.lay_history.specs.Legal.{AnswersEdit, AnswersLatest, AnswersSync, IsLegal, doc_after}
+use Rattle.lay_history.specs.Histories.{accepted, list_in, last_or, last_published, shown_by, version_in}
+use Rattle.lay_history.specs.Legal.{AnswersEdits, AnswersLatest, AnswersSync, IsLegal, doc_after}
 use Rattle.lay_audit.specs.declared.step.Step.{Step}
 use Rattle.lay_audit.specs.declared.step.Step.TheVariants.{Answer, Publish}
 use Rattle.lay_audit.specs.LegalReports.{Basis}
 
--- the document, the number of accepted edits, the version that was published last, and how many commands of each editor
+-- the document, the number of accepted lists of edits, the version that was published last, and how many commands of each editor
 -- are answered
 pub record PresentValue : Type 0 where
   pub document : Document
@@ -40,13 +41,13 @@ pub record IsPresent (basis : Basis) (history : List Entry) (p : PresentValue) :
 
 -- the entry of a command and a reply to it
 abbrev pub entry_of : (editor index : ℕ) → Cmd → Reply → Entry
-entry_of editor index (command.Edit edit) reply = entry.Edit editor index edit reply
+entry_of editor index (command.Edits edits) reply = entry.Edit editor index edits reply
 entry_of editor index command.Latest reply = entry.Latest editor index reply
 entry_of editor index command.Sync reply = entry.Sync editor index reply
 
 -- the reply is right now
 abbrev pub Answers : PresentValue → Cmd → Reply → Type 0
-Answers p (command.Edit edit) reply = AnswersEdit p.document p.count edit reply
+Answers p (command.Edits edits) reply = AnswersEdits p.document p.count edits reply
 Answers p command.Latest reply = AnswersLatest p.last reply
 Answers p command.Sync reply = AnswersSync p.last p.count reply
 
@@ -77,20 +78,30 @@ shown_in Publish = None
 
 -- it stands so after this entry
 pub record Moves (p : PresentValue) (step : Step) (e : Entry) (q : PresentValue) : Type 0 where
-  pub document_is : q.document ≡ fold after p.document (edit_in e)
-  pub count_is : q.count ≡ p.count + length (edit_in e)
+  pub document_is : q.document ≡ fold after_all p.document (list_in e)
+  pub count_is : q.count ≡ p.count + length (list_in e)
   pub last_is : q.last ≡ last_or p.last (version_in e)
   pub next_is : q.next ≡ next_after step p.next
 
+-- a command has less than 2^64 edits
+abbrev pub IsCommandWithin : Cmd → Type 0
+IsCommandWithin (command.Edits edits) = length edits < 2 ^ 64
+IsCommandWithin command.Latest = ⊤
+IsCommandWithin command.Sync = ⊤
+
+abbrev pub AreCommandsWithin : List Cmd → Type 0
+AreCommandsWithin commands = All IsCommandWithin commands
+
 -- the numbers that entries may have now are below 2^64
 pub record IsPresentWithin (scripts : List (List Cmd)) (p : PresentValue) : Type 0 where
+  pub lists : All AreCommandsWithin scripts
   pub editors : length scripts + 1 < 2 ^ 64
   pub indices : (place : ℕ) → slice_index_or p.next place 0 < 2 ^ 64
   pub count : p.count + 1 < 2 ^ 64
 
--- the edit of a command is accepted; the command counts as answered later
+-- the edits of a command are accepted; the command counts as answered later
 abbrev pub Accepts : PresentValue → Cmd → PresentValue → Type 0
-Accepts p (command.Edit edit) q = q ≡ record { document = after p.document edit; count = p.count + 1; last = p.last; next = p.next }
+Accepts p (command.Edits edits) q = q ≡ record { document = after_all p.document edits; count = p.count + 1; last = p.last; next = p.next }
 Accepts p command.Latest q = ⊥
 Accepts p command.Sync q = ⊥
 

@@ -1,10 +1,10 @@
 -- How far a report is read: the lines so far are the front of the report of each legal history that goes on from the one
 -- that they tell, up to lines of its last tree that are still to come.
 use Rattle.std.specs.Prelude.{ℕ, ◌≡◌, ◌+◌, ◌<◌, ◌≤◌, ◌*◌, ◌^◌, List, [], ◌∷◌, ◌++◌, length, Option, Some, None, IfSome}
-use Rattle.std.specs.List.{flat_map}
+use Rattle.std.specs.List.{All, flat_map}
 use Rattle.lay_doc.specs.Document.{Document, IsDocument}
-use Rattle.lay_doc.specs.declared.command.Cmd.{Cmd}
-use Rattle.lay_doc.specs.declared.history.Entry.{Entry}
+use Rattle.lay_edits.specs.declared.command.Cmd.{Cmd}
+use Rattle.lay_edits.specs.declared.history.Entry.{Entry}
 use Rattle.lay_face.specs.FaceValue.{FaceValue}
 use Rattle.lay_frag.specs.Pieces.{Context}
 use Rattle.lay_frag.specs.Lines.{tree_text}
@@ -17,7 +17,7 @@ use Rattle.lay_audit.specs.declared.next.Next.TheVariants.{Entry as entry_read, 
 use Rattle.lay_audit.specs.declared.step.Step.{Step}
 use Rattle.lay_audit.specs.LegalReports.{AreSolved, Basis, IsLegalReport, IsWholeRun}
 use Rattle.lay_audit.specs.Lines.{first_line}
-use Rattle.lay_audit.specs.Presents.{AllAnswered, IsPresent, PresentValue}
+use Rattle.lay_audit.specs.Presents.{AllAnswered, AreCommandsWithin, IsPresent, PresentValue}
 use Rattle.lay_audit.specs.NextLines.{StandsNot}
 use Rattle.lay_audit.specs.Verdicts.{IsFirstBad}
 use Rattle.lay_audit.specs.WholeLines.{AreLines}
@@ -128,6 +128,7 @@ pub record PartsFrom (wanted text : List ℕ) (lines : ℕ) : Type 0 where
 
 -- the numbers that are counted while a text is read are below 2^64, and each editor has its place
 pub record IsSteady (scripts : List (List Cmd)) (r : ReadingValue) : Type 0 where
+  pub lists : All AreCommandsWithin scripts
   pub room : r.lines + length r.rest + 1 < 2 ^ 64
   pub few : r.present.count ≤ r.lines
   pub editors : length r.present.next ≡ length scripts

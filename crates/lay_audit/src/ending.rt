@@ -13,7 +13,7 @@ use crate::lines::{behind, number_line};
 use crate::reading::{Reading, can_complete};
 use crate::verdict::Verdict;
 use lay_context::one_solution;
-use lay_doc::CmdList;
+use lay_edits::CmdList;
 use lay_face::Face;
 use lay_units::NoMemory;
 use std::alloc::Global;

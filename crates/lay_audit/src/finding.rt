@@ -2,15 +2,15 @@
 
 ghost use Rattle.std.specs.Prelude.{◌≡◌, ◌+◌, ◌<◌, ◌^◌, IfOk, IfSome, List, None, length};
 ghost use Rattle.std.specs.Bool.{Decides};
-ghost use Rattle.lay_doc.specs.declared.command.Cmd.{Cmd as ACmd};
-ghost use Rattle.lay_doc.specs.declared.command.Reply.{Reply as AReply};
+ghost use Rattle.lay_edits.specs.declared.command.Cmd.{Cmd as ACmd};
+ghost use Rattle.lay_edits.specs.declared.command.Reply.{Reply as AReply};
 ghost use Rattle.lay_audit.specs.declared.step.Step.{Step as AStep};
-ghost use Rattle.lay_audit.specs.NextLines.{BeginsWith, RepliesNext, StandsNext, StandsNot, reply_end};
+ghost use Rattle.lay_audit.specs.NextLines.{BeginsWith, RepliesNext, StandsNext, StandsNot, edit_count, reply_end};
 
 use crate::lines::{behind, command_front, number_line, reply_end};
 use crate::present::{Present, command_at};
 use crate::step::Step;
-use lay_doc::{Cmd, CmdList, Reply};
+use lay_edits::{Cmd, CmdList, Reply};
 use lay_units::NoMemory;
 use std::alloc::Global;
 
@@ -84,20 +84,20 @@ fn find_said(
     ensures some { IfOk result (λ o. IfSome o (RepliesNext present.now command.now said.now)) }
     ensures none { IfOk result (λ o. o ≡ None → (r : AReply) → RepliesNext present.now command.now said.now r → ⊥) }
 {
-    if let Some(reply) = present.right_reply(command) {
-        if says(alloc, said, reply)? {
+    if let Some(reply) = present.right_reply(alloc, command)? {
+        if says(alloc, command, said, reply)? {
             return Ok(Some(reply));
         }
     }
-    if present.may_lack(command) && says(alloc, said, Reply::NoMemory)? {
+    if present.may_lack(command) && says(alloc, command, said, Reply::NoMemory)? {
         return Ok(Some(Reply::NoMemory));
     }
     Ok(None)
 }
 
-fn says(alloc: Global, said: &[u8], reply: Reply) -> Result<bool, NoMemory>
-    ensures { IfOk result (λ b. Decides b (BeginsWith said.now (reply_end reply))) }
+fn says(alloc: Global, command: &Cmd, said: &[u8], reply: Reply) -> Result<bool, NoMemory>
+    ensures { IfOk result (λ b. Decides b (BeginsWith said.now (reply_end (edit_count command.now) reply))) }
 {
-    let end = reply_end(alloc, reply)?;
+    let end = reply_end(alloc, command, reply)?;
     Ok(behind(said, end.as_bytes()).is_some())
 }

@@ -9,6 +9,7 @@ mod finding;
 mod last_tree;
 mod laws;
 mod lines;
+mod list_lengths;
 mod next;
 mod present;
 mod reading;

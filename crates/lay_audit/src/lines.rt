@@ -1,12 +1,12 @@
 //! Lines that may stand next.
 
-ghost use Rattle.std.specs.Prelude.{◌≡◌, ◌++◌, IfOk, IfSome, OnOk, None, codes, string_bytes, true};
+ghost use Rattle.std.specs.Prelude.{◌≡◌, ◌++◌, IfOk, IfSome, None, codes, string_bytes};
 ghost use Rattle.std.specs.Fmt.{decimal};
-ghost use Rattle.lay_report.specs.Report.{final_line, laid_line, reply_text};
-ghost use Rattle.lay_audit.specs.NextLines.{BeginsWith, command_front, command_word, reply_end};
+ghost use Rattle.lay_report.specs.Report.{final_line, laid_line};
+ghost use Rattle.lay_audit.specs.NextLines.{BeginsWith, command_front, command_word, edit_count, reply_end};
 
-use lay_doc::{Cmd, Reply};
-use lay_report::{fault_number, push_number};
+use lay_edits::{Cmd, Reply};
+use lay_report::{push_answer, push_number};
 use lay_units::NoMemory;
 use std::alloc::Global;
 
@@ -38,33 +38,28 @@ fn command_word(command: &Cmd) -> &'static str
     ensures { result.now ≡ command_word command.now }
 {
     match command {
-        Cmd::Edit(_) => "edit ",
+        Cmd::Edits(_) => "edit ",
         Cmd::Latest => "latest ",
         Cmd::Sync => "sync ",
     }
 }
 
 /// How it ends.
-pub(crate) fn reply_end(alloc: Global, reply: Reply) -> Result<String, NoMemory>
-    ensures { IfOk result (λ t. string_bytes t ≡ reply_end reply) }
+pub(crate) fn reply_end(alloc: Global, command: &Cmd, reply: Reply) -> Result<String, NoMemory>
+    ensures { IfOk result (λ t. string_bytes t ≡ reply_end (edit_count command.now) reply) }
 {
     let mut text = String::new(alloc);
-    push_reply(&mut text, reply)?;
-    text.push_str("\n")?;
+    push_answer(&mut text, edit_count(command), reply)?;
     Ok(text)
 }
 
-fn push_reply(text: &mut String, reply: Reply) -> Result<(), NoMemory>
-    ensures { OnOk result (string_bytes text.new ≡ string_bytes text.old ++ reply_text reply) }
+/// How many edits a command has.
+fn edit_count(command: &Cmd) -> usize
+    ensures { result ≡ edit_count command.now }
 {
-    match reply {
-        Reply::Accepted(version) => push_number(text, "accepted ", version),
-        Reply::Refused(fault) => push_number(text, "refused E", fault_number(fault)),
-        Reply::Shown(version) => push_number(text, "", version),
-        Reply::NoMemory => {
-            text.push_str("nomemory")?;
-            Ok(())
-        }
+    match command {
+        Cmd::Edits(edits) => edits.len(),
+        _ => 0,
     }
 }
 

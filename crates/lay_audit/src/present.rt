@@ -2,22 +2,24 @@
 
 ghost use Rattle.std.specs.Prelude.{◌≡◌, ◌+◌, ◌<◌, ◌^◌, ◌⊎◌, ◌==◌, [], IfOk, IfSome, OnOk, Some, length, option_map, slice_get, slice_index_or, slice_set, ℕ};
 ghost use Rattle.std.specs.Bool.{Decides};
+ghost use Rattle.std.specs.List.{All};
 ghost use Rattle.lay_face.specs.FaceValue.{FaceValue};
-ghost use Rattle.lay_doc.specs.declared.command.Reply.{Reply as AReply};
-ghost use Rattle.lay_doc.specs.declared.history.Entry.{Entry};
-ghost use Rattle.lay_audit.specs.Presents.{Accepts, AllAnswered, Answers, IsPresent, IsPresentWithin, IsStep, Moves};
+ghost use Rattle.lay_edits.specs.declared.command.Reply.{Reply as AReply};
+ghost use Rattle.lay_edits.specs.declared.history.Entry.{Entry};
+ghost use Rattle.lay_audit.specs.Presents.{Accepts, AllAnswered, Answers, AreCommandsWithin, IsPresent, IsPresentWithin, IsStep, Moves};
 
 use crate::step::Step;
-use lay_doc::{Cmd, CmdList, Doc, Edit, Reply};
+use lay_doc::Doc;
+use lay_edits::{BatchFault, Cmd, CmdList, Edits, Reply, apply_all, check_all};
 use lay_units::NoMemory;
 use std::alloc::Global;
 use std::marker::Model;
 
-/// A document of the audit's own, which goes through the edits that were accepted, and how far the editors have come.
+/// A document of the audit's own, which goes through the lists of edits that were accepted, and how far the editors have come.
 #[derive(Drop)]
 pub(crate) struct Present {
     doc: Doc,
-    /// How many edits were accepted.
+    /// How many lists of edits were accepted.
     count: u64,
     /// The version that was published last.
     last: Option<u64>,
@@ -55,7 +57,7 @@ impl Present {
         &self.doc
     }
 
-    /// How many edits were accepted.
+    /// How many lists of edits were accepted.
     pub(crate) fn count(&self) -> u64
         ensures { result ≡ self.now.count }
     {
@@ -95,7 +97,8 @@ impl Present {
 
     /// The numbers that entries may have now are below 2^64.
     pub(crate) fn numbers_fit(&self, scripts: &[CmdList])
-        requires { self.now.count + 1 < 2 ^ 64 }
+        requires count { self.now.count + 1 < 2 ^ 64 }
+        requires lists { All AreCommandsWithin scripts.now }
         ensures { IsPresentWithin scripts.now self.now }
     {
         scripts_fit(scripts);
@@ -103,26 +106,32 @@ impl Present {
     }
 
     /// The right reply to a command, beside that memory ran out.
-    pub(crate) fn right_reply(&self, command: &Cmd) -> Option<Reply>
+    pub(crate) fn right_reply(
+        &self,
+        alloc: Global,
+        command: &Cmd,
+    ) -> Result<Option<Reply>, NoMemory>
         requires { self.now.count + 1 < 2 ^ 64 }
-        ensures right { IfSome result (λ r. Answers self.now command.now r) }
-        ensures only { (r : AReply) → Answers self.now command.now r → (r ≡ Reply.NoMemory) ⊎ (result ≡ Some r) }
+        ensures right { IfOk result (λ o. IfSome o (λ r. Answers self.now command.now r)) }
+        ensures only { IfOk result (λ o. (r : AReply) → Answers self.now command.now r → (r ≡ Reply.NoMemory) ⊎ (o ≡ Some r)) }
     {
         match command {
-            Cmd::Edit(edit) => Some(self.edit_reply(edit)),
-            Cmd::Latest => self.last_shown(),
-            Cmd::Sync => self.present_shown(),
+            Cmd::Edits(edits) => Ok(Some(self.edits_reply(alloc, edits)?)),
+            Cmd::Latest => Ok(self.last_shown()),
+            Cmd::Sync => Ok(self.present_shown()),
         }
     }
 
-    fn edit_reply(&self, edit: &Edit) -> Reply
+    #[tactic(auto, using(crate::proofs::OnlyReplies::accepted_only, crate::proofs::OnlyReplies::refused_only))]
+    fn edits_reply(&self, alloc: Global, edits: &Edits) -> Result<Reply, NoMemory>
         requires { self.now.count + 1 < 2 ^ 64 }
-        ensures right { Answers self.now (Cmd.Edit edit.now) result }
-        ensures only { (r : AReply) → Answers self.now (Cmd.Edit edit.now) r → (r ≡ Reply.NoMemory) ⊎ (result ≡ r) }
+        ensures right { IfOk result (λ reply. Answers self.now (Cmd.Edits edits.now) reply) }
+        ensures only { IfOk result (λ reply. (r : AReply) → Answers self.now (Cmd.Edits edits.now) r → (r ≡ Reply.NoMemory) ⊎ (reply ≡ r)) }
     {
-        match self.doc.check(edit) {
-            Ok(()) => Reply::Accepted(self.count + 1),
-            Err(fault) => Reply::Refused(fault),
+        match check_all(&self.doc, alloc, edits) {
+            Ok(()) => Ok(Reply::Accepted(self.count + 1)),
+            Err(BatchFault::At { place, fault }) => Ok(Reply::Refused { place, fault }),
+            Err(BatchFault::NoMemory) => Err(NoMemory),
         }
     }
 
@@ -147,14 +156,23 @@ impl Present {
         }
     }
 
-    /// Whether memory may run out for a command: an edit that has a fault is refused for it.
+    /// Whether memory may run out for a command: an edit alone that has a fault is refused for it.
     pub(crate) fn may_lack(&self, command: &Cmd) -> bool
         ensures { Decides result (Answers self.now command.now Reply.NoMemory) }
     {
         match command {
-            Cmd::Edit(edit) => self.doc.check(edit).is_ok(),
+            Cmd::Edits(edits) => self.may_lack_edits(edits),
             _ => true,
         }
+    }
+
+    fn may_lack_edits(&self, edits: &Edits) -> bool
+        ensures { Decides result (Answers self.now (Cmd.Edits edits.now) Reply.NoMemory) }
+    {
+        if edits.len() != 1 {
+            return true;
+        }
+        self.doc.check(&edits.as_slice()[0]).is_ok()
     }
 
     /// Takes a step.
@@ -238,11 +256,14 @@ impl Present {
         ensures next { OnOk result (self.new.next ≡ self.old.next) }
     {
         match command {
-            Cmd::Edit(edit) => {
-                self.doc.apply(alloc, edit)?;
-                self.count = version;
-                Ok(())
-            }
+            Cmd::Edits(edits) => match apply_all(&mut self.doc, alloc, edits) {
+                Ok(()) => {
+                    self.count = version;
+                    Ok(())
+                }
+                Err(BatchFault::NoMemory) => Err(NoMemory),
+                Err(BatchFault::At { .. }) => unreachable!(),
+            },
             _ => unreachable!(),
         }
     }

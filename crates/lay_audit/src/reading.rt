@@ -2,7 +2,7 @@
 
 ghost use Rattle.std.specs.Prelude.{◌≡◌, ◌+◌, ◌<◌, ◌≤◌, ◌^◌, [], IfOk, List, OnOk, Some, length, ℕ};
 ghost use Rattle.lay_doc.specs.Document.{Document};
-ghost use Rattle.lay_doc.specs.declared.command.Cmd.{Cmd};
+ghost use Rattle.lay_edits.specs.declared.command.Cmd.{Cmd};
 ghost use Rattle.lay_face.specs.FaceValue.{FaceValue};
 ghost use Rattle.lay_audit.specs.LegalReports.{Basis};
 ghost use Rattle.lay_audit.specs.Lines.{behind_line};
@@ -13,11 +13,13 @@ ghost use Rattle.lay_audit.specs.Readings.{HasLayout, IsRead, IsSteady, ReadsTo,
 use crate::comparing::{compare, split_line};
 use crate::finding::find_step;
 use crate::last_tree::LastTree;
+use crate::list_lengths::lists_fit;
 use crate::next::Next;
 use crate::present::Present;
 use crate::step::{Step, is_shown};
 use lay_context::one_solution;
-use lay_doc::{CmdList, Doc, Reply};
+use lay_doc::Doc;
+use lay_edits::{CmdList, Reply};
 use lay_face::Face;
 use lay_units::NoMemory;
 use std::alloc::Global;
@@ -55,6 +57,7 @@ impl<'a> Reading<'a> {
         ensures steady { IfOk result (λ r. IsSteady scripts.now r) }
     {
         report_fits(report);
+        lists_fit(scripts);
         let present = Present::new(alloc, doc, scripts)?;
         let tree = LastTree::none(alloc);
         Ok(Reading {

@@ -3,7 +3,7 @@
 ghost use Rattle.std.specs.Prelude.{◌≡◌, is_some};
 ghost use Rattle.lay_audit.specs.Presents.{shown_in};
 
-use lay_doc::Reply;
+use lay_edits::Reply;
 
 /// The entry that comes next.
 #[derive(Clone, Copy)]

@@ -1,10 +1,10 @@
 -- What the calls of editors on a core add to its history.
 use Rattle.std.proofs.Common.{◌≡◌, ◌≢◌, ℕ, ◌+◌, ◌-◌, ◌<◌, ◌≤◌, ◌^◌, List, [], ◌∷◌, ◌++◌, Bool, true, false, refl, sym, ap, ◌∙◌, subst, arith, append_assoc, append-nil, if◌then◌else◌, ◌==◌, eq-eqb, ne_eqb, ⊎_elim}
 use Rattle.lay_layout.specs.doc.declared.edit.Edit.{Edit as Change}
-use Rattle.lay_layout.specs.doc.declared.command.Reply.{Reply}
-use Rattle.lay_layout.specs.doc.declared.command.Reply.TheVariants.{Accepted, Refused, Shown, NoMemory}
-use Rattle.lay_layout.specs.doc.declared.history.Entry.{Entry}
-use Rattle.lay_layout.specs.doc.declared.history.Entry.TheVariants.{Edit, Publish, Latest, Sync}
+use Rattle.lay_layout.specs.edits.declared.command.Reply.{Reply}
+use Rattle.lay_layout.specs.edits.declared.command.Reply.TheVariants.{Accepted, Refused, Shown, NoMemory}
+use Rattle.lay_layout.specs.edits.declared.history.Entry.{Entry}
+use Rattle.lay_layout.specs.edits.declared.history.Entry.TheVariants.{Edit, Publish, Latest, Sync}
 use Rattle.lay_layout.specs.history.Histories.{accepted}
 use Rattle.lay_core.specs.State.{State}
 use Rattle.lay_core.specs.Steps.{EditsTo, LatestTo, ShowsLatest, ShowsPresent, SyncTo, called, is_due}
@@ -57,7 +57,7 @@ present s t (Shown version) shows =
     let r = shows.1 in published s r.settled t (is_last r.settled) (settled s r.settled r.settles) (ap (λ (x : State). x.history) r.settles.state) r.publishes
 present s t NoMemory shows = ⊎_elim (settled s t) (stopped s t) shows
 present s t (Accepted version) shows = absurd shows
-present s t (Refused f) shows = absurd shows
+present s t (Refused place f) shows = absurd shows
 
 latest : (s t : State) (reply : Reply) (b : Bool) → ShowsLatest b s reply t → IsBefore s t
 latest s t reply true shows = present s t reply shows
@@ -87,21 +87,21 @@ sync_adds s t editor index reply some draws to =
     recorded s to.before t editor (Sync editor index reply) (of_editor (Sync editor index reply) editor (λ n. refl)) (present s to.before reply to.shows) to.state some draws
 
 -- an edit leaves what the record of its call leaves, but for the document and its cells
-edited : (s t : State) (editor index : ℕ) (edit : Change) (reply : Reply) → EditsTo s editor index edit reply t
-    → (origin_of t ≡ origin_of s) × (t.history ≡ s.history ++ Edit editor index edit reply ∷ []) × (t.calls_left ≡ s.calls_left - 1)
-edited s t editor index edit (Accepted version) to = let e = to.2.state in (ap origin_of e, ap (λ (x : State). x.history) e, ap (λ (x : State). x.calls_left) e)
-edited s t editor index edit (Refused f) to = let e = to.1 in (ap origin_of e, ap (λ (x : State). x.history) e, ap (λ (x : State). x.calls_left) e)
-edited s t editor index edit (Shown version) to = absurd to
-edited s t editor index edit NoMemory to = let e = to.1 in (ap origin_of e, ap (λ (x : State). x.history) e, ap (λ (x : State). x.calls_left) e)
+edited : (s t : State) (editor index : ℕ) (edits : List Change) (reply : Reply) → EditsTo s editor index edits reply t
+    → (origin_of t ≡ origin_of s) × (t.history ≡ s.history ++ Edit editor index edits reply ∷ []) × (t.calls_left ≡ s.calls_left - 1)
+edited s t editor index edits (Accepted version) to = let e = to.2.state in (ap origin_of e, ap (λ (x : State). x.history) e, ap (λ (x : State). x.calls_left) e)
+edited s t editor index edits (Refused place f) to = let e = to.1 in (ap origin_of e, ap (λ (x : State). x.history) e, ap (λ (x : State). x.calls_left) e)
+edited s t editor index edits (Shown version) to = absurd to
+edited s t editor index edits NoMemory to = let e = to.1 in (ap origin_of e, ap (λ (x : State). x.history) e, ap (λ (x : State). x.calls_left) e)
 
-pub edit_adds : (s t : State) (editor index : ℕ) (edit : Change) (reply : Reply) → 0 < s.calls_left → t.cells.draws ≤ s.cells.draws + 2 ^ 18
-    → EditsTo s editor index edit reply t → Adds editor s (Edit editor index edit reply) t
-edit_adds s t editor index edit reply some draws to =
-    let is = edited s t editor index edit reply to in
-    let of = of_editor (Edit editor index edit reply) editor (λ n. refl) in
+pub edit_adds : (s t : State) (editor index : ℕ) (edits : List Change) (reply : Reply) → 0 < s.calls_left → t.cells.draws ≤ s.cells.draws + 2 ^ 18
+    → EditsTo s editor index edits reply t → Adds editor s (Edit editor index edits reply) t
+edit_adds s t editor index edits reply some draws to =
+    let is = edited s t editor index edits reply to in
+    let of = of_editor (Edit editor index edits reply) editor (λ n. refl) in
     record {
       origin = is.0;
-      more = Edit editor index edit reply ∷ [];
+      more = Edit editor index edits reply ∷ [];
       history = is.1;
       left = let l = is.2 in omega (arith, l, some);
       draws = omega (arith, draws);

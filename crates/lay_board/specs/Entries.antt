@@ -1,11 +1,11 @@
 -- The entries of one editor in a history, and beginnings of histories.
 use Rattle.std.specs.Prelude.{◌≡◌, ℕ, ◌==◌, if◌then◌else◌, List, [], ◌∷◌, ◌++◌, flat_map}
-use Rattle.lay_layout.specs.doc.declared.history.Entry.{Entry}
-use Rattle.lay_layout.specs.doc.declared.history.Entry.TheVariants.{Edit, Publish, Latest, Sync}
+use Rattle.lay_layout.specs.edits.declared.history.Entry.{Entry}
+use Rattle.lay_layout.specs.edits.declared.history.Entry.TheVariants.{Edit, Publish, Latest, Sync}
 
 -- the entry, where it answers this editor
 abbrev pub own_if : ℕ → Entry → List Entry
-own_if n (Edit editor index edit reply) = if editor == n then Edit editor index edit reply ∷ [] else []
+own_if n (Edit editor index edits reply) = if editor == n then Edit editor index edits reply ∷ [] else []
 own_if n (Publish version) = []
 own_if n (Latest editor index reply) = if editor == n then Latest editor index reply ∷ [] else []
 own_if n (Sync editor index reply) = if editor == n then Sync editor index reply ∷ [] else []

@@ -2,12 +2,12 @@
 
 ghost use Rattle.std.specs.Prelude.{◌≡◌, ◌<◌, ◌≤◌, length};
 ghost use Rattle.lay_board.specs.Passes.{Calls};
-ghost use Rattle.lay_layout.specs.doc.declared.history.Entry.TheVariants as entry;
+ghost use Rattle.lay_layout.specs.edits.declared.history.Entry.TheVariants as entry;
 
 use crate::pass::Pass;
 use crate::table::{Looks, Shelf};
 use crate::turn::{begun, ended};
-use lay_layout::doc::{Edit, Reply};
+use lay_layout::edits::{Edits, Reply};
 use lay_outside::Gate;
 use std::alloc::Global;
 use std::marker::Model;
@@ -33,17 +33,17 @@ impl Model for Engine {
 }
 
 impl Engine {
-    /// A call of the pass's editor that edits the document, in one turn of the lock. The reply is Accepted with the new version, Refused
-    /// with the first fault of the edit, or NoMemory.
-    pub fn edit<R: Wait>(&self, rt: &R, pass: Pass, edit: Edit) -> (Reply, Pass)
+    /// A call of the pass's editor that edits the document by a list of edits, in one turn of the lock. The reply is Accepted with the new version, Refused
+    /// with the first fault of the list and its place, or NoMemory.
+    pub fn edit<R: Wait>(&self, rt: &R, pass: Pass, edits: Edits) -> (Reply, Pass)
         requires of { pass.table ≡ self.now.table }
         requires left { 0 < pass.knows.left }
         ensures of { result.1.table ≡ pass.table }
-        ensures call { Calls pass.knows result.1.knows (entry.Edit pass.knows.number (length pass.knows.own) edit result.0) }
+        ensures call { Calls pass.knows result.1.knows (entry.Edit pass.knows.number (length pass.knows.own) edits result.0) }
     {
         let _turn = self.gate.lock(rt);
         let (mut core, turn) = begun(rt, &self.table, pass);
-        let reply = core.edit(turn.editor, turn.index, edit);
+        let reply = core.edit(turn.editor, turn.index, edits);
         let pass = ended(&self.table, turn, core);
         (reply, pass)
     }

@@ -1,7 +1,8 @@
 //! What those who have a seat at the table know. No value of these types is made.
 
 use lay_core::Core;
-use lay_layout::doc::{Doc, Entry};
+use lay_layout::doc::Doc;
+use lay_layout::edits::Entry;
 use lay_layout::face::Face;
 use std::collections::LinkedList;
 

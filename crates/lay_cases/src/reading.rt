@@ -3,7 +3,8 @@
 use crate::answer::Answer;
 use anyhow::Result;
 use lay_json::read_run;
-use lay_layout::doc::{BadDeclaration, Cmd, Edit, Kind, NewNode, Node, NodeId};
+use lay_layout::doc::{BadDeclaration, Edit, Kind, NewNode, Node, NodeId};
+use lay_layout::edits::Cmd;
 use lay_layout::face::Face;
 use lay_layout::run::RunDoc;
 use lay_layout::style::Decls;
@@ -100,10 +101,21 @@ fn add_scripts(text: &mut String, run: &RunDoc) -> Result<(), AllocError> {
 
 fn add_command(text: &mut String, command: &Cmd) -> Result<(), AllocError> {
     match command {
-        Cmd::Edit(edit) => add_edit(text, edit),
+        Cmd::Edits(edits) => add_edits(text, edits.as_slice()),
         Cmd::Latest => text.push_str("latest\n"),
         Cmd::Sync => text.push_str("sync\n"),
     }
+}
+
+/// One edit by itself, or each edit of a batch behind a line that says so.
+fn add_edits(text: &mut String, edits: &[Edit]) -> Result<(), AllocError> {
+    if edits.len() > 1 {
+        writeln!(text, "batch {}", edits.len())?;
+    }
+    for edit in edits {
+        add_edit(text, edit)?;
+    }
+    Ok(())
 }
 
 fn add_edit(text: &mut String, edit: &Edit) -> Result<(), AllocError> {

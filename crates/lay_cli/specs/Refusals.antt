@@ -5,7 +5,7 @@ use Rattle.lay_json.specs.declared.fault.Field.{Field}
 use Rattle.lay_json.specs.declared.fault.Spot.{Spot}
 use Rattle.lay_json.specs.declared.fault.Spot.TheVariants.{Run, Node, Command}
 use Rattle.lay_json.specs.declared.fault.InputFault.{InputFault}
-use Rattle.lay_json.specs.declared.fault.InputFault.TheVariants.{TooLong, BadJson, Missing, WrongKind, BadNumber, BadNode, BadDecl, TooManyEditors, TooManyCommands, TooManySelectors, NoMemory}
+use Rattle.lay_json.specs.declared.fault.InputFault.TheVariants.{TooLong, BadJson, Missing, WrongKind, BadNumber, BadNode, BadDecl, TooManyEditors, TooManyCommands, BatchTooLong, TooManySelectors, NoMemory}
 use Rattle.lay_json.specs.Fields.{name_of}
 use Rattle.lay_report.specs.Report.{fault_number}
 
@@ -33,6 +33,7 @@ fault_text (BadNode k fault) = codes "I5 " ++ decimal k ++ codes " E" ++ decimal
 fault_text (BadDecl k known) = codes "I6 " ++ decimal k ++ value_fault known
 fault_text TooManyEditors = codes "I7"
 fault_text TooManyCommands = codes "I8"
+fault_text (BatchTooLong editor index) = codes "I10 " ++ decimal editor ++ codes " " ++ decimal index
 fault_text TooManySelectors = codes "I11"
 fault_text NoMemory = codes ""
 

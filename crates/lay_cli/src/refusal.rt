@@ -34,6 +34,10 @@ fn push_fault(text: &mut String, fault: InputFault) -> Result<(), NoMemory>
         InputFault::BadDecl { node, known } => push_value_fault(text, node, known),
         InputFault::TooManyEditors => push_word(text, "I7"),
         InputFault::TooManyCommands => push_word(text, "I8"),
+        InputFault::BatchTooLong { editor, index } => {
+            push_number(text, "I10 ", u64::from(editor))?;
+            push_number(text, " ", u64::from(index))
+        }
         InputFault::TooManySelectors => push_word(text, "I11"),
         InputFault::NoMemory => push_word(text, ""),
     }

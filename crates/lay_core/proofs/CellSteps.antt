@@ -1,7 +1,7 @@
 -- Calls but edits are steps of work on cells.
 use Rattle.std.proofs.Common.{◌≡◌, Bool, true, false, sym, ap, subst, inl, inr}
-use Rattle.lay_layout.specs.doc.declared.command.Reply.{Reply}
-use Rattle.lay_layout.specs.doc.declared.command.Reply.TheVariants.{Accepted, Refused, Shown, NoMemory}
+use Rattle.lay_layout.specs.edits.declared.command.Reply.{Reply}
+use Rattle.lay_layout.specs.edits.declared.command.Reply.TheVariants.{Accepted, Refused, Shown, NoMemory}
 use Rattle.lay_layout.specs.cells.declared.answers.Claimed.{Claimed}
 use Rattle.lay_document_cells.specs.shape.declared.cell_key.CellKey.{CellKey}
 use Rattle.lay_document_cells.specs.cell_work.CellInputs.{CellInput}
@@ -74,7 +74,7 @@ refreshing s t does =
 
 present : (s t : State) (r : Reply) → ShowsPresent s r t → Works (document_cells s) (document_cells t)
 present s t (Accepted v) shows = absurd shows
-present s t (Refused f) shows = absurd shows
+present s t (Refused place f) shows = absurd shows
 present s t (Shown v) shows = refreshing s t shows.1
 present s t NoMemory shows = may_settle s t shows
 

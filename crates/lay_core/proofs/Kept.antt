@@ -3,13 +3,13 @@ use Rattle.std.proofs.Common.{◌≡◌, ◌<◌, ◌≤◌, ◌*◌, ℕ, ◌+�
 use Rattle.std.proofs.lemmas.List.Elements.{All-push}
 use Rattle.lay_layout.specs.doc.declared.edit.Edit.{Edit as Change}
 use Rattle.lay_layout.specs.doc.Document.{Document}
-use Rattle.lay_layout.specs.doc.Edits.{after, fault}
-use Rattle.lay_layout.specs.doc.declared.command.Reply.{Reply}
-use Rattle.lay_layout.specs.doc.declared.command.Reply.TheVariants.{Accepted, Refused, Shown, NoMemory}
-use Rattle.lay_layout.specs.doc.declared.history.Entry.{Entry}
-use Rattle.lay_layout.specs.doc.declared.history.Entry.TheVariants.{Edit, Publish, Latest, Sync}
+use Rattle.lay_layout.specs.edits.EditLists.{after_all, fault_at, first}
+use Rattle.lay_layout.specs.edits.declared.command.Reply.{Reply}
+use Rattle.lay_layout.specs.edits.declared.command.Reply.TheVariants.{Accepted, Refused, Shown, NoMemory}
+use Rattle.lay_layout.specs.edits.declared.history.Entry.{Entry}
+use Rattle.lay_layout.specs.edits.declared.history.Entry.TheVariants.{Edit, Publish, Latest, Sync}
 use Rattle.lay_layout.specs.frag.Pieces.{Context}
-use Rattle.lay_layout.specs.history.Histories.{accepted, doc_at, edit_in, edits, last_or, last_published, published, version_in}
+use Rattle.lay_layout.specs.history.Histories.{accepted, doc_at, list_in, lists, last_or, last_published, published, version_in}
 use Rattle.lay_layout.specs.history.Legal.{MayFollow}
 use Rattle.lay_layout.specs.history.Calls.{call_in, calls}
 use Rattle.lay_layout.specs.history.Trees.{PublishedTreeValue, versions_of}
@@ -50,10 +50,10 @@ counted_more n m trees le all k d lt = let c = all k d lt in omega (arith, le, c
 -- the entry of a call, with the document and its cells as they are afterwards
 call_keeps : (s : State) (e : Entry) (d : DocumentCells) → IsCore s → 0 < s.calls_left
     → version_in e ≡ [] → length (call_in e) ≡ 1 → MayFollow s.init s.history e
-    → d.document ≡ fold after s.document (edit_in e) → d.face ≡ s.face → s.laid ≤ d.laid → IsOfDocument d
+    → d.document ≡ fold after_all s.document (list_in e) → d.face ≡ s.face → s.laid ≤ d.laid → IsOfDocument d
     → IsCore (with_cells (called s e) d)
 call_keeps s e d is some none one follows d_is face_is laid_is sound = record {
-  document_is = d_is ∙ (ap (λ y. fold after y (edit_in e)) is.document_is ∙ sym (doc_after_more s.init s.history e));
+  document_is = d_is ∙ (ap (λ y. fold after_all y (list_in e)) is.document_is ∙ sym (doc_after_more s.init s.history e));
   legal = legal_more s.init s.history e is.legal follows;
   has_trees = is.has_trees ∙ sym (published_more s.history e ∙ (ap (λ v. published s.history ++ v) none ∙ append-nil (published s.history)));
   solved = subst (λ f. AreSolved s.init f (s.history ++ e ∷ []) s.trees) (sym face_is) (solved_more s e is);
@@ -69,44 +69,44 @@ HasRoom history left room = 2 * (length (calls history) + left) + 2 ≤ room
 room_more : (h : List Entry) (e : Entry) (left room : ℕ) → length (call_in e) ≡ 1 → 0 < left → HasRoom h left room → HasRoom (h ++ e ∷ []) (left - 1) room
 room_more h e left room one some has = let m = call_count_more h e in omega (arith, m, one, some, has)
 
-same_count : (h : List Entry) (e : Entry) → edit_in e ≡ [] → accepted (h ++ e ∷ []) ≡ accepted h
+same_count : (h : List Entry) (e : Entry) → list_in e ≡ [] → accepted (h ++ e ∷ []) ≡ accepted h
 same_count h e none = let a = accepted_more h e in let l = ap length none in omega (arith, a, l)
 
 -- a call that leaves the document and its cells as they are
 still_keeps : (s : State) (e : Entry) (d : DocumentCells) (n n' room : ℕ) → IsKept s n room → 0 < s.calls_left
-    → version_in e ≡ [] → length (call_in e) ≡ 1 → edit_in e ≡ [] → MayFollow s.init s.history e → d ≡ document_cells s → n' ≡ n
+    → version_in e ≡ [] → length (call_in e) ≡ 1 → list_in e ≡ [] → MayFollow s.init s.history e → d ≡ document_cells s → n' ≡ n
     → IsKept (with_cells (called s e) d) n' room
 still_keeps s e d n n' room is some none one no_edit follows same n_is = record {
-  is_core = call_keeps s e d is.is_core some none one follows (ap (λ x. x.document) same ∙ ap (λ es. fold after s.document es) (sym no_edit))
+  is_core = call_keeps s e d is.is_core some none one follows (ap (λ x. x.document) same ∙ ap (λ es. fold after_all s.document es) (sym no_edit))
       (no_work (document_cells s) d same).face (no_work (document_cells s) d same).laid (subst (λ x. IsOfDocument x) (sym same) is.is_core.sound);
   count_is = n_is ∙ (is.count_is ∙ sym (same_count s.history e no_edit));
   has_room = room_more s.history e s.calls_left room one some is.has_room;
 }
 
 -- the entry of an edit
-pub edit_keeps : (s : State) (editor index : ℕ) (edit : Change) (r : Reply) (d : DocumentCells) (n n' room : ℕ)
-    → IsKept s n room → 0 < s.calls_left → ChangesTo edit r (document_cells s, n) (d, n') → IsOfDocument d
-    → IsKept (with_cells (called s (Edit editor index edit r)) d) n' room
-edit_keeps s editor index edit (Accepted v) d n n' room is some does sound = record {
-  is_core = call_keeps s (Edit editor index edit (Accepted v)) d is.is_core some refl refl
-      (subst (λ y. fault y edit ≡ None) is.is_core.document_is does.0, does.1 ∙ ap (λ y. y + 1) is.count_is)
+pub edit_keeps : (s : State) (editor index : ℕ) (edits : List Change) (r : Reply) (d : DocumentCells) (n n' room : ℕ)
+    → IsKept s n room → 0 < s.calls_left → ChangesTo edits r (document_cells s, n) (d, n') → IsOfDocument d
+    → IsKept (with_cells (called s (Edit editor index edits r)) d) n' room
+edit_keeps s editor index edits (Accepted v) d n n' room is some does sound = record {
+  is_core = call_keeps s (Edit editor index edits (Accepted v)) d is.is_core some refl refl
+      (subst (λ y. first y edits ≡ None) is.is_core.document_is does.0, does.1 ∙ ap (λ y. y + 1) is.count_is)
       (ap (λ x. x.document) does.2.state) (ap (λ x. x.face) does.2.state) (let e = ap (λ x. x.laid) does.2.state in omega (arith, e)) sound;
-  count_is = let a = accepted_more s.history (Edit editor index edit (Accepted v)) in let b = does.3 in let c = is.count_is in omega (arith, a, b, c);
-  has_room = room_more s.history (Edit editor index edit (Accepted v)) s.calls_left room refl some is.has_room;
+  count_is = let a = accepted_more s.history (Edit editor index edits (Accepted v)) in let b = does.3 in let c = is.count_is in omega (arith, a, b, c);
+  has_room = room_more s.history (Edit editor index edits (Accepted v)) s.calls_left room refl some is.has_room;
 }
-edit_keeps s editor index edit (Refused g) d n n' room is some does sound =
-    still_keeps s (Edit editor index edit (Refused g)) d n n' room is some refl refl refl
-    (subst (λ y. fault y edit ≡ Some g) is.is_core.document_is does.0) does.1 does.2
-edit_keeps s editor index edit (Shown v) d n n' room is some does sound = absurd does
-edit_keeps s editor index edit NoMemory d n n' room is some does sound =
-    still_keeps s (Edit editor index edit NoMemory) d n n' room is some refl refl refl
-    (subst (λ y. fault y edit ≡ None) is.is_core.document_is does.0) does.1 does.2
+edit_keeps s editor index edits (Refused place g) d n n' room is some does sound =
+    still_keeps s (Edit editor index edits (Refused place g)) d n n' room is some refl refl refl
+    (subst (λ y. first y edits ≡ Some (place, g)) is.is_core.document_is does.0) does.1 does.2
+edit_keeps s editor index edits (Shown v) d n n' room is some does sound = absurd does
+edit_keeps s editor index edits NoMemory d n n' room is some does sound =
+    still_keeps s (Edit editor index edits NoMemory) d n n' room is some refl refl refl
+    (λ one. subst (λ y. fault_at y edits 0 ≡ None) is.is_core.document_is does.0) does.1 does.2
 
-edit_of_call : (e : Entry) → length (edit_in e) ≤ length (call_in e)
-edit_of_call (Edit editor index edit (Accepted v)) = omega arith
-edit_of_call (Edit editor index edit (Refused f)) = omega arith
-edit_of_call (Edit editor index edit (Shown v)) = omega arith
-edit_of_call (Edit editor index edit NoMemory) = omega arith
+edit_of_call : (e : Entry) → length (list_in e) ≤ length (call_in e)
+edit_of_call (Edit editor index edits (Accepted v)) = omega arith
+edit_of_call (Edit editor index edits (Refused place f)) = omega arith
+edit_of_call (Edit editor index edits (Shown v)) = omega arith
+edit_of_call (Edit editor index edits NoMemory) = omega arith
 edit_of_call (Publish v) = omega arith
 edit_of_call (Latest editor index r) = omega arith
 edit_of_call (Sync editor index r) = omega arith
@@ -115,7 +115,7 @@ accepted_few : (h : List Entry) → accepted h ≤ length (calls h)
 accepted_few [] = omega arith
 accepted_few (e ∷ h) =
     let r = accepted_few h in let one = edit_of_call e in
-    let a = length-append (edit_in e) (edits h) in let c = length-append (call_in e) (calls h) in
+    let a = length-append (list_in e) (lists h) in let c = length-append (call_in e) (calls h) in
     omega (arith, r, one, a, c)
 
 pub accepted_small : (s : State) (n room : ℕ) → IsKept s n room → n < 2 ^ 64 - 1
@@ -124,7 +124,7 @@ accepted_small s n room is =
 
 -- a call that is to be shown a version
 pub read_keeps : (s : State) (e : Entry) (n room : ℕ) → IsKept s n room → 0 < s.calls_left → IsRead e → MayFollow s.init s.history e → IsKept (called s e) n room
-read_keeps s (Edit editor index edit r) n room is some read follows = absurd read
+read_keeps s (Edit editor index edits r) n room is some read follows = absurd read
 read_keeps s (Publish v) n room is some read follows = absurd read
 read_keeps s (Latest editor index r) n room is some read follows =
     still_keeps s (Latest editor index r) (document_cells s) n n room is some refl refl refl follows refl refl
@@ -217,29 +217,29 @@ new_keeps d cells calls room d_is sound few room_is = record {
 
 -- an edit, and the numbers that are left for later calls
 pub edit_leaves : (s : State) (n room : ℕ) → IsKept s n room → HasNumbers s → 0 < s.calls_left
-    → (editor index : ℕ) (edit : Change) (r : Reply) (d : DocumentCells) (n' : ℕ)
-    → ChangesTo edit r (document_cells s, n) (d, n') → d.cells.draws ≤ s.cells.draws + 2 ^ 18 → IsOfDocument d
-    → IsKept (with_cells (called s (Edit editor index edit r)) d) n' room × HasNumbers (with_cells (called s (Edit editor index edit r)) d)
-edit_leaves s n room is has some editor index edit r d n' does few sound =
-    (edit_keeps s editor index edit r d n n' room is some does sound, omega (arith, has, some, few))
+    → (editor index : ℕ) (edits : List Change) (r : Reply) (d : DocumentCells) (n' : ℕ)
+    → ChangesTo edits r (document_cells s, n) (d, n') → d.cells.draws ≤ s.cells.draws + 2 ^ 18 → IsOfDocument d
+    → IsKept (with_cells (called s (Edit editor index edits r)) d) n' room × HasNumbers (with_cells (called s (Edit editor index edits r)) d)
+edit_leaves s n room is has some editor index edits r d n' does few sound =
+    (edit_keeps s editor index edits r d n n' room is some does sound, omega (arith, has, some, few))
 
-edit_does : (s : State) (n : ℕ) (editor index : ℕ) (edit : Change) (r : Reply) (d : DocumentCells) (n' : ℕ) → n ≡ accepted s.history
-    → ChangesTo edit r (document_cells s, n) (d, n') → EditsTo s editor index edit r (with_cells (called s (Edit editor index edit r)) d)
-edit_does s n editor index edit (Accepted v) d n' count_is does = (
+edit_does : (s : State) (n : ℕ) (editor index : ℕ) (edits : List Change) (r : Reply) (d : DocumentCells) (n' : ℕ) → n ≡ accepted s.history
+    → ChangesTo edits r (document_cells s, n) (d, n') → EditsTo s editor index edits r (with_cells (called s (Edit editor index edits r)) d)
+edit_does s n editor index edits (Accepted v) d n' count_is does = (
   does.0,
   does.1 ∙ ap (λ x. x + 1) count_is,
   record {
     cells = does.2;
-    state = subst (λ (x : DocumentCells). with_cells (called s (Edit editor index edit (Accepted v))) x
-        ≡ record (called s (Edit editor index edit (Accepted v))) { document = after s.document edit; cells = x.cells }) (sym does.2.state) refl;
+    state = subst (λ (x : DocumentCells). with_cells (called s (Edit editor index edits (Accepted v))) x
+        ≡ record (called s (Edit editor index edits (Accepted v))) { document = after_all s.document edits; cells = x.cells }) (sym does.2.state) refl;
   },
 )
-edit_does s n editor index edit (Refused f) d n' count_is does = (does.0, ap (with_cells (called s (Edit editor index edit (Refused f)))) does.1)
-edit_does s n editor index edit (Shown v) d n' count_is does = absurd does
-edit_does s n editor index edit NoMemory d n' count_is does = (does.0, ap (with_cells (called s (Edit editor index edit NoMemory))) does.1)
+edit_does s n editor index edits (Refused place f) d n' count_is does = (does.0, ap (with_cells (called s (Edit editor index edits (Refused place f)))) does.1)
+edit_does s n editor index edits (Shown v) d n' count_is does = absurd does
+edit_does s n editor index edits NoMemory d n' count_is does = (does.0, ap (with_cells (called s (Edit editor index edits NoMemory))) does.1)
 
-pub edits_of : (s now : State) (n room : ℕ) → s ≡ now → IsKept s n room → (editor index : ℕ) (edit : Change) (r : Reply) (d : DocumentCells) (n' : ℕ)
-    → ChangesTo edit r (document_cells s, n) (d, n') → EditsTo now editor index edit r (with_cells (called s (Edit editor index edit r)) d)
-edits_of s now n room same is editor index edit r d n' does =
-    subst (λ x. EditsTo x editor index edit r (with_cells (called s (Edit editor index edit r)) d)) same
-    (edit_does s n editor index edit r d n' is.count_is does)
+pub edits_of : (s now : State) (n room : ℕ) → s ≡ now → IsKept s n room → (editor index : ℕ) (edits : List Change) (r : Reply) (d : DocumentCells) (n' : ℕ)
+    → ChangesTo edits r (document_cells s, n) (d, n') → EditsTo now editor index edits r (with_cells (called s (Edit editor index edits r)) d)
+edits_of s now n room same is editor index edits r d n' does =
+    subst (λ x. EditsTo x editor index edits r (with_cells (called s (Edit editor index edits r)) d)) same
+    (edit_does s n editor index edits r d n' is.count_is does)

@@ -1,11 +1,12 @@
 -- What editors see of a core after a call is decided by what they saw before, but for want of memory.
 use Rattle.std.proofs.Common.{◌≡◌, ◌+◌, ℕ, Bool, true, false, List, Option, Some, refl, sym, ap, ◌∙◌, subst, rules}
 use Rattle.lay_layout.specs.doc.Document.{IsDocument}
-use Rattle.lay_layout.specs.doc.Edits.{after, fault}
+use Rattle.lay_layout.specs.edits.EditLists.{after_all, fault_at, first}
 use Rattle.lay_layout.specs.doc.declared.edit.Edit.{Edit as Change}
-use Rattle.lay_layout.specs.doc.declared.command.Reply.{Reply}
-use Rattle.lay_layout.specs.doc.declared.command.Reply.TheVariants.{Accepted, Refused, Shown, NoMemory}
-use Rattle.lay_layout.specs.doc.declared.history.Entry.TheVariants.{Edit, Latest, Sync}
+use Rattle.lay_layout.specs.doc.declared.edit.EditFault.{EditFault}
+use Rattle.lay_layout.specs.edits.declared.command.Reply.{Reply}
+use Rattle.lay_layout.specs.edits.declared.command.Reply.TheVariants.{Accepted, Refused, Shown, NoMemory}
+use Rattle.lay_layout.specs.edits.declared.history.Entry.TheVariants.{Edit, Latest, Sync}
 use Rattle.lay_layout.specs.cells.Laws.{OneFirstDirty}
 use Rattle.lay_layout.specs.cells.Reads.{AllClean, IsFirstDirtyKey}
 use Rattle.lay_document_cells.specs.shape.declared.cell_key.CellKey.{CellKey}
@@ -70,82 +71,82 @@ one_publishing one first s t u (Unsettled k) no_publishing valid p q a b = absur
 one_publishing one first s t u no_publishing y valid p q a b = absurd (p refl)
 
 -- an edit of the document with its cells
-edit_by : OneCellsEdit → (s t u : State) (edit : Change) → IsCore s → IsCore t → (e : State) → document_cells e ≡ document_cells s
-    → EditsDocument e edit t → EditsDocument e edit u → t ≡ u
-edit_by one s t u edit is later e same a b =
-    a.state ∙ (ap (λ c. record e { document = after e.document edit; cells = c }) (ap (λ d. d.cells) cells) ∙ sym b.state)
+edit_by : OneCellsEdit → (s t u : State) (edits : List Change) → IsCore s → IsCore t → (e : State) → document_cells e ≡ document_cells s
+    → EditsDocument e edits t → EditsDocument e edits u → t ≡ u
+edit_by one s t u edits is later e same a b =
+    a.state ∙ (ap (λ c. record e { document = after_all e.document edits; cells = c }) (ap (λ d. d.cells) cells) ∙ sym b.state)
   where
     cells : document_cells t ≡ document_cells u
-    cells = one (document_cells e) (document_cells t) (document_cells u) edit
+    cells = one (document_cells e) (document_cells t) (document_cells u) edits
         (subst (λ d. IsOfDocument d) (sym same) is.sound)
         (subst (λ d. IsDocument d) (ap (λ x. x.document) a.state) later.sound.cells.is_document) a.cells b.cells
 
 pub one_edit : OneCellsEdit → OneEdit
-one_edit one s t u editor index edit (Accepted v) (Accepted w) is later q r a b =
+one_edit one s t u editor index edits (Accepted v) (Accepted w) is later q r a b =
     let same : v ≡ w = a.1 ∙ sym b.1 in (
       ap (λ n. Accepted n) same,
-      edit_by one s t u edit is later (called s (Edit editor index edit (Accepted v))) refl a.2
-          (subst (λ n. EditsDocument (called s (Edit editor index edit (Accepted n))) edit u) (sym same) b.2),
+      edit_by one s t u edits is later (called s (Edit editor index edits (Accepted v))) refl a.2
+          (subst (λ n. EditsDocument (called s (Edit editor index edits (Accepted n))) edits u) (sym same) b.2),
     )
-one_edit one s t u editor index edit (Accepted v) (Refused g) is later q r a b = absurd (not_none g (sym a.0 ∙ b.0))
-one_edit one s t u editor index edit (Accepted v) (Shown w) is later q r a b = absurd b
-one_edit one s t u editor index edit (Accepted v) NoMemory is later q r a b = absurd (r refl)
-one_edit one s t u editor index edit (Refused f) (Accepted w) is later q r a b = absurd (not_none f (sym b.0 ∙ a.0))
-one_edit one s t u editor index edit (Refused f) (Refused g) is later q r a b =
-    let same : f ≡ g = some_is f g (sym a.0 ∙ b.0) in
-    (ap (λ x. Refused x) same, a.1 ∙ (ap (λ x. called s (Edit editor index edit (Refused x))) same ∙ sym b.1))
-one_edit one s t u editor index edit (Refused f) (Shown w) is later q r a b = absurd b
-one_edit one s t u editor index edit (Refused f) NoMemory is later q r a b = absurd (r refl)
-one_edit one s t u editor index edit (Shown v) y is later q r a b = absurd a
-one_edit one s t u editor index edit NoMemory y is later q r a b = absurd (q refl)
+one_edit one s t u editor index edits (Accepted v) (Refused place g) is later q r a b = absurd (not_none (place, g) (sym a.0 ∙ b.0))
+one_edit one s t u editor index edits (Accepted v) (Shown w) is later q r a b = absurd b
+one_edit one s t u editor index edits (Accepted v) NoMemory is later q r a b = absurd (r refl)
+one_edit one s t u editor index edits (Refused place f) (Accepted w) is later q r a b = absurd (not_none (place, f) (sym b.0 ∙ a.0))
+one_edit one s t u editor index edits (Refused place f) (Refused place' g) is later q r a b =
+    let same = some_is (place, f) (place', g) (sym a.0 ∙ b.0) in
+    (ap (λ (x : ℕ × EditFault). Refused x.0 x.1) same, a.1 ∙ (ap (λ (x : ℕ × EditFault). called s (Edit editor index edits (Refused x.0 x.1))) same ∙ sym b.1))
+one_edit one s t u editor index edits (Refused place f) (Shown w) is later q r a b = absurd b
+one_edit one s t u editor index edits (Refused place f) NoMemory is later q r a b = absurd (r refl)
+one_edit one s t u editor index edits (Shown v) y is later q r a b = absurd a
+one_edit one s t u editor index edits NoMemory y is later q r a b = absurd (q refl)
 
 -- what is seen of it
-faults_same : (s z : State) (edit : Change) → seen s ≡ seen z → fault s.document edit ≡ fault z.document edit
-faults_same s z edit same = ap (λ (x : State). fault x.document edit) same
+faults_same : (s z : State) (edits : List Change) → seen s ≡ seen z → first s.document edits ≡ first z.document edits
+faults_same s z edits same = ap (λ (x : State). first x.document edits) same
 
 pub one_seen_edit : OneSeenEdit
-one_seen_edit s z t u editor index edit (Accepted v) (Accepted w) same q r a b =
+one_seen_edit s z t u editor index edits (Accepted v) (Accepted w) same q r a b =
     let versions : v ≡ w = a.1 ∙ (ap (λ (x : State). accepted x.history + 1) same ∙ sym b.1) in (
       ap (λ n. Accepted n) versions,
       ap seen a.2.state
-          ∙ (ap (λ (x : State). record (called x (Edit editor index edit (Accepted v))) { document = after x.document edit }) same
-          ∙ (ap (λ n. record (called (seen z) (Edit editor index edit (Accepted n))) { document = after z.document edit }) versions ∙ sym (ap seen b.2.state))),
+          ∙ (ap (λ (x : State). record (called x (Edit editor index edits (Accepted v))) { document = after_all x.document edits }) same
+          ∙ (ap (λ n. record (called (seen z) (Edit editor index edits (Accepted n))) { document = after_all z.document edits }) versions ∙ sym (ap seen b.2.state))),
     )
-one_seen_edit s z t u editor index edit (Accepted v) (Refused g) same q r a b =
-    absurd (not_none g (sym a.0 ∙ (faults_same s z edit same ∙ b.0)))
-one_seen_edit s z t u editor index edit (Accepted v) (Shown w) same q r a b = absurd b
-one_seen_edit s z t u editor index edit (Accepted v) NoMemory same q r a b = absurd (r refl)
-one_seen_edit s z t u editor index edit (Refused f) (Accepted w) same q r a b =
-    absurd (not_none f (sym b.0 ∙ (sym (faults_same s z edit same) ∙ a.0)))
-one_seen_edit s z t u editor index edit (Refused f) (Refused g) same q r a b =
-    let faults : f ≡ g = some_is f g (sym a.0 ∙ (faults_same s z edit same ∙ b.0)) in (
-      ap (λ x. Refused x) faults,
-      ap seen a.1 ∙ (ap (λ x. called x (Edit editor index edit (Refused f))) same
-          ∙ (ap (λ x. called (seen z) (Edit editor index edit (Refused x))) faults ∙ sym (ap seen b.1))),
+one_seen_edit s z t u editor index edits (Accepted v) (Refused place g) same q r a b =
+    absurd (not_none (place, g) (sym a.0 ∙ (faults_same s z edits same ∙ b.0)))
+one_seen_edit s z t u editor index edits (Accepted v) (Shown w) same q r a b = absurd b
+one_seen_edit s z t u editor index edits (Accepted v) NoMemory same q r a b = absurd (r refl)
+one_seen_edit s z t u editor index edits (Refused place f) (Accepted w) same q r a b =
+    absurd (not_none (place, f) (sym b.0 ∙ (sym (faults_same s z edits same) ∙ a.0)))
+one_seen_edit s z t u editor index edits (Refused place f) (Refused place' g) same q r a b =
+    let faults = some_is (place, f) (place', g) (sym a.0 ∙ (faults_same s z edits same ∙ b.0)) in (
+      ap (λ (x : ℕ × EditFault). Refused x.0 x.1) faults,
+      ap seen a.1 ∙ (ap (λ x. called x (Edit editor index edits (Refused place f))) same
+          ∙ (ap (λ (x : ℕ × EditFault). called (seen z) (Edit editor index edits (Refused x.0 x.1))) faults ∙ sym (ap seen b.1))),
     )
-one_seen_edit s z t u editor index edit (Refused f) (Shown w) same q r a b = absurd b
-one_seen_edit s z t u editor index edit (Refused f) NoMemory same q r a b = absurd (r refl)
-one_seen_edit s z t u editor index edit (Shown v) y same q r a b = absurd a
-one_seen_edit s z t u editor index edit NoMemory y same q r a b = absurd (q refl)
+one_seen_edit s z t u editor index edits (Refused place f) (Shown w) same q r a b = absurd b
+one_seen_edit s z t u editor index edits (Refused place f) NoMemory same q r a b = absurd (r refl)
+one_seen_edit s z t u editor index edits (Shown v) y same q r a b = absurd a
+one_seen_edit s z t u editor index edits NoMemory y same q r a b = absurd (q refl)
 
 present_by : OneRefreshing → (s z t u : State) (q r : Reply) → IsDocument s.document → seen s ≡ seen z → (q ≡ NoMemory → ⊥) → (r ≡ NoMemory → ⊥)
     → ShowsPresent s q t → ShowsPresent z r u → (q ≡ r) × (seen t ≡ seen u)
 present_by one s z t u (Shown v) (Shown w) valid same q r a b =
     (ap (λ n. Shown n) (a.0 ∙ (ap (λ (x : State). accepted x.history) same ∙ sym b.0)), one s z t u valid same a.1 b.1)
 present_by one s z t u (Shown v) (Accepted w) valid same q r a b = absurd b
-present_by one s z t u (Shown v) (Refused f) valid same q r a b = absurd b
+present_by one s z t u (Shown v) (Refused place f) valid same q r a b = absurd b
 present_by one s z t u (Shown v) NoMemory valid same q r a b = absurd (r refl)
 present_by one s z t u (Accepted v) y valid same q r a b = absurd a
-present_by one s z t u (Refused f) y valid same q r a b = absurd a
+present_by one s z t u (Refused place f) y valid same q r a b = absurd a
 present_by one s z t u NoMemory y valid same q r a b = absurd (q refl)
 
 version_by : (o : Option ℕ) (q r : Reply) → ShowsVersion o q → ShowsVersion o r → q ≡ r
 version_by o (Shown v) (Shown w) a b = ap (λ n. Shown n) (some_is v w (sym a ∙ b))
 version_by o (Shown v) (Accepted w) a b = absurd b
-version_by o (Shown v) (Refused f) a b = absurd b
+version_by o (Shown v) (Refused place f) a b = absurd b
 version_by o (Shown v) NoMemory a b = absurd b
 version_by o (Accepted v) y a b = absurd a
-version_by o (Refused f) y a b = absurd a
+version_by o (Refused place f) y a b = absurd a
 version_by o NoMemory y a b = absurd a
 
 latest_by : OneRefreshing → (due : Bool) (s z t u : State) (q r : Reply) → IsDocument s.document → seen s ≡ seen z → (q ≡ NoMemory → ⊥) → (r ≡ NoMemory → ⊥)

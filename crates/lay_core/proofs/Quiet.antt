@@ -1,8 +1,8 @@
 -- To settle and to publish answers no call.
 use Rattle.std.proofs.Common.{◌≡◌, List, Bool, true, false, refl, ap, ◌∙◌, subst, sym, append-nil, inl, inr}
-use Rattle.lay_layout.specs.doc.declared.command.Reply.{Reply}
-use Rattle.lay_layout.specs.doc.declared.command.Reply.TheVariants.{Accepted, Refused, Shown, NoMemory}
-use Rattle.lay_layout.specs.doc.declared.history.Entry.TheVariants.{Publish}
+use Rattle.lay_layout.specs.edits.declared.command.Reply.{Reply}
+use Rattle.lay_layout.specs.edits.declared.command.Reply.TheVariants.{Accepted, Refused, Shown, NoMemory}
+use Rattle.lay_layout.specs.edits.declared.history.Entry.TheVariants.{Publish}
 use Rattle.lay_layout.specs.frag.Pieces.{Context}
 use Rattle.lay_layout.specs.history.Histories.{accepted}
 use Rattle.lay_layout.specs.history.Calls.{calls}
@@ -60,7 +60,7 @@ may_settle_quiet s t does = elim does [ inl all ↦ change_quiet _ s t all | inr
 
 pub present_quiet : (s t : State) (r : Reply) → ShowsPresent s r t → IsQuiet s t
 present_quiet s t (Accepted v) shows = absurd shows
-present_quiet s t (Refused f) shows = absurd shows
+present_quiet s t (Refused place f) shows = absurd shows
 present_quiet s t (Shown v) shows = refresh_quiet s t shows.1
 present_quiet s t NoMemory shows = may_settle_quiet s t shows
 

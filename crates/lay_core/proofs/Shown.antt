@@ -1,9 +1,9 @@
 -- What a core shows, and what that makes of the history.
 use Rattle.std.proofs.Common.{◌≡◌, ℕ, Bool, true, false, Option, Some, None, sym, ap, ◌∙◌, subst, arith, rules, refl}
 use Rattle.std.proofs.lemmas.Bool.{eqb-true}
-use Rattle.lay_layout.specs.doc.declared.command.Reply.{Reply}
-use Rattle.lay_layout.specs.doc.declared.command.Reply.TheVariants.{Accepted, Refused, Shown, NoMemory}
-use Rattle.lay_layout.specs.doc.declared.history.Entry.TheVariants.{Publish}
+use Rattle.lay_layout.specs.edits.declared.command.Reply.{Reply}
+use Rattle.lay_layout.specs.edits.declared.command.Reply.TheVariants.{Accepted, Refused, Shown, NoMemory}
+use Rattle.lay_layout.specs.edits.declared.history.Entry.TheVariants.{Publish}
 use Rattle.lay_layout.specs.history.Histories.{accepted, last_or, last_published, published}
 use Rattle.lay_layout.specs.history.Legal.{AnswersLatest, AnswersSync, IsWhole}
 use Rattle.lay_layout.proofs.lay_history.OneMore.{accepted_more, last_of_more, published_more}
@@ -45,20 +45,20 @@ whole_of s t does = let p = is_present s t does in p.last ∙ ap (λ n. Some n) 
 -- the entry of the reply may follow
 pub sync_follows : (s m : State) (r : Reply) → ShowsPresent s r m → AnswersSync (last_published m.history) (accepted m.history) r
 sync_follows s m (Accepted v) shows = shows
-sync_follows s m (Refused f) shows = shows
+sync_follows s m (Refused place f) shows = shows
 sync_follows s m (Shown v) shows =
     let p = is_present s m shows.1 in (p.last ∙ ap (λ n. Some n) (sym shows.0), shows.0 ∙ sym p.count)
 sync_follows s m NoMemory shows = tt
 
 latest_of_sync : (o : Option ℕ) (n : ℕ) (r : Reply) → AnswersSync o n r → AnswersLatest o r
 latest_of_sync o n (Accepted v) answers = answers
-latest_of_sync o n (Refused f) answers = answers
+latest_of_sync o n (Refused place f) answers = answers
 latest_of_sync o n (Shown v) answers = answers.0
 latest_of_sync o n NoMemory answers = answers
 
 latest_of_version : (o : Option ℕ) (r : Reply) → ShowsVersion o r → AnswersLatest o r
 latest_of_version o (Accepted v) shows = shows
-latest_of_version o (Refused f) shows = shows
+latest_of_version o (Refused place f) shows = shows
 latest_of_version o (Shown v) shows = shows
 latest_of_version o NoMemory shows = absurd shows
 

@@ -1,9 +1,9 @@
 -- What a core keeps where its cells are worked on, and where a version is published and shown.
 use Rattle.std.proofs.Common.{◌≡◌, ◌<◌, ◌≤◌, ℕ, ◌+◌, ◌^◌, Bool, true, false, length, Option, Some, refl, sym, ap, ◌∙◌, subst, arith, inl, inr, rules, eq-eqb}
-use Rattle.lay_layout.specs.doc.declared.command.Reply.{Reply}
-use Rattle.lay_layout.specs.doc.declared.command.Reply.TheVariants.{Accepted, Refused, Shown, NoMemory}
-use Rattle.lay_layout.specs.doc.declared.history.Entry.{Entry}
-use Rattle.lay_layout.specs.doc.declared.history.Entry.TheVariants.{Latest, Sync}
+use Rattle.lay_layout.specs.edits.declared.command.Reply.{Reply}
+use Rattle.lay_layout.specs.edits.declared.command.Reply.TheVariants.{Accepted, Refused, Shown, NoMemory}
+use Rattle.lay_layout.specs.edits.declared.history.Entry.{Entry}
+use Rattle.lay_layout.specs.edits.declared.history.Entry.TheVariants.{Latest, Sync}
 use Rattle.lay_document_cells.specs.State.{IsOfDocument, State as DocumentCells}
 use Rattle.lay_core.specs.State.{HasNumbers, IsKept, State, document_cells, with_cells}
 use Rattle.lay_core.specs.Publishing.{Publishes, PublishesUnless, RefreshesTo, is_last, is_version}
@@ -70,7 +70,7 @@ may_settle_keeps s t n room does sound is = elim does [
 
 pub present_keeps : (s t : State) (r : Reply) (n room : ℕ) → ShowsPresent s r t → IsOfDocument (document_cells t) → IsKept s n room → IsKept t n room
 present_keeps s t (Accepted v) n room shows sound is = absurd shows
-present_keeps s t (Refused f) n room shows sound is = absurd shows
+present_keeps s t (Refused place f) n room shows sound is = absurd shows
 present_keeps s t (Shown v) n room shows sound is = refresh_keeps s t n room shows.1 sound is
 present_keeps s t NoMemory n room shows sound is = may_settle_keeps s t n room shows sound is
 

@@ -3,9 +3,9 @@
 use Rattle.std.specs.Prelude.{ℕ, ◌≡◌, List, [], slice_get, Some}
 use Rattle.lay_layout.specs.doc.declared.edit.Edit.{Edit as Change}
 use Rattle.lay_layout.specs.doc.Document.{IsDocument}
-use Rattle.lay_layout.specs.doc.declared.command.Reply.{Reply}
-use Rattle.lay_layout.specs.doc.declared.command.Reply.TheVariants.{NoMemory}
-use Rattle.lay_layout.specs.doc.declared.history.Entry.{Entry}
+use Rattle.lay_layout.specs.edits.declared.command.Reply.{Reply}
+use Rattle.lay_layout.specs.edits.declared.command.Reply.TheVariants.{NoMemory}
+use Rattle.lay_layout.specs.edits.declared.history.Entry.{Entry}
 use Rattle.lay_layout.specs.frag.Pieces.{Context}
 use Rattle.lay_layout.specs.history.Histories.{accepted, doc_at, shown_version}
 use Rattle.lay_layout.specs.history.Legal.{IsWhole}
@@ -40,13 +40,13 @@ OnePublishing = (s t u : State) (p q : Publish) → IsDocument s.document → (p
 
 -- an edit has one reply and leaves one state, also of cells
 abbrev pub OneEdit : Type 0
-OneEdit = (s t u : State) (editor index : ℕ) (edit : Change) (q r : Reply) → IsCore s → IsCore t → (q ≡ NoMemory → ⊥) → (r ≡ NoMemory → ⊥)
-    → EditsTo s editor index edit q t → EditsTo s editor index edit r u → (q ≡ r) × (t ≡ u)
+OneEdit = (s t u : State) (editor index : ℕ) (edits : List Change) (q r : Reply) → IsCore s → IsCore t → (q ≡ NoMemory → ⊥) → (r ≡ NoMemory → ⊥)
+    → EditsTo s editor index edits q t → EditsTo s editor index edits r u → (q ≡ r) × (t ≡ u)
 
 -- and what is seen of it comes of what was seen, whatever the cells were
 abbrev pub OneSeenEdit : Type 0
-OneSeenEdit = (s z t u : State) (editor index : ℕ) (edit : Change) (q r : Reply) → AreSeenAlike s z → (q ≡ NoMemory → ⊥) → (r ≡ NoMemory → ⊥)
-    → EditsTo s editor index edit q t → EditsTo z editor index edit r u → (q ≡ r) × AreSeenAlike t u
+OneSeenEdit = (s z t u : State) (editor index : ℕ) (edits : List Change) (q r : Reply) → AreSeenAlike s z → (q ≡ NoMemory → ⊥) → (r ≡ NoMemory → ⊥)
+    → EditsTo s editor index edits q t → EditsTo z editor index edits r u → (q ≡ r) × AreSeenAlike t u
 
 -- so it is with `Latest`, where some cell was dirty in both or in neither, and with `Sync`
 abbrev pub OneLatest : Type 0

@@ -1,12 +1,12 @@
 -- What the calls of editors on a core leave.
-use Rattle.std.specs.Prelude.{ℕ, ⊤, ◌≡◌, ◌+◌, ◌-◌, ◌&&◌, not, [], ◌∷◌, ◌++◌, Bool, true, false, Option, Some, None, is_some, if◌then◌else◌}
+use Rattle.std.specs.Prelude.{ℕ, ⊤, ◌≡◌, ◌+◌, ◌-◌, ◌&&◌, not, List, [], ◌∷◌, ◌++◌, Bool, true, false, Option, Some, None, is_some, if◌then◌else◌}
 use Rattle.lay_layout.specs.doc.declared.edit.Edit.{Edit as Change}
 use Rattle.lay_layout.specs.doc.Document.{Document}
-use Rattle.lay_layout.specs.doc.Edits.{after, fault}
-use Rattle.lay_layout.specs.doc.declared.command.Reply.{Reply}
-use Rattle.lay_layout.specs.doc.declared.command.Reply.TheVariants.{Accepted, Refused, Shown, NoMemory}
-use Rattle.lay_layout.specs.doc.declared.history.Entry.{Entry}
-use Rattle.lay_layout.specs.doc.declared.history.Entry.TheVariants.{Edit, Publish, Latest, Sync}
+use Rattle.lay_layout.specs.edits.EditLists.{after_all, fault_at, first}
+use Rattle.lay_layout.specs.edits.declared.command.Reply.{Reply}
+use Rattle.lay_layout.specs.edits.declared.command.Reply.TheVariants.{Accepted, Refused, Shown, NoMemory}
+use Rattle.lay_layout.specs.edits.declared.history.Entry.{Entry}
+use Rattle.lay_layout.specs.edits.declared.history.Entry.TheVariants.{Edit, Publish, Latest, Sync}
 use Rattle.lay_layout.specs.face.FaceValue.{FaceValue}
 use Rattle.lay_layout.specs.history.Histories.{accepted, last_published}
 use Rattle.lay_document_cells.specs.Edits.{EditsTo as CellsEditTo}
@@ -24,31 +24,31 @@ pub record IsNewCore (d : Document) (face : FaceValue) (calls : ℕ) (s : State)
 abbrev pub called : State → Entry → State
 called s entry = record s { history = s.history ++ entry ∷ []; calls_left = s.calls_left - 1 }
 
--- the document is edited, and cells of contexts that this touches are dirty, with those that depend on them
-pub record EditsDocument (s : State) (edit : Change) (t : State) : Type 0 where
-  pub cells : CellsEditTo (document_cells s) edit (document_cells t)
-  pub state : t ≡ record s { document = after s.document edit; cells = t.cells }
+-- the list of edits is applied, and cells of contexts that this touches are dirty, with those that depend on them
+pub record EditsDocument (s : State) (edits : List Change) (t : State) : Type 0 where
+  pub cells : CellsEditTo (document_cells s) edits (document_cells t)
+  pub state : t ≡ record s { document = after_all s.document edits; cells = t.cells }
 
--- an edit with this reply: a fault or want of memory changes nothing but the history
-abbrev pub EditsTo : State → (editor index : ℕ) → Change → Reply → State → Type 0
-EditsTo s editor index edit (Accepted version) t =
-    (fault s.document edit ≡ None) × (version ≡ accepted s.history + 1)
-    × EditsDocument (called s (Edit editor index edit (Accepted version))) edit t
-EditsTo s editor index edit (Refused f) t = (fault s.document edit ≡ Some f) × (t ≡ called s (Edit editor index edit (Refused f)))
-EditsTo s editor index edit (Shown version) t = ⊥
-EditsTo s editor index edit NoMemory t = (fault s.document edit ≡ None) × (t ≡ called s (Edit editor index edit NoMemory))
+-- a list of edits with this reply: a fault or want of memory changes nothing but the history
+abbrev pub EditsTo : State → (editor index : ℕ) → List Change → Reply → State → Type 0
+EditsTo s editor index edits (Accepted version) t =
+    (first s.document edits ≡ None) × (version ≡ accepted s.history + 1)
+    × EditsDocument (called s (Edit editor index edits (Accepted version))) edits t
+EditsTo s editor index edits (Refused place f) t = (first s.document edits ≡ Some (place, f)) × (t ≡ called s (Edit editor index edits (Refused place f)))
+EditsTo s editor index edits (Shown version) t = ⊥
+EditsTo s editor index edits NoMemory t = (fault_at s.document edits 0 ≡ None) × (t ≡ called s (Edit editor index edits NoMemory))
 
 -- the present version is shown, or memory runs out and nothing is published
 abbrev pub ShowsPresent : State → Reply → State → Type 0
 ShowsPresent s (Accepted version) t = ⊥
-ShowsPresent s (Refused f) t = ⊥
+ShowsPresent s (Refused place f) t = ⊥
 ShowsPresent s (Shown version) t = (version ≡ accepted s.history) × RefreshesTo s t
 ShowsPresent s NoMemory t = MaySettle s t
 
 -- this version is shown
 abbrev pub ShowsVersion : Option ℕ → Reply → Type 0
 ShowsVersion last (Accepted version) = ⊥
-ShowsVersion last (Refused f) = ⊥
+ShowsVersion last (Refused place f) = ⊥
 ShowsVersion last (Shown version) = last ≡ Some version
 ShowsVersion last NoMemory = ⊥
 
@@ -81,7 +81,7 @@ pub record SyncTo (s : State) (editor index : ℕ) (reply : Reply) (t : State) :
 
 -- the entry of a command that is to be shown a version
 abbrev pub IsRead : Entry → Type 0
-IsRead (Edit editor index edit reply) = ⊥
+IsRead (Edit editor index edits reply) = ⊥
 IsRead (Publish version) = ⊥
 IsRead (Latest editor index reply) = ⊤
 IsRead (Sync editor index reply) = ⊤

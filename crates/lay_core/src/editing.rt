@@ -4,21 +4,21 @@ ghost use Rattle.std.specs.Prelude.{◌≡◌, ◌<◌, ◌≤◌, ◌^◌, ◌-
 ghost use Rattle.lay_core.specs.Changes.{ChangesTo};
 
 use lay_document_cells::DocumentCells;
-use lay_layout::doc::{Edit, Reply};
+use lay_layout::edits::{BatchFault, Edits, Reply};
 
-/// The reply to an edit, which is applied where it has no fault and memory is there: one edit more is accepted then.
-pub(crate) fn edited(cells: &mut DocumentCells, accepted: &mut u64, edit: &Edit) -> Reply
+/// The reply to a list of edits, which is applied where it has no fault and memory is there: one list more is accepted then.
+pub(crate) fn edited(cells: &mut DocumentCells, accepted: &mut u64, edits: &Edits) -> Reply
     requires few { accepted.old < 2 ^ 64 - 1 }
     requires draws { cells.old.cells.draws ≤ 2 ^ 63 + 2 ^ 51 }
-    ensures change { ChangesTo edit.now result (cells.old, accepted.old) (cells.new, accepted.new) }
+    ensures change { ChangesTo edits.now result (cells.old, accepted.old) (cells.new, accepted.new) }
     ensures draws { cells.new.cells.draws ≤ cells.old.cells.draws + 2 ^ 18 }
 {
-    if let Err(fault) = cells.doc().check(edit) {
-        return Reply::Refused(fault);
+    match cells.edit(edits) {
+        Ok(()) => {
+            *accepted += 1;
+            Reply::Accepted(*accepted)
+        }
+        Err(BatchFault::At { place, fault }) => Reply::Refused { place, fault },
+        Err(BatchFault::NoMemory) => Reply::NoMemory,
     }
-    if cells.edit(edit).is_err() {
-        return Reply::NoMemory;
-    }
-    *accepted += 1;
-    Reply::Accepted(*accepted)
 }

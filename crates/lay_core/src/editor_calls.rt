@@ -7,23 +7,23 @@ ghost use Rattle.lay_core.specs.Steps.{EditsTo, LatestTo, SyncTo};
 use crate::core_state::Core;
 use crate::editing::edited;
 use crate::showing::{shown_latest, shown_present};
-use lay_layout::doc::{Edit, Entry, Reply};
+use lay_layout::edits::{Edits, Entry, Reply};
 
 impl Core {
-    /// Answers an edit of an editor: Refused with its first fault; else Accepted with the new version, and then cells are dirty
+    /// Answers a list of edits of an editor: Refused with its first fault and the place of that; else Accepted with the new version, and then cells are dirty
     /// of contexts that it touches, and those that depend on them; or NoMemory, and then document and cells are as before.
-    pub fn edit(&mut self, editor: u32, index: u32, edit: Edit) -> Reply
+    pub fn edit(&mut self, editor: u32, index: u32, edits: Edits) -> Reply
         requires calls { 0 < self.old.calls_left }
-        ensures edits { EditsTo self.old editor index edit result self.new }
+        ensures edits { EditsTo self.old editor index edits result self.new }
         ensures draws { self.new.cells.draws ≤ self.old.cells.draws + 2 ^ 18 }
     {
-        let reply = edited(&mut self.cells, &mut self.accepted, &edit);
+        let reply = edited(&mut self.cells, &mut self.accepted, &edits);
         self.cells.sound();
         self.calls_left -= 1;
         self.history.push_reserved(Entry::Edit {
             editor,
             index,
-            edit,
+            edits,
             reply,
         });
         reply

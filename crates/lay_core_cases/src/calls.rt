@@ -23,7 +23,7 @@ use crate::keys::{counts, key, shown_key};
 use crate::trees::{contexts, is_as_scratch};
 use crate::words::first;
 use lay_core::{Core, Publish};
-use lay_layout::doc::Reply;
+use lay_layout::edits::{Edits, Reply};
 use lay_layout::units::NoMemory;
 use std::alloc::Global;
 
@@ -76,7 +76,7 @@ impl OneCore {
             "latest" => self.core.latest(1, index),
             "sync" => self.core.sync(1, index),
             _ => match edit(alloc, call, rest)? {
-                Some(edit) => self.core.edit(1, index, edit),
+                Some(edit) => self.core.edit(1, index, Edits::one(alloc, edit)?),
                 None => return Ok(None),
             },
         };
@@ -135,7 +135,7 @@ fn shown(alloc: Global, number: u64) -> Result<Option<String>, NoMemory> {
 fn shown_reply(alloc: Global, reply: Reply) -> Result<String, NoMemory> {
     match reply {
         Reply::Accepted(version) => Ok(format!(in alloc; "accepted {version}")?),
-        Reply::Refused(fault) => Ok(format!(in alloc; "refused {fault:?}")?),
+        Reply::Refused { fault, .. } => Ok(format!(in alloc; "refused {fault:?}")?),
         Reply::Shown(version) => Ok(format!(in alloc; "shown {version}")?),
         Reply::NoMemory => Err(NoMemory),
     }

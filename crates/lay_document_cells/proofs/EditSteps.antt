@@ -2,7 +2,7 @@
 use Rattle.std.proofs.Common.{◌≡◌, inl, ℕ, ◌≤◌, refl, arith, ap, sym, subst, ◌∙◌, None}
 use Rattle.lay_layout.specs.doc.Document.{Document, IsDocument}
 use Rattle.lay_layout.specs.doc.declared.edit.Edit.{Edit}
-use Rattle.lay_layout.specs.doc.Edits.{after, fault}
+use Rattle.lay_layout.specs.edits.EditLists.{after_all, first}
 use Rattle.lay_layout.specs.doc.Laws.{PutsNode}
 use Rattle.lay_layout.specs.face.FaceValue.{FaceValue}
 use Rattle.lay_layout.specs.context.Medium.{Medium}
@@ -13,7 +13,8 @@ use Rattle.lay_layout.specs.cell_progress.Grants.{laid_of_all}
 use Rattle.lay_cell_table.specs.cell_work.CellLocal.{IsCellLocal}
 use Rattle.lay_cell_table.specs.cell_laws.DocumentCells.{AreDocumentCells}
 use Rattle.lay_cell_table.specs.cell_laws.SoundCells.{CellState}
-use Rattle.lay_cell_table.specs.cell_steps.EditedCells.{EditsKeepCells, FollowsContexts}
+use Rattle.lay_list_steps.specs.EditedLists.{ListsKeepCells}
+use Rattle.lay_cell_table.specs.cell_steps.EditedCells.{FollowsContexts}
 use Rattle.lay_cell_table.specs.changes.Laws.{TouchedContextsAreListed}
 use Rattle.lay_document_cells.specs.Edits.{EditsTo, FollowsLists}
 use Rattle.lay_document_cells.specs.Kept.{IsKept, TableValue}
@@ -21,19 +22,19 @@ use Rattle.lay_document_cells.specs.State.{AreStyledLists, State}
 use Rattle.lay_document_cells.proofs.KeptSteps.{state_of}
 
 module _ (d : Document) (face : FaceValue) (cells : CellState) (laid : ℕ) (medium : Medium) (table : TableValue)
-    (kept : IsKept (state_of d face cells laid) medium table) (edit : Edit) (e : Document) (is : e ≡ after d edit)
+    (kept : IsKept (state_of d face cells laid) medium table) (edits : List Edit) (e : Document) (is : e ≡ after_all d edits)
     (later : TableValue) (lists : AreStyledLists e later.styles later.lists) (t : CellState) (follows : FollowsLists table.lists later.lists cells t) where
-  lists_after : AreStyledLists (after d edit) later.styles later.lists
+  lists_after : AreStyledLists (after_all d edits) later.styles later.lists
   lists_after = subst (λ x. AreStyledLists x later.styles later.lists) is lists
 
-  pub edit_kept : EditsKeepCells → TouchedContextsAreListed → PutsNode edit → fault d edit ≡ None → IsSound IsCellLocal t → (m : Medium) → m ≡ medium_of e face
+  pub edit_kept : ListsKeepCells → TouchedContextsAreListed → All PutsNode edits → first d edits ≡ None → IsSound IsCellLocal t → (m : Medium) → m ≡ medium_of e face
       → laid_of_all t.rows ≤ laid_of_all cells.rows → cells.draws ≤ t.draws → IsKept (state_of e face t laid) m later
   edit_kept law listed puts accepted sound m same count draws =
       record {
         medium_is = same;
         lists_are = lists;
         cells = subst (λ x. AreDocumentCells x face later.lists.contexts later.lists.formatting_contexts t) (sym is)
-            (law d edit face table.styles later.styles table.lists.contexts later.lists.contexts table.lists.formatting_contexts later.lists.formatting_contexts cells t
+            (law d edits face table.styles later.styles table.lists.contexts later.lists.contexts table.lists.formatting_contexts later.lists.formatting_contexts cells t
             record {
               document = kept.cells.is_document;
               puts = puts;
@@ -54,9 +55,9 @@ module _ (d : Document) (face : FaceValue) (cells : CellState) (laid : ℕ) (med
         drawn = omega (arith, draws, kept.drawn);
       }
 
-  pub edited_to : (s : State) → state_of d face cells laid ≡ s → EditsTo s edit (state_of e face t laid)
+  pub edited_to : (s : State) → state_of d face cells laid ≡ s → EditsTo s edits (state_of e face t laid)
   edited_to s same =
-      subst (λ (x : State). EditsTo x edit (state_of e face t laid)) same record {
+      subst (λ (x : State). EditsTo x edits (state_of e face t laid)) same record {
         before = table.lists;
         before_are = (table.styles, kept.lists_are);
         later = later.lists;

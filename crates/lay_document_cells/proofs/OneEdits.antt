@@ -7,7 +7,7 @@ use Rattle.lay_layout.specs.contexts.FormattingLaws.{OneFormattingContextList}
 use Rattle.lay_layout.specs.contexts.Laws.{OneContextList}
 use Rattle.lay_layout.specs.doc.declared.edit.Edit.{Edit}
 use Rattle.lay_layout.specs.doc.Document.{Document, IsDocument, declarations_of, parents_of}
-use Rattle.lay_layout.specs.doc.Edits.{after}
+use Rattle.lay_layout.specs.edits.EditLists.{after_all}
 use Rattle.lay_layout.specs.doc.Laws.{OneStyleColumn}
 use Rattle.lay_layout.specs.style.declared.style.Style.{Style}
 use Rattle.lay_layout.specs.cells.Laws.{OneMarking, OneReshape}
@@ -58,7 +58,7 @@ module _ (one_keys : OneListOfTouchedKeys) (one_reshape : OneReshape CellKey Cel
       (λ i. record { rows = rows i; draws = draws i })
 
   pub one_edit_lem : OneStyleColumn → OneContextList → OneFormattingContextList → CellsHaveAShape → ContextsAreOfOwnNodes → OneEdit
-  one_edit_lem columns one_contexts one_all have own s t u edit of is a b =
+  one_edit_lem columns one_contexts one_all have own s t u edits of is a b =
       let was : AreListsOf s.document of.lists = (
         of.cells.styles,
         record {
@@ -68,7 +68,7 @@ module _ (one_keys : OneListOfTouchedKeys) (one_reshape : OneReshape CellKey Cel
         },
       ) in
       let before : a.before ≡ b.before = one_lists columns one_contexts one_all s.document a.before b.before of.cells.is_document a.before_are b.before_are in
-      let later : a.later ≡ b.later = one_lists columns one_contexts one_all (after s.document edit) a.later b.later is a.later_are b.later_are in
+      let later : a.later ≡ b.later = one_lists columns one_contexts one_all (after_all s.document edits) a.later b.later is a.later_are b.later_are in
       let cells : a.cells ≡ b.cells = one_following a.before a.later s.cells a.cells b.cells of.cells.cells.sound.shaped
-      (lists_shape have own (after s.document edit) a.later is a.later_are) a.follows (rw (before, later) b.follows) in
-      a.state ∙ ap (λ (c : CellState). record s { document = after s.document edit; cells = c }) cells ∙ sym b.state
+      (lists_shape have own (after_all s.document edits) a.later is a.later_are) a.follows (rw (before, later) b.follows) in
+      a.state ∙ ap (λ (c : CellState). record s { document = after_all s.document edits; cells = c }) cells ∙ sym b.state

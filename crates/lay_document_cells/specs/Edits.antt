@@ -1,9 +1,9 @@
--- What an edit of a document does to its cells. They take the shape of the contexts after it (CSS 2.2, 9.4.1), where cells of new contexts
--- are made and those of contexts that are gone are dropped; and then those of the contexts that the edit touches are marked, with all that
+-- What a list of edits of a document does to its cells. They take the shape of the contexts after it (CSS 2.2, 9.4.1), where cells of new contexts
+-- are made and those of contexts that are gone are dropped; and then those of the contexts that the list touches are marked, with all that
 -- depend on them.
 use Rattle.std.specs.Prelude.{◌≡◌, List, []}
 use Rattle.lay_layout.specs.doc.declared.edit.Edit.{Edit}
-use Rattle.lay_layout.specs.doc.Edits.{after}
+use Rattle.lay_layout.specs.edits.EditLists.{after_all}
 use Rattle.lay_layout.specs.cells.Marks.{Marks}
 use Rattle.lay_layout.specs.cells.Reshapes.{Reshapes}
 use Rattle.lay_cell_table.specs.shape.declared.cell_key.CellKey.{CellKey}
@@ -22,12 +22,12 @@ pub record FollowsLists (before later : ContextLists) (s t : CellState) : Type 0
   pub marks : Marks shaped.rows keys t.rows
   pub draws : t.draws ≡ shaped.draws
 
--- the edit of a document is applied
-pub record EditsTo (s : State) (edit : Edit) (t : State) : Type 0 where
+-- the list of edits of a document is applied
+pub record EditsTo (s : State) (edits : List Edit) (t : State) : Type 0 where
   pub before : ContextLists
   pub before_are : AreListsOf s.document before
   pub later : ContextLists
-  pub later_are : AreListsOf (after s.document edit) later
+  pub later_are : AreListsOf (after_all s.document edits) later
   pub cells : CellState
   pub follows : FollowsLists before later s.cells cells
-  pub state : t ≡ record s { document = after s.document edit; cells = cells }
+  pub state : t ≡ record s { document = after_all s.document edits; cells = cells }

@@ -3,7 +3,7 @@ use Rattle.std.specs.Prelude.{ℕ, ◌≡◌, ◌+◌, ◌*◌, ◌≤◌, List,
 use Rattle.lay_layout.specs.units.declared.memory.NoMemory.{NoMemory}
 use Rattle.lay_layout.specs.doc.declared.edit.Edit.{Edit}
 use Rattle.lay_layout.specs.doc.Document.{IsDocument}
-use Rattle.lay_layout.specs.doc.Edits.{after}
+use Rattle.lay_layout.specs.edits.EditLists.{after_all}
 use Rattle.lay_layout.specs.cells.Reads.{AllClean}
 use Rattle.lay_layout.specs.cell_progress.Grants.{laid_of_all}
 use Rattle.lay_layout.specs.cell_progress.Progress.{GivesNoneBack, KeepsRows}
@@ -56,9 +56,9 @@ OutcomesWork = (s t : State) (outcomes : List Outcome) (tally : Tally) → Finis
 abbrev pub SettlingGivesNothingBack : Type 0
 SettlingGivesNothingBack = (s t : State) → Settles s t → GivesNoneBack s.cells t.cells
 
--- an edit leaves one state
+-- a list of edits leaves one state
 abbrev pub OneEdit : Type 0
-OneEdit = (s t u : State) (edit : Edit) → IsOfDocument s → IsDocument (after s.document edit) → EditsTo s edit t → EditsTo s edit u → t ≡ u
+OneEdit = (s t u : State) (edits : List Edit) → IsOfDocument s → IsDocument (after_all s.document edits) → EditsTo s edits t → EditsTo s edits u → t ≡ u
 
 -- where all cells are clean, three grants were counted for each context
 abbrev pub CleanCellsAreCounted : Type 0

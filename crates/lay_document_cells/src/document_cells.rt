@@ -1,6 +1,7 @@
 //! A document with its cells.
 
-ghost use Rattle.std.specs.Prelude.{◌≡◌, ◌↔◌, ◌+◌, ◌*◌, ◌≤◌, ◌^◌, [], IfNone, IfOk, IfSome, IsTrue, None, OnErr, OnOk, length};
+ghost use Rattle.std.specs.Prelude.{◌≡◌, ◌↔◌, ◌+◌, ◌*◌, ◌≤◌, ◌^◌, [], IfErr, IfNone, IfOk, IfSome, IsTrue, None, OnErr, OnOk, length};
+ghost use Rattle.std.specs.List.{All};
 ghost use Rattle.lay_layout.specs.cells.Looks.{IsGone};
 ghost use Rattle.lay_layout.specs.cells.Reads.{AllClean, IsFirstDirtyKey, IsLaid, IsPaid};
 ghost use Rattle.lay_layout.specs.cells.Reshapes.{Reshapes};
@@ -8,7 +9,8 @@ ghost use Rattle.lay_cell_table.specs.shape.Keys.{AreOfOwnNodes};
 ghost use Rattle.lay_cell_table.specs.shape.Shapes.{shape_of};
 ghost use Rattle.lay_cell_table.specs.cell_steps.CellSteps.{no_cells};
 ghost use Rattle.lay_layout.specs.context.Solves.{Solves};
-ghost use Rattle.lay_layout.specs.doc.Edits.{fault};
+ghost use Rattle.lay_layout.specs.edits.Answers.{AnswersFirst};
+ghost use Rattle.lay_layout.specs.edits.EditLists.{fault_at};
 ghost use Rattle.lay_layout.specs.doc.Laws.{PutsNode};
 ghost use Rattle.lay_layout.specs.cell_progress.Grants.{laid_of_all};
 ghost use Rattle.lay_document_cells.specs.Edits.{EditsTo};
@@ -18,7 +20,7 @@ use crate::document_table::DocumentTable;
 use crate::following::follow_lists;
 use crate::laws::{clean_cells_are_counted, trees_list_contexts};
 use crate::medium::medium_of;
-use lay_cell_table::cell_steps::{assembled_trees_solve, edits_keep_cells, new_cells_are_sound};
+use lay_cell_table::cell_steps::{assembled_trees_solve, new_cells_are_sound};
 use lay_cell_table::cell_work::Layout;
 use lay_cell_table::changes::touched_contexts_are_listed;
 use lay_cell_table::shape::{CellKey, contexts_are_of_own_nodes};
@@ -27,10 +29,11 @@ use lay_layout::cell_progress::{first_shapes_draw, reshapes_count, reshapes_draw
 use lay_layout::cells::Cells;
 use lay_layout::context::Medium;
 use lay_layout::doc::{Doc, Edit};
+use lay_layout::edits::{BatchFault, Edits, SpareDoc};
 use lay_layout::face::Face;
 use lay_layout::frag::Tree;
 use lay_layout::units::NoMemory;
-use lay_spare_doc::SpareDoc;
+use lay_list_steps::lists_keep_cells;
 use std::alloc::Global;
 use std::marker::Model;
 use std::sync::Arc;
@@ -84,27 +87,29 @@ impl DocumentCells {
         })
     }
 
-    /// Applies an edit that has no fault: the cells of contexts that are new are made, those of contexts that are gone are dropped, and
-    /// those of touched ones are marked with all that depend on them. On an error all is as before.
-    pub fn edit(&mut self, edit: &Edit) -> Result<(), NoMemory>
-        requires no_fault { fault self.old.document edit.now ≡ None }
+    /// Applies a list of edits whole: the cells of contexts that are new are made, those of contexts that are gone are dropped, and
+    /// those of touched ones are marked with all that depend on them. On an error all is as before; it is the list's first fault, or that
+    /// memory ran out, where the first edit has none.
+    pub fn edit(&mut self, edits: &Edits) -> Result<(), BatchFault>
         requires draws { self.old.cells.draws ≤ 2 ^ 63 + 2 ^ 51 }
-        ensures ok { OnOk result (EditsTo self.old edit.now self.new) }
+        ensures answer { AnswersFirst self.old.document edits.now result }
+        ensures memory { IfErr result (λ e. e ≡ BatchFault.NoMemory → fault_at self.old.document edits.now 0 ≡ None) }
+        ensures ok { OnOk result (EditsTo self.old edits.now self.new) }
         ensures few { self.new.cells.draws ≤ self.old.cells.draws + 2 ^ 18 }
         ensures err { OnErr result (self.new ≡ self.old) }
     {
-        edits_keep_cells();
+        lists_keep_cells();
         contexts_are_of_own_nodes();
         touched_contexts_are_listed();
-        puts_node(edit);
+        put_nodes(edits.as_slice());
         let _ = self.doc.doc().nodes();
-        let doc = self.doc.edited(self.alloc, edit)?;
-        let later = self.table.edited(self.alloc, self.doc.doc(), edit, &doc)?;
-        let medium = medium_of(&doc, self.face.clone()?);
+        let doc = self.doc.edited(self.alloc, edits)?;
+        let later = self.table.edited(self.alloc, self.doc.doc(), edits, &doc)?;
+        let medium = medium_of(&doc, shared(&self.face)?);
         let _ = doc.nodes();
         follow_lists(self.alloc, &mut self.cells, &self.table, &later)?;
         self.cells.sound();
-        self.doc.become_edited(self.alloc, edit, doc);
+        self.doc.become_edited(self.alloc, edits, doc);
         self.table = later.table;
         self.medium = medium;
         Ok(())
@@ -180,6 +185,22 @@ impl DocumentCells {
         ensures { IsOfDocument self.now }
     {
         let _laid = self.laid;
+    }
+}
+
+/// The face, shared.
+fn shared(face: &Arc<Face>) -> Result<Arc<Face>, NoMemory>
+    ensures { IfOk result (λ f. f.value ≡ face.now.value) }
+{
+    Ok(face.clone()?)
+}
+
+/// The types of edits say so of all.
+fn put_nodes(edits: &[Edit])
+    ensures { All PutsNode edits.now }
+{
+    for edit in edits {
+        puts_node(edit);
     }
 }
 

@@ -4,6 +4,7 @@ ghost use Rattle.std.specs.Prelude.{◌≡◌, ◌+◌, IfOk, IfSome, None, OnOk
 ghost use Rattle.lay_layout.specs.style.ComputedStyle.{HasStyles};
 ghost use Rattle.lay_layout.specs.doc.Document.{declarations_of, parents_of};
 ghost use Rattle.lay_layout.specs.doc.Edits.{after, fault};
+ghost use Rattle.lay_layout.specs.edits.EditLists.{after_all, first};
 ghost use Rattle.lay_cell_table.specs.changes.ContextFlags.{AreContextFlags};
 ghost use Rattle.lay_layout.specs.contexts.FormattingContextList.{AreFormattingContextsOf};
 ghost use Rattle.lay_later_contexts.specs.Links.{AreRestyled};
@@ -15,6 +16,7 @@ use lay_later_cells::MeasuredList;
 use lay_later_contexts::{EditedDoc, LaterContexts, contexts_after};
 use lay_layout::contexts::{Contexts, contexts_of};
 use lay_layout::doc::{Doc, Edit};
+use lay_layout::edits::Edits;
 use lay_layout::inherit::computed;
 use lay_layout::restyled::restyled;
 use lay_layout::style::Computed;
@@ -50,8 +52,30 @@ impl DocumentTable {
         DocumentTable::of_styles(alloc, doc, styles)
     }
 
-    /// That of a document after an edit, where this is the one before it.
+    /// That of a document after a list of edits, where this is the one before it. After several edits all is made anew.
     pub(crate) fn edited(
+        &self,
+        alloc: Global,
+        doc: &Doc,
+        edits: &Edits,
+        later: &Doc,
+    ) -> Result<EditedTable, NoMemory>
+        requires are { AreStyledLists doc.now self.now.styles self.now.lists }
+        requires accepted { first doc.now edits.now ≡ None }
+        requires later { later.now ≡ after_all doc.now edits.now }
+        ensures lists { IfOk result (λ t. AreStyledLists later.now t.table.styles t.table.lists) }
+        ensures made { IfOk result (λ t. IfSome t.made (λ v. AreRestyled self.now.lists.contexts t.table.lists.contexts v.items)) }
+    {
+        let list = edits.as_slice();
+        if list.len() == 1 {
+            return self.edited_once(alloc, doc, &list[0], later);
+        }
+        let table = DocumentTable::of(alloc, later)?;
+        Ok(EditedTable { table, made: None })
+    }
+
+    /// The same for one edit.
+    fn edited_once(
         &self,
         alloc: Global,
         doc: &Doc,

@@ -53,7 +53,7 @@ pub fn settling_gives_nothing_back()
     finishes_keep_rows::<Layout>();
 }
 
-/// An edit leaves one state.
+/// A list of edits leaves one state.
 pub fn one_edit()
     ensures { OneEdit }
 {

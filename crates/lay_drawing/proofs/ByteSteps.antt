@@ -17,7 +17,7 @@ use Rattle.lay_drawing.specs.declared.places.Place.{Place}
 use Rattle.lay_drawing.specs.declared.state.Reading.{Reading}
 use Rattle.lay_drawing.specs.declared.state.Stop.{Stop}
 use Rattle.lay_drawing.specs.declared.state.Stop.TheVariants.{BadLine, NoMemory}
-use Rattle.lay_drawing.specs.Lines.{line_text, line_body, line_fields, reply_fields, shown_field, IsLine, IsReply, IsVersion}
+use Rattle.lay_drawing.specs.Lines.{line_text, line_body, line_fields, place_fields, reply_fields, shown_field, IsLine, IsPlace, IsReply, IsVersion}
 use Rattle.lay_drawing.specs.Reading.{line_in}
 use Rattle.lay_drawing.specs.Reports.{next_place, IsBadLine}
 use Rattle.lay_drawing.specs.States.{HasRead, Adds, CantAdd, IsNext, Reads, Stops}
@@ -105,10 +105,15 @@ shown_short : (o : Option ℕ) → IsVersion o → length (shown_field o) ≤ 20
 shown_short (Some v) is = short v is
 shown_short None is = omega arith
 
-reply_short : (r : EditReply) → IsReply r → total (reply_fields r) ≤ 40
+place_short : (o : Option ℕ) → IsPlace o → total (place_fields o) ≤ 24
+unfolding total
+place_short (Some n) is = omega (arith, short n is)
+place_short None is = omega arith
+
+reply_short : (r : EditReply) → IsReply r → total (reply_fields r) ≤ 60
 unfolding total
 reply_short (Accepted v) is = omega (arith, short v is)
-reply_short (Refused k) is = omega (arith, short k (omega (arith, is.1)))
+reply_short (Refused k place) is = omega (arith, short k (omega (arith, is.1)), place_short place is.2)
 reply_short no_memory is = omega arith
 
 fields_short : (l : Line) → IsLine l → total (line_fields l) ≤ 200

@@ -22,8 +22,8 @@ use Rattle.lay_drawing.specs.declared.line.EditReply.{EditReply}
 use Rattle.lay_drawing.specs.declared.line.EditReply.TheVariants.{Accepted, Refused, NoMemory}
 use Rattle.lay_drawing.specs.declared.line.Line.{Line}
 use Rattle.lay_drawing.specs.declared.line.Line.TheVariants.{Edit, Publish, Latest, Sync, Final, Laid, Piece}
-use Rattle.lay_drawing.specs.Lines.{line_fields, line_body, reply_fields, shown_field, IsLine, IsReply, IsVersion, IsPiece}
-use Rattle.lay_drawing.specs.Reading.{number_of, small_of, negative_of, positive_of, position_of, counted_of, shown_of, read_of, fault_of, reply_of, edit_of, kind_of, rect_of, piece_of, line_of, fields_in, line_in, is_word}
+use Rattle.lay_drawing.specs.Lines.{line_fields, line_body, reply_fields, place_fields, shown_field, IsLine, IsPlace, IsReply, IsVersion, IsPiece}
+use Rattle.lay_drawing.specs.Reading.{number_of, small_of, negative_of, positive_of, position_of, counted_of, shown_of, read_of, fault_of, place_of, refused_of, reply_of, edit_of, kind_of, rect_of, piece_of, line_of, fields_in, line_in, is_word}
 use Rattle.lay_drawing.proofs.Numerals.{by_bool, both, number_complete, number_sound}
 use Rattle.lay_drawing.proofs.Splitting.{Lacks, AllLack, decimal_lacks, lacks_more, fields_back, joined_lack}
 
@@ -59,16 +59,20 @@ position_complete (negsuc n) is = negative_complete n (omega (arith, ints, is.0)
 counted_complete : (n : ℕ) → n < 2 ^ 64 → counted_of (decimal n ∷ []) ≡ Some n
 counted_complete n small = number_complete n small
 
-fault_complete : (k : ℕ) → 1 ≤ k → k ≤ 11 → fault_of ((69 ∷ decimal k) ∷ []) ≡ Some k
+fault_complete : (k : ℕ) → 1 ≤ k → k ≤ 11 → fault_of (69 ∷ decimal k) ≡ Some k
 fault_complete k low high =
     let e = number_complete k (omega arith) in
     let a : nat_le 1 k ≡ true = le-leb 1 k low in
     let b : nat_le k 11 ≡ true = le-leb k 11 high in
     rw (e, a, b) refl
 
+place_complete : (o : Option ℕ) → IsPlace o → place_of (place_fields o) ≡ Some o
+place_complete None is = refl
+place_complete (Some n) is = ap (option_and_then (λ k. Some (Some k))) (counted_complete n is)
+
 reply_complete : (r : EditReply) → IsReply r → reply_of (reply_fields r) ≡ Some r
 reply_complete (Accepted v) is = ap (option_and_then (λ n. Some (Accepted n))) (counted_complete v is)
-reply_complete (Refused k) is = ap (option_and_then (λ n. Some (Refused n))) (fault_complete k is.0 is.1)
+reply_complete (Refused k place) is = rw (fault_complete k is.0 is.1, place_complete place is.2) refl
 reply_complete NoMemory is = refl
 
 word_differs : (ds : List ℕ) → AllDigits 10 ds → is_word (codes "nomemory") ds ≡ false
@@ -134,12 +138,17 @@ unfolding Low
 shown_lacks c (Some v) low is = decimal_lacks c v (omega arith) is
 shown_lacks c None low is = nomemory_lacks c low
 
+place_lacks : (c : ℕ) (o : Option ℕ) → c < 45 → IsPlace o → AllLack c (place_fields o)
+unfolding Low
+place_lacks c (Some n) low is = (letters c low (codes "at") (omega arith, (omega arith, tt)), (decimal_lacks c n (omega arith) is, tt))
+place_lacks c None low is = tt
+
 reply_lacks : (c : ℕ) (r : EditReply) → c < 45 → IsReply r → AllLack c (reply_fields r)
 unfolding Low
 reply_lacks c (Accepted v) low is = (letters c low (codes "accepted") (omega arith, (omega arith, (omega arith, (omega arith, (omega arith, (omega arith, (omega arith, (omega arith, tt)))))))), (decimal_lacks c v (omega arith) is, tt))
-reply_lacks c (Refused k) low is = (
+reply_lacks c (Refused k place) low is = (
   letters c low (codes "refused") (omega arith, (omega arith, (omega arith, (omega arith, (omega arith, (omega arith, (omega arith, tt))))))),
-  (lacks_more c 69 (decimal k) (ne_eqb 69 c (λ e. omega arith)) (decimal_lacks c k (omega arith) (omega (arith, is.1))), tt),
+  (lacks_more c 69 (decimal k) (ne_eqb 69 c (λ e. omega arith)) (decimal_lacks c k (omega arith) (omega (arith, is.1))), place_lacks c place low is.2),
 )
 reply_lacks c NoMemory low is = (nomemory_lacks c low, tt)
 
@@ -331,24 +340,45 @@ read_sound (x ∷ y ∷ rest) r e =
     let same : x ∷ y ∷ rest ≡ decimal editor ∷ decimal index ∷ shown_field shown ∷ [] = (let g1 = p1.0 in let g2 = p2.0 in let g3 = p3.0 in cc) in
     (same ∙ ap read_fields q, subst IsRead q (p1.1, p2.1, p3.1)))))
 
-fault_sound : (fields : List (List ℕ)) (k : ℕ) → fault_of fields ≡ Some k → (fields ≡ (69 ∷ decimal k) ∷ []) × (1 ≤ k) × (k ≤ 11)
+fault_sound : (field : List ℕ) (k : ℕ) → fault_of field ≡ Some k → (field ≡ 69 ∷ decimal k) × (1 ≤ k) × (k ≤ 11)
 fault_sound [] k e = absurd cc
-fault_sound ([] ∷ rest) k e = absurd cc
-fault_sound ((x ∷ xs) ∷ rest) k e =
+fault_sound (x ∷ xs) k e =
     option_and_then_some _ (number_of xs) k e (λ m a e1.
-    by_bool ((length rest == 0) && x == 69 && nat_le 1 m && nat_le m 11)
+    by_bool (x == 69 && nat_le 1 m && nat_le m 11)
     (λ all.
     let f = rw all at e1 in
     let q : m ≡ k = cc in
-    let p1 = both ((length rest == 0) && x == 69 && nat_le 1 m) (nat_le m 11) all in
-    let p2 = both ((length rest == 0) && x == 69) (nat_le 1 m) p1.0 in
-    let p3 = both (length rest == 0) (x == 69) p2.0 in
-    let z = is_nil rest p3.0 in
-    let letter : x ≡ 69 = eqb-true x 69 p3.1 in
+    let p1 = both (x == 69 && nat_le 1 m) (nat_le m 11) all in
+    let p2 = both (x == 69) (nat_le 1 m) p1.0 in
+    let letter : x ≡ 69 = eqb-true x 69 p2.0 in
     let s = number_sound xs m a in
-    let same : (x ∷ xs) ∷ rest ≡ (69 ∷ decimal m) ∷ [] = (let g = s.0 in cc) in
-    (same ∙ ap (λ (n : ℕ). (69 ∷ decimal n) ∷ []) q, omega (arith, leb-true 1 m p2.1, q), omega (arith, leb-true m 11 p1.1, q)))
+    let same : x ∷ xs ≡ 69 ∷ decimal m = (let g = s.0 in cc) in
+    (same ∙ ap (λ (n : ℕ). 69 ∷ decimal n) q, omega (arith, leb-true 1 m p2.1, q), omega (arith, leb-true m 11 p1.1, q)))
     (λ some. let f = rw some at e1 in absurd cc))
+
+place_sound : (fields : List (List ℕ)) (o : Option ℕ) → place_of fields ≡ Some o → (fields ≡ place_fields o) × IsPlace o
+place_sound [] o e = let q : None ≡ o = cc in (ap place_fields q, subst IsPlace q tt)
+place_sound (word ∷ rest) o e = by_bool (is_word (codes "at") word)
+    (λ a. let f = rw a at e in
+    option_and_then_some _ (counted_of rest) o f (λ n b e1.
+    let q : Some n ≡ o = cc in
+    let w = word_sound (codes "at") word a in
+    let s = counted_sound rest n b in
+    let same : word ∷ rest ≡ codes "at" ∷ decimal n ∷ [] = (let g = s.0 in cc) in
+    (same ∙ ap place_fields q, subst IsPlace q s.1)))
+    (λ na. let f = rw na at e in absurd cc)
+
+-- a fault, and the place behind it
+refused_sound : (fields : List (List ℕ)) (r : EditReply) → refused_of fields ≡ Some r → (codes "refused" ∷ fields ≡ reply_fields r) × IsReply r
+refused_sound [] r e = absurd cc
+refused_sound (field ∷ rest) r e =
+    option_and_then_some _ (fault_of field) r e (λ k a e1.
+    option_and_then_some _ (place_of rest) r e1 (λ o b e2.
+    let q : Refused k o ≡ r = cc in
+    let s = fault_sound field k a in
+    let t = place_sound rest o b in
+    let same : codes "refused" ∷ field ∷ rest ≡ codes "refused" ∷ (69 ∷ decimal k) ∷ place_fields o = (let g = s.0 in let h = t.0 in cc) in
+    (same ∙ ap reply_fields q, subst IsReply q (s.1, s.2, t.1))))
 
 reply_sound : (fields : List (List ℕ)) (r : EditReply) → reply_of fields ≡ Some r → (fields ≡ reply_fields r) × IsReply r
 reply_sound [] r e = absurd cc
@@ -362,12 +392,10 @@ reply_sound (word ∷ rest) r e = by_bool (is_word (codes "accepted") word)
     (same ∙ ap reply_fields q, subst IsReply q s.1)))
     (λ na. let f = rw na at e in by_bool (is_word (codes "refused") word)
     (λ a. let g = rw a at f in
-    option_and_then_some _ (fault_of rest) r g (λ k b e1.
-    let q : Refused k ≡ r = cc in
     let w = word_sound (codes "refused") word a in
-    let s = fault_sound rest k b in
-    let same : word ∷ rest ≡ codes "refused" ∷ (69 ∷ decimal k) ∷ [] = (let h = s.0 in cc) in
-    (same ∙ ap reply_fields q, subst IsReply q (s.1, s.2))))
+    let s = refused_sound rest r g in
+    let same : word ∷ rest ≡ codes "refused" ∷ rest = cc in
+    (same ∙ s.0, s.1))
     (λ nb. let g = rw nb at f in by_bool (is_word (codes "nomemory") word && (length rest == 0))
     (λ a. let h = rw a at g in
     let q : NoMemory ≡ r = cc in

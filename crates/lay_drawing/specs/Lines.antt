@@ -12,9 +12,14 @@ use Rattle.lay_drawing.specs.declared.line.EditReply.TheVariants.{Accepted, Refu
 use Rattle.lay_drawing.specs.declared.line.Line.{Line}
 use Rattle.lay_drawing.specs.declared.line.Line.TheVariants.{Edit, Publish, Latest, Sync, Final, Laid, Piece}
 
+-- the place of an edit, where it is one of several
+abbrev pub place_fields : Option ℕ → List (List ℕ)
+place_fields (Some place) = codes "at" ∷ decimal place ∷ []
+place_fields None = []
+
 abbrev pub reply_fields : EditReply → List (List ℕ)
 reply_fields (Accepted version) = codes "accepted" ∷ decimal version ∷ []
-reply_fields (Refused fault) = codes "refused" ∷ (69 ∷ decimal fault) ∷ []
+reply_fields (Refused fault place) = codes "refused" ∷ (69 ∷ decimal fault) ∷ place_fields place
 reply_fields NoMemory = codes "nomemory" ∷ []
 
 -- the version that was shown, or that memory ran out
@@ -40,10 +45,14 @@ line_body line = join_with_byte 32 (line_fields line)
 abbrev pub line_text : Line → List ℕ
 line_text line = line_body line ++ 10 ∷ []
 
+abbrev pub IsPlace : Option ℕ → Type 0
+IsPlace (Some place) = place < 2 ^ 64
+IsPlace None = Unit {0}
+
 -- faults have the numbers from 1 to 11
 abbrev pub IsReply : EditReply → Type 0
 IsReply (Accepted version) = version < 2 ^ 64
-IsReply (Refused fault) = (1 ≤ fault) × (fault ≤ 11)
+IsReply (Refused fault place) = (1 ≤ fault) × (fault ≤ 11) × IsPlace place
 IsReply NoMemory = Unit {0}
 
 abbrev pub IsVersion : Option ℕ → Type 0

@@ -71,12 +71,27 @@ read_of (editor ∷ index ∷ reply) = do
   Some (e, i, shown)
 
 -- an `E` and the number of a fault
-abbrev pub fault_of : List (List ℕ) → Option ℕ
+abbrev pub fault_of : List ℕ → Option ℕ
 fault_of [] = None
-fault_of ([] ∷ rest) = None
-fault_of ((letter ∷ digits) ∷ rest) = do
+fault_of (letter ∷ digits) = do
   n ← number_of digits
-  if length rest == 0 && letter == 69 && nat_le 1 n && nat_le n 11 then Some n else None
+  if letter == 69 && nat_le 1 n && nat_le n 11 then Some n else None
+
+-- the place of an edit, where it is one of several
+abbrev pub place_of : List (List ℕ) → Option (Option ℕ)
+place_of [] = Some None
+place_of (word ∷ rest) =
+    if is_word (codes "at") word then (do
+      place ← counted_of rest
+      Some (Some place))
+    else None
+
+abbrev pub refused_of : List (List ℕ) → Option EditReply
+refused_of [] = None
+refused_of (field ∷ rest) = do
+  fault ← fault_of field
+  place ← place_of rest
+  Some (Refused fault place)
 
 abbrev pub reply_of : List (List ℕ) → Option EditReply
 reply_of [] = None
@@ -84,9 +99,7 @@ reply_of (word ∷ rest) =
     if is_word (codes "accepted") word then (do
       version ← counted_of rest
       Some (Accepted version))
-    else (if is_word (codes "refused") word then (do
-      fault ← fault_of rest
-      Some (Refused fault))
+    else (if is_word (codes "refused") word then refused_of rest
     else (if is_word (codes "nomemory") word && (length rest == 0) then Some NoMemory else None))
 
 abbrev pub edit_of : List (List ℕ) → Option Line

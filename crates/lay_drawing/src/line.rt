@@ -1,7 +1,7 @@
 //! The lines of a report.
 
 ghost use Rattle.std.specs.Prelude.{◌≡◌, map, codes};
-ghost use Rattle.lay_drawing.specs.Reading.{line_of, edit_of, reply_of, fault_of, read_of, shown_of, counted_of, piece_of, rect_of, kind_of, is_word};
+ghost use Rattle.lay_drawing.specs.Reading.{line_of, edit_of, reply_of, refused_of, place_of, fault_of, read_of, shown_of, counted_of, piece_of, rect_of, kind_of, is_word};
 
 use crate::numbers::{number, position, small};
 use lay_doc::NodeId;
@@ -13,8 +13,8 @@ use lay_units::Rect;
 pub enum EditReply {
     /// It made this version.
     Accepted(u64),
-    /// It has the fault of this number, from 1 to 11.
-    Refused(u64),
+    /// It has the fault of this number, from 1 to 11; where it is one of several, its place among them follows, from 0.
+    Refused(u64, Option<u64>),
     /// Memory ran out.
     NoMemory,
 }
@@ -88,7 +88,7 @@ fn reply(fields: &[&[u8]]) -> Option<EditReply>
         return Some(EditReply::Accepted(counted(rest)?));
     }
     if is_word(word, "refused") {
-        return Some(EditReply::Refused(fault(rest)?));
+        return refused(rest);
     }
     if is_word(word, "nomemory") && rest.is_empty() {
         return Some(EditReply::NoMemory);
@@ -96,14 +96,35 @@ fn reply(fields: &[&[u8]]) -> Option<EditReply>
     None
 }
 
-/// The number of a fault, which is written behind an `E`.
-fn fault(fields: &[&[u8]]) -> Option<u64>
-    ensures { result ≡ fault_of (map (λ f. f.now) fields.now) }
+/// A fault, and behind it the place of the edit that has it, where it is one of several.
+fn refused(fields: &[&[u8]]) -> Option<EditReply>
+    ensures { result ≡ refused_of (map (λ f. f.now) fields.now) }
 {
     let (field, rest) = fields.split_first()?;
+    Some(EditReply::Refused(fault(field)?, place(rest)?))
+}
+
+/// The place of an edit among several, where one is named.
+fn place(fields: &[&[u8]]) -> Option<Option<u64>>
+    ensures { result ≡ place_of (map (λ f. f.now) fields.now) }
+{
+    if fields.is_empty() {
+        return Some(None);
+    }
+    let (word, rest) = fields.split_first()?;
+    if !is_word(word, "at") {
+        return None;
+    }
+    Some(Some(counted(rest)?))
+}
+
+/// The number of a fault, which is written behind an `E`.
+fn fault(field: &[u8]) -> Option<u64>
+    ensures { result ≡ fault_of field.now }
+{
     let (letter, digits) = field.split_first()?;
     let number = number(digits)?;
-    if rest.is_empty() && *letter == b'E' && 1 <= number && number <= 11 {
+    if *letter == b'E' && 1 <= number && number <= 11 {
         Some(number)
     } else {
         None

@@ -1,8 +1,8 @@
 -- The calls of an editor in a history are those of its entries.
 use Rattle.std.proofs.Common.{◌≡◌, ℕ, zero, suc, ◌+◌, ◌<◌, ◌≤◌, Bool, true, false, if◌then◌else◌, ◌==◌, List, [], ◌∷◌, ◌++◌, length, slice_get, slice_index_or, Option, Some, None, refl, sym, ap, ◌∙◌, subst, arith, rules, inl, inr}
-use Rattle.lay_layout.specs.doc.declared.command.Cmd.TheVariants as command
-use Rattle.lay_layout.specs.doc.declared.history.Entry.{Entry}
-use Rattle.lay_layout.specs.doc.declared.history.Entry.TheVariants.{Edit, Publish, Latest, Sync}
+use Rattle.lay_layout.specs.edits.declared.command.Cmd.TheVariants as command
+use Rattle.lay_layout.specs.edits.declared.history.Entry.{Entry}
+use Rattle.lay_layout.specs.edits.declared.history.Entry.TheVariants.{Edit, Publish, Latest, Sync}
 use Rattle.lay_layout.specs.history.Calls.{Call, calls, calls_of, script_calls}
 use Rattle.lay_board.specs.Entries.{by_editor}
 use Rattle.lay_board.specs.Passes.{IsKnownIn, PassOf}
@@ -11,7 +11,7 @@ use Rattle.lay_drive.specs.Laws.{PassesAnswerScripts}
 -- the same choice of an entry and of its call
 choice : (b : Bool) (n : ℕ) (c : Call) (e : Entry) (xs : List Entry) → calls (e ∷ []) ≡ c ∷ [] → calls_of n (calls xs) ≡ calls (by_editor n xs)
     → (if b then c ∷ [] else []) ++ calls_of n (calls xs) ≡ calls ((if b then e ∷ [] else []) ++ by_editor n xs)
-choice true n c (Edit editor index edit reply) xs is h = grind (rules, is, h)
+choice true n c (Edit editor index edits reply) xs is h = grind (rules, is, h)
 choice true n c (Publish version) xs is h = absurd (grind (rules, is))
 choice true n c (Latest editor index reply) xs is h = grind (rules, is, h)
 choice true n c (Sync editor index reply) xs is h = grind (rules, is, h)
@@ -20,8 +20,8 @@ choice false n c e xs is h = h
 pub same_calls : (n : ℕ) (history : List Entry) → calls_of n (calls history) ≡ calls (by_editor n history)
 same_calls n [] = refl
 same_calls n (Publish version ∷ xs) = same_calls n xs
-same_calls n (Edit editor index edit reply ∷ xs) =
-    choice (editor == n) n (record { editor = editor; index = index; command = command.Edit edit }) (Edit editor index edit reply) xs refl (same_calls n xs)
+same_calls n (Edit editor index edits reply ∷ xs) =
+    choice (editor == n) n (record { editor = editor; index = index; command = command.Edits edits }) (Edit editor index edits reply) xs refl (same_calls n xs)
 same_calls n (Latest editor index reply ∷ xs) =
     choice (editor == n) n (record { editor = editor; index = index; command = command.Latest }) (Latest editor index reply) xs refl (same_calls n xs)
 same_calls n (Sync editor index reply ∷ xs) =

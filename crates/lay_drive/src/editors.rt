@@ -7,7 +7,7 @@ ghost use Rattle.lay_drive.specs.Runs.{AreRun, IsCalled, IsRun};
 use crate::jobs::Job;
 use crate::session::Session;
 use lay_board::Pass;
-use lay_layout::doc::Cmd;
+use lay_layout::edits::Cmd;
 use lay_outside::{Gate, Point};
 use std::alloc::AllocError;
 use std::sync::Wait;
@@ -70,7 +70,7 @@ fn answer<R: Wait, G: Gate>(rt: &R, session: &Session, pass: Pass, command: Cmd,
     ensures { IsCalled pass command result }
 {
     let (_reply, pass) = match command {
-        Cmd::Edit(edit) => session.engine.edit(rt, pass, edit),
+        Cmd::Edits(edits) => session.engine.edit(rt, pass, edits),
         Cmd::Latest => session.engine.latest(rt, session.alloc, pass, gate),
         Cmd::Sync => session.engine.sync(rt, session.alloc, pass, gate),
     };

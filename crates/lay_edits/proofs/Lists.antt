@@ -7,7 +7,7 @@ use Rattle.lay_doc.specs.Document.{Document, IsDocument}
 use Rattle.lay_doc.specs.Edits.{fault, after}
 use Rattle.lay_doc.specs.Laws.{PutsNode}
 use Rattle.lay_doc.proofs.EditedDocuments.{edits_leave_documents}
-use Rattle.lay_edits.specs.EditLists.{after_all, behind, first, first_or}
+use Rattle.lay_edits.specs.EditLists.{after_all, behind, fault_at, first, first_or}
 use Rattle.lay_edits.specs.Laws.{ListsLeaveDocuments, OneEditAlone, TwoLists, first_of_two}
 
 pub one_edit_alone : OneEditAlone
@@ -16,6 +16,16 @@ one_edit_alone d e = (alone (fault d e), refl)
     alone : (o : Option EditFault) → first_or o None ≡ option_map (λ f. (0, f)) o
     alone None = refl
     alone (Some f) = refl
+
+-- one edit alone that has no fault
+pub alone_is_first : (d : Document) (es : List Edit) → length es ≡ 1 → fault_at d es 0 ≡ None → first d es ≡ None
+alone_is_first d [] one none = refl
+alone_is_first d (e ∷ []) one none = alone (fault d e) none
+  where
+    alone : (o : Option EditFault) → o ≡ None → first_or o None ≡ None
+    alone None is = refl
+    alone (Some f) is = absurd cc
+alone_is_first d (e ∷ f ∷ es) one none = absurd (omega (arith, one))
 
 -- the first fault of one more edit before two lists
 first_or_two : (o : Option EditFault) (count : ℕ) (a b : Option (ℕ × EditFault)) → first_or o (first_of_two count a b) ≡ first_of_two (suc count) (first_or o a) b

@@ -1,17 +1,17 @@
 -- One step of each of the generator's walks.
-use Rattle.std.proofs.Common.{◌≡◌, ℕ, zero, suc, ◌+◌, ◌-◌, ◌*◌, ◌<◌, ◌≤◌, ◌<ℤ◌, Bool, true, false, cond, ℤ, pos, negsuc, List, [], ◌∷◌, ◌++◌, length, map, fold, drop, slice_get, get_or, is_some, unsigned_abs, Ok, refl, sym, ap, ◌∙◌, arith, Option, Some, None, append_assoc, append-nil}
+use Rattle.std.proofs.Common.{◌≡◌, ℕ, zero, suc, ◌+◌, ◌-◌, ◌*◌, ◌<◌, ◌≤◌, ◌<ℤ◌, Bool, true, false, ℤ, pos, negsuc, List, [], ◌∷◌, ◌++◌, length, map, fold, drop, slice_get, get_or, is_some, unsigned_abs, Ok, refl, sym, ap, ◌∙◌, arith, Option, Some, None, append_assoc, append-nil}
 use Rattle.std.specs.List.{filter, flat_map, range_with_len}
 use Rattle.std.proofs.lemmas.Grind.{common_steps}
 use Rattle.std.proofs.lemmas.Option.{slice_get-get_or}
 use Rattle.std.proofs.lemmas.List.Sums.{sum_by-append}
-use Rattle.lay_run.specs.Scripts.{command_count, is_read, read_count, reads_of}
+use Rattle.lay_run.specs.Scripts.{command_count, read_count, reads_of}
 use Rattle.lay_doc.specs.declared.node.NodeId.{NodeId}
 use Rattle.lay_doc.specs.NewNodes.{NewNodeValue}
 use Rattle.lay_doc.specs.Document.{Document}
 use Rattle.lay_doc.specs.declared.edit.EditFault.{EditFault}
 use Rattle.lay_doc.specs.Edits.{after_insert, insert_fault, last_index}
-use Rattle.lay_doc.specs.declared.command.Cmd.{Cmd}
-use Rattle.lay_doc.specs.declared.command.Cmd.TheVariants.{Edit, Latest, Sync}
+use Rattle.lay_edits.specs.declared.command.Cmd.{Cmd}
+use Rattle.lay_doc.specs.declared.edit.Edit.{Edit}
 use Rattle.lay_json.specs.Nodes.{without_fault}
 use Rattle.lay_face.specs.FaceValue.{FaceValue}
 use Rattle.lay_run.specs.Runs.{IsListed, Run}
@@ -65,10 +65,10 @@ drop_step [] k x is = absurd cc
 drop_step (y ∷ ys) zero x is = let e : y ≡ x = cc in ap (λ z. z ∷ ys) e
 drop_step (y ∷ ys) (suc k) x is = let e : suc k + 1 ≡ suc (k + 1) = omega arith in rw e (drop_step ys k x is)
 
--- the commands for sections, and those for more
+-- the edits for sections, and those for more
 pub paddings_more : (xs ys : List ℕ) (state : ℕ) → paddings (xs ++ ys) state ≡ paddings xs state ++ paddings ys (state_after (length xs) state)
 paddings_more [] ys state = refl
-paddings_more (x ∷ xs) ys state = ap (λ (cs : List Cmd). set_padding x state ∷ cs) (paddings_more xs ys (next state))
+paddings_more (x ∷ xs) ys state = ap (λ (es : List Edit). set_padding x state ∷ es) (paddings_more xs ys (next state))
 
 pub states_more : (a b state : ℕ) → state_after (a + b) state ≡ state_after b (state_after a state)
 states_more zero b state = let e : 0 + b ≡ b = omega arith in rw e refl
@@ -99,15 +99,15 @@ listed_put d parent node listed none is =
 rest_step : (editor k n : ℕ) → 0 < n → filter (is_of editor) (range_with_len k n) ≡ filter (is_of editor) (k ∷ []) ++ filter (is_of editor) (range_with_len (k + 1) (n - 1))
 rest_step editor k n some = ap (filter (is_of editor)) (range_step k n some) ∙ filter_step (is_of editor) k (range_with_len (k + 1) (n - 1))
 
--- the commands for the sections that are left, and for one fewer
-pub commands_step : (editor k n state : ℕ) (commands : List Cmd) → 0 < n
-    → commands ++ paddings (filter (is_of editor) (range_with_len k n)) state
-    ≡ (commands ++ paddings (filter (is_of editor) (k ∷ [])) state) ++ paddings (filter (is_of editor) (range_with_len (k + 1) (n - 1))) (state_after (length (filter (is_of editor) (k ∷ []))) state)
-commands_step editor k n state commands some =
+-- the edits for the sections that are left, and for one fewer
+pub edits_step : (editor k n state : ℕ) (edits : List Edit) → 0 < n
+    → edits ++ paddings (filter (is_of editor) (range_with_len k n)) state
+    ≡ (edits ++ paddings (filter (is_of editor) (k ∷ [])) state) ++ paddings (filter (is_of editor) (range_with_len (k + 1) (n - 1))) (state_after (length (filter (is_of editor) (k ∷ []))) state)
+edits_step editor k n state edits some =
     let one = filter (is_of editor) (k ∷ []) in
     let rest = filter (is_of editor) (range_with_len (k + 1) (n - 1)) in
-    ap (λ (cs : List Cmd). commands ++ cs) (ap (λ (xs : List ℕ). paddings xs state) (rest_step editor k n some) ∙ paddings_more one rest state)
-    ∙ sym (append_assoc commands (paddings one state) (paddings rest (state_after (length one) state)))
+    ap (λ (es : List Edit). edits ++ es) (ap (λ (xs : List ℕ). paddings xs state) (rest_step editor k n some) ∙ paddings_more one rest state)
+    ∙ sym (append_assoc edits (paddings one state) (paddings rest (state_after (length one) state)))
 
 length_more : {A : Type 0} (xs ys : List A) → length (xs ++ ys) ≡ length xs + length ys
 length_more [] ys = let e : 0 + length ys ≡ length ys = omega arith in sym e
@@ -121,8 +121,8 @@ state_after_step editor k n state some =
     let rest = filter (is_of editor) (range_with_len (k + 1) (n - 1)) in
     ap (λ (m : ℕ). state_after m state) (ap length (rest_step editor k n some) ∙ length_more one rest) ∙ states_more (length one) (length rest) state
 
-pub few_more : (editor k state : ℕ) (commands : List Cmd) → length commands ≤ k → length (commands ++ paddings (filter (is_of editor) (k ∷ [])) state) ≤ k + 1
-few_more editor k state commands few = by_bool (is_of editor k)
+pub few_more : (editor k state : ℕ) (edits : List Edit) → length edits ≤ k → length (edits ++ paddings (filter (is_of editor) (k ∷ [])) state) ≤ k + 1
+few_more editor k state edits few = by_bool (is_of editor k)
     (λ e. rw e (grind (arith, common_steps, few)))
     (λ e. rw e (grind (arith, common_steps, few)))
 
@@ -131,16 +131,6 @@ pub four_more : (l l1 l2 l3 l4 : List NodeId) (a b d e : NodeId) → l1 ≡ l ++
 four_more l l1 l2 l3 l4 a b d e first second third fourth =
     fourth ∙ (ap (λ (ys : List NodeId). ys ++ e ∷ []) (third ∙ ap (λ (ys : List NodeId). ys ++ d ∷ []) (second ∙ ap (λ (ys : List NodeId). ys ++ b ∷ []) first))
     ∙ (append_assoc ((l ++ a ∷ []) ++ b ∷ []) (d ∷ []) (e ∷ []) ∙ (append_assoc (l ++ a ∷ []) (b ∷ []) (d ∷ e ∷ []) ∙ append_assoc l (a ∷ []) (b ∷ d ∷ e ∷ []))))
-
-none_read : (xs : List ℕ) (state : ℕ) → reads_of (paddings xs state) ≡ 0
-none_read [] state = refl
-none_read (x ∷ xs) state = none_read xs (next state)
-
-reads_joined : (xs ys : List Cmd) → reads_of xs ≡ 0 → reads_of (xs ++ ys) ≡ reads_of ys
-reads_joined xs ys none = sum_by-append (λ (y : Cmd). cond (is_read y) 1 0) xs ys ∙ (ap (λ (n : ℕ). n + reads_of ys) none ∙ (let e : 0 + reads_of ys ≡ reads_of ys = omega arith in e))
-
-pub reads_more : (editor k state : ℕ) (commands : List Cmd) → reads_of commands ≡ 0 → reads_of (commands ++ paddings (filter (is_of editor) (k ∷ [])) state) ≡ 0
-reads_more editor k state commands none = reads_joined commands (paddings (filter (is_of editor) (k ∷ [])) state) none ∙ none_read (filter (is_of editor) (k ∷ [])) state
 
 abbrev pub run_with : Document → FaceValue → List (List Cmd) → List NodeId → Run
 run_with d f s l = record { doc = d; face = f; scripts = s; listed = l }

@@ -1,20 +1,21 @@
--- The scripts of the generator's four editors. Editor e changes the block of each fourth section, and then asks for the
--- last version.
-use Rattle.std.specs.Prelude.{ℕ, zero, suc, ◌+◌, ◌-◌, ◌*◌, ◌%◌, ◌==◌, Bool, List, [], ◌∷◌, ◌++◌, length}
+-- The scripts of the generator's four editors. Editor e changes the block of each fourth section, in batches of 64 edits, the last one
+-- with what is left, and then asks for the last version.
+use Rattle.std.specs.Prelude.{ℕ, zero, suc, ◌+◌, ◌-◌, ◌*◌, ◌/◌, ◌%◌, ◌==◌, Bool, List, [], ◌∷◌, ◌++◌, drop, length, map, take}
 use Rattle.std.specs.List.{filter, range_with_len}
 use Rattle.lay_style.specs.declared.property.Property.TheVariants.{PaddingLeft}
+use Rattle.lay_doc.specs.declared.edit.Edit.{Edit}
 use Rattle.lay_doc.specs.declared.edit.Edit.TheVariants.{SetStyle}
-use Rattle.lay_doc.specs.declared.command.Cmd.{Cmd}
-use Rattle.lay_doc.specs.declared.command.Cmd.TheVariants.{Edit, Sync}
+use Rattle.lay_edits.specs.declared.command.Cmd.{Cmd}
+use Rattle.lay_edits.specs.declared.command.Cmd.TheVariants.{Edits, Sync}
 use Rattle.lay_generator.specs.Draws.{draw, next, state_after}
 use Rattle.lay_generator.specs.Nodes.{id, px}
 
 -- the left padding of a section's block is the next draw
-abbrev pub set_padding : ℕ → ℕ → Cmd
-set_padding section state = Edit (SetStyle (id (4 + 4 * section)) (record { property = PaddingLeft; value = px (draw 1 state % 30) }))
+abbrev pub set_padding : ℕ → ℕ → Edit
+set_padding section state = (SetStyle (id (4 + 4 * section)) (record { property = PaddingLeft; value = px (draw 1 state % 30) }))
 
--- a command for each of these sections, with a draw each
-abbrev pub paddings : List ℕ → ℕ → List Cmd
+-- an edit for each of these sections, with a draw each
+abbrev pub paddings : List ℕ → ℕ → List Edit
 paddings [] state = []
 paddings (section ∷ sections) state = set_padding section state ∷ paddings sections (next state)
 
@@ -26,8 +27,16 @@ is_of editor section = section % 4 == editor - 1
 abbrev pub sections_of : ℕ → ℕ → List ℕ
 sections_of size editor = filter (is_of editor) (range_with_len 0 size)
 
+-- the list of edits that a batch has
+abbrev pub batch_at : List Edit → ℕ → List Edit
+batch_at edits k = take 64 (drop (64 * k) edits)
+
+-- all edits in batches, in order
+abbrev pub batches : List Edit → List Cmd
+batches edits = map (λ k. Edits (batch_at edits k)) (range_with_len 0 ((length edits + 63) / 64))
+
 abbrev pub script : ℕ → ℕ → ℕ → List Cmd
-script size editor state = paddings (sections_of size editor) state ++ Sync ∷ []
+script size editor state = batches (paddings (sections_of size editor) state) ++ Sync ∷ []
 
 abbrev pub script_end : ℕ → ℕ → ℕ → ℕ
 script_end size editor state = state_after (length (sections_of size editor)) state

@@ -1,5 +1,6 @@
 pub mod Draws
 pub mod Nodes
 pub mod Commands
+pub mod Batches
 pub mod Generated
 pub mod Summary

@@ -6,9 +6,11 @@ ghost use Rattle.lay_run.specs.Scripts.{reads_of};
 ghost use Rattle.lay_generator.specs.Draws.{next, state_after};
 ghost use Rattle.lay_generator.specs.Commands.{is_of, paddings, script, script_end, scripts, set_padding};
 
+use crate::batches::Batches;
 use crate::draws::Draws;
 use crate::nodes::{decl, px};
-use lay_doc::{Cmd, CmdList, Edit, NodeId};
+use lay_doc::{Edit, NodeId};
+use lay_edits::{Cmd, CmdList};
 use lay_run::ScriptList;
 use lay_style::Property;
 use lay_units::NoMemory;
@@ -28,6 +30,7 @@ pub(crate) fn scripts(alloc: Global, size: u32, draws: &mut Draws) -> Result<Scr
 }
 
 /// The script of an editor.
+#[tactic(auto, using(crate::proofs::Batching::few_batches, crate::proofs::Batching::one_reads))]
 fn script(alloc: Global, size: u32, editor: u32, draws: &mut Draws) -> Result<CmdList, NoMemory>
     requires size { size ≤ 1000 }
     requires editor { 1 ≤ editor }
@@ -36,41 +39,42 @@ fn script(alloc: Global, size: u32, editor: u32, draws: &mut Draws) -> Result<Cm
     ensures reads { IfOk result (λ s. reads_of s ≡ 1) }
     ensures state { OnOk result (draws.new ≡ script_end size editor draws.old) }
 {
-    let mut commands = CmdList::new(alloc);
+    let mut batches = Batches::new(alloc);
     for section in 0..size {
-        push_padding(section, editor, draws, &mut commands)?;
+        push_padding(section, editor, draws, &mut batches)?;
     }
+    let mut commands = batches.into_commands()?;
     commands.push(Cmd::Sync)?;
     Ok(commands)
 }
 
-/// Adds the command for a section, where this editor changes it.
+/// Adds the edit for a section, where this editor changes it.
 fn push_padding(
     section: u32,
     editor: u32,
     draws: &mut Draws,
-    commands: &mut CmdList,
+    batches: &mut Batches,
 ) -> Result<(), NoMemory>
     requires section { section < 1000 }
     requires editor { 1 ≤ editor }
-    ensures commands { OnOk result (commands.new ≡ commands.old ++ paddings (filter (is_of editor) (section ∷ [])) draws.old) }
+    ensures edits { OnOk result (batches.new ≡ batches.old ++ paddings (filter (is_of editor) (section ∷ [])) draws.old) }
     ensures state { OnOk result (draws.new ≡ state_after (length (filter (is_of editor) (section ∷ []))) draws.old) }
 {
     if section % 4 == editor - 1 {
-        commands.push(set_padding(section, draws))?;
+        batches.push(set_padding(section, draws))?;
     }
     Ok(())
 }
 
 /// Sets the left padding of a section's block.
-fn set_padding(section: u32, draws: &mut Draws) -> Cmd
+fn set_padding(section: u32, draws: &mut Draws) -> Edit
     requires { section < 1000 }
-    ensures command { result ≡ set_padding section draws.old }
+    ensures edit { result ≡ set_padding section draws.old }
     ensures state { draws.new ≡ next draws.old }
 {
     let padding = px(draws.draw() % 30);
-    Cmd::Edit(Edit::SetStyle {
+    Edit::SetStyle {
         node: NodeId(4 + 4 * section),
         decl: decl(Property::PaddingLeft, padding),
-    })
+    }
 }

@@ -4,6 +4,7 @@
 //! `specs/Nodes.antt` and the commands of `specs/Commands.antt`; and `summary` of `specs/Summary.antt`.
 #![tactic(auto)]
 
+mod batches;
 mod commands;
 mod draws;
 mod generated;

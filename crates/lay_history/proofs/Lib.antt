@@ -4,3 +4,4 @@ pub mod Versions
 pub mod Shown
 pub mod ShownVersions
 pub mod Turns
+pub mod Refusals

@@ -3,15 +3,15 @@ use Rattle.std.proofs.Common.{◌≡◌, ◌≤◌, ℕ, ◌+◌, zero, suc, Lis
 use Rattle.std.proofs.lemmas.List.Concat.{flat_map-append}
 use Rattle.std.proofs.lemmas.List.Sums.{fold-append}
 use Rattle.lay_doc.specs.Document.{Document}
-use Rattle.lay_doc.specs.Edits.{after}
-use Rattle.lay_doc.specs.declared.history.Entry.{Entry}
-use Rattle.lay_history.specs.Histories.{accepted, doc_at, edit_in, edits, last_or, published, version_in}
+use Rattle.lay_edits.specs.EditLists.{after_all}
+use Rattle.lay_edits.specs.declared.history.Entry.{Entry}
+use Rattle.lay_history.specs.Histories.{accepted, doc_at, list_in, lists, last_or, published, version_in}
 use Rattle.lay_history.specs.Legal.{IsLegal, MayFollow, doc_after}
 use Rattle.lay_history.specs.Calls.{call_in, calls}
 use Rattle.lay_history.proofs.Lists.{get_more, get_some, take_front, take_more, take_whole}
 
-pub edits_more : (h : List Entry) (e : Entry) → edits (h ++ e ∷ []) ≡ edits h ++ edit_in e
-edits_more h e = rw (flat_map-append edit_in h (e ∷ []), append-nil (edit_in e)) refl
+pub lists_more : (h : List Entry) (e : Entry) → lists (h ++ e ∷ []) ≡ lists h ++ list_in e
+lists_more h e = rw (flat_map-append list_in h (e ∷ []), append-nil (list_in e)) refl
 
 pub published_more : (h : List Entry) (e : Entry) → published (h ++ e ∷ []) ≡ published h ++ version_in e
 published_more h e = rw (flat_map-append version_in h (e ∷ []), append-nil (version_in e)) refl
@@ -19,23 +19,23 @@ published_more h e = rw (flat_map-append version_in h (e ∷ []), append-nil (ve
 pub calls_more : (h : List Entry) (e : Entry) → calls (h ++ e ∷ []) ≡ calls h ++ call_in e
 calls_more h e = rw (flat_map-append call_in h (e ∷ []), append-nil (call_in e)) refl
 
-pub accepted_more : (h : List Entry) (e : Entry) → accepted (h ++ e ∷ []) ≡ accepted h + length (edit_in e)
-accepted_more h e = rw (edits_more h e) (length-append (edits h) (edit_in e))
+pub accepted_more : (h : List Entry) (e : Entry) → accepted (h ++ e ∷ []) ≡ accepted h + length (list_in e)
+accepted_more h e = rw (lists_more h e) (length-append (lists h) (list_in e))
 
 pub call_count_more : (h : List Entry) (e : Entry) → length (calls (h ++ e ∷ [])) ≡ length (calls h) + length (call_in e)
 call_count_more h e = rw (calls_more h e) (length-append (calls h) (call_in e))
 
 -- the documents of earlier versions stay
 pub doc_before : (init : Document) (h : List Entry) (e : Entry) (v : ℕ) → v ≤ accepted h → doc_at init (h ++ e ∷ []) v ≡ doc_at init h v
-doc_before init h e v le = ap (fold after init) (ap (take v) (edits_more h e) ∙ take_front v (edits h) (edit_in e) le)
+doc_before init h e v le = ap (fold after_all init) (ap (take v) (lists_more h e) ∙ take_front v (lists h) (list_in e) le)
 
-doc_whole : (init : Document) (h : List Entry) → doc_after init h ≡ fold after init (edits h)
-doc_whole init h = ap (fold after init) (take_whole (edits h))
+doc_whole : (init : Document) (h : List Entry) → doc_after init h ≡ fold after_all init (lists h)
+doc_whole init h = ap (fold after_all init) (take_whole (lists h))
 
-pub doc_after_more : (init : Document) (h : List Entry) (e : Entry) → doc_after init (h ++ e ∷ []) ≡ fold after (doc_after init h) (edit_in e)
+pub doc_after_more : (init : Document) (h : List Entry) (e : Entry) → doc_after init (h ++ e ∷ []) ≡ fold after_all (doc_after init h) (list_in e)
 doc_after_more init h e =
-    doc_whole init (h ++ e ∷ []) ∙ (ap (fold after init) (edits_more h e) ∙ (fold-append after init (edits h) (edit_in e)
-    ∙ ap (λ d. fold after d (edit_in e)) (sym (doc_whole init h))))
+    doc_whole init (h ++ e ∷ []) ∙ (ap (fold after_all init) (lists_more h e) ∙ (fold-append after_all init (lists h) (list_in e)
+    ∙ ap (λ d. fold after_all d (list_in e)) (sym (doc_whole init h))))
 
 pub legal_more : (init : Document) (h : List Entry) (e : Entry) → IsLegal init h → MayFollow init h e → IsLegal init (h ++ e ∷ [])
 legal_more init h e legal follows k x at = elim (get_more h e x k at) [

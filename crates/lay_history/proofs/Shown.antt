@@ -1,10 +1,10 @@
 -- What the lines of a report show of a history, and the scripts, determine it.
 use Rattle.std.proofs.Common.{◌≡◌, ℕ, ◌==◌, List, [], ◌∷◌, ◌++◌, drop, Bool, true, false, if◌then◌else◌, refl, sym, ap, ◌∙◌, eq-eqb, slice_get}
 use Rattle.lay_doc.specs.declared.edit.Edit.{Edit as Change}
-use Rattle.lay_doc.specs.declared.command.Cmd.{Cmd}
-use Rattle.lay_doc.specs.declared.command.Cmd.TheVariants as command
-use Rattle.lay_doc.specs.declared.history.Entry.{Entry}
-use Rattle.lay_doc.specs.declared.history.Entry.TheVariants.{Edit, Publish, Latest, Sync}
+use Rattle.lay_edits.specs.declared.command.Cmd.{Cmd}
+use Rattle.lay_edits.specs.declared.command.Cmd.TheVariants as command
+use Rattle.lay_edits.specs.declared.history.Entry.{Entry}
+use Rattle.lay_edits.specs.declared.history.Entry.TheVariants.{Edit, Publish, Latest, Sync}
 use Rattle.lay_history.specs.Calls.{Call, calls, calls_of}
 use Rattle.lay_history.specs.Laws.{OneHistory, ShowSame}
 use Rattle.lay_history.proofs.Lists.{some_is}
@@ -36,20 +36,20 @@ first_same c d cs ds own same =
     heads_same c d (calls_of c.editor cs) (calls_of d.editor ds)
     (sym (own_first c cs) ∙ (same c.editor ∙ (ap (λ n. calls_of n (d ∷ ds)) (sym own) ∙ own_first d ds)))
 
-abbrev edit_or : Change → Cmd → Change
-edit_or other (command.Edit edit) = edit
-edit_or other command.Latest = other
-edit_or other command.Sync = other
+abbrev edits_or : List Change → Cmd → List Change
+edits_or other (command.Edits edits) = edits
+edits_or other command.Latest = other
+edits_or other command.Sync = other
 
 pub same_histories : (g h : List Entry) → ((editor : ℕ) → calls_of editor (calls g) ≡ calls_of editor (calls h)) → ShowSame g h → g ≡ h
 same_histories [] [] same show = refl
 same_histories [] (y ∷ h) same show = absurd show
 same_histories (x ∷ g) [] same show = absurd show
 same_histories (Edit a i e r ∷ g) (Edit b j f s ∷ h) same show =
-    let c : Call = record { editor = a; index = i; command = command.Edit e } in
-    let d : Call = record { editor = b; index = j; command = command.Edit f } in
+    let c : Call = record { editor = a; index = i; command = command.Edits e } in
+    let d : Call = record { editor = b; index = j; command = command.Edits f } in
     let rest = same_histories g h (rest_same c d (calls g) (calls h) (sym show.0.0) same) show.1 in
-    let edits_same : e ≡ f = ap (λ x. edit_or e x.command) (first_same c d (calls g) (calls h) (sym show.0.0) same) in
+    let edits_same : e ≡ f = ap (λ x. edits_or e x.command) (first_same c d (calls g) (calls h) (sym show.0.0) same) in
     ap (λ n. Edit n i e r ∷ g) show.0.0 ∙ (ap (λ n. Edit b n e r ∷ g) show.0.1 ∙ (ap (λ x. Edit b j x r ∷ g) edits_same
     ∙ (ap (λ x. Edit b j f x ∷ g) show.0.2 ∙ ap (λ t. Edit b j f s ∷ t) rest)))
 same_histories (Publish v ∷ g) (Publish w ∷ h) same show =

@@ -1,10 +1,10 @@
 -- The versions that a legal history shows.
 use Rattle.std.proofs.Common.{◌≡◌, ◌<◌, ◌≤◌, ℕ, List, [], ◌∷◌, ◌++◌, take, Option, Some, None, IfSome, refl, sym, ap, ◌∙◌, subst, arith, append-nil, inl, inr, slice_get, All}
 use Rattle.lay_doc.specs.Document.{Document}
-use Rattle.lay_doc.specs.declared.command.Reply.{Reply}
-use Rattle.lay_doc.specs.declared.command.Reply.TheVariants.{Accepted, Refused, Shown, NoMemory}
-use Rattle.lay_doc.specs.declared.history.Entry.{Entry}
-use Rattle.lay_doc.specs.declared.history.Entry.TheVariants.{Edit, Publish, Latest, Sync}
+use Rattle.lay_edits.specs.declared.command.Reply.{Reply}
+use Rattle.lay_edits.specs.declared.command.Reply.TheVariants.{Accepted, Refused, Shown, NoMemory}
+use Rattle.lay_edits.specs.declared.history.Entry.{Entry}
+use Rattle.lay_edits.specs.declared.history.Entry.TheVariants.{Edit, Publish, Latest, Sync}
 use Rattle.lay_history.specs.Histories.{accepted, last_or, last_published, published, shown_by, shown_version, version_in}
 use Rattle.lay_history.specs.Legal.{AnswersLatest, AnswersSync, IsLegal, MayFollow}
 use Rattle.lay_history.specs.Laws.{ShownRise, ShownVersionsRise, SyncsShowAll}
@@ -22,19 +22,19 @@ AreReached h = (j v : ℕ) (a : Entry) → slice_get h j ≡ Some a → shown_ve
 
 latest_shows : (o : Option ℕ) (reply : Reply) (v : ℕ) → AnswersLatest o reply → shown_by reply ≡ Some v → o ≡ Some v
 latest_shows o (Accepted n) v answers e = absurd answers
-latest_shows o (Refused f) v answers e = absurd answers
+latest_shows o (Refused place f) v answers e = absurd answers
 latest_shows o (Shown n) v answers e = answers ∙ e
 latest_shows o NoMemory v answers e = absurd (not_none v e)
 
 sync_shows : (o : Option ℕ) (n : ℕ) (reply : Reply) (v : ℕ) → AnswersSync o n reply → shown_by reply ≡ Some v → (o ≡ Some v) × (v ≡ n)
 sync_shows o n (Accepted m) v answers e = absurd answers
-sync_shows o n (Refused f) v answers e = absurd answers
+sync_shows o n (Refused place f) v answers e = absurd answers
 sync_shows o n (Shown m) v answers e = (answers.0 ∙ e, sym (some_is m v e) ∙ answers.1)
 sync_shows o n NoMemory v answers e = absurd (not_none v e)
 
 -- what an entry shows was published last
 pub shown_last : (init : Document) (h : List Entry) (e : Entry) (v : ℕ) → MayFollow init h e → shown_version e ≡ Some v → last_published h ≡ Some v
-shown_last init h (Edit editor index edit reply) v follows e = absurd (not_none v e)
+shown_last init h (Edit editor index edits reply) v follows e = absurd (not_none v e)
 shown_last init h (Publish w) v follows e = absurd (not_none v e)
 shown_last init h (Latest editor index reply) v follows e = latest_shows (last_published h) reply v follows e
 shown_last init h (Sync editor index reply) v follows e = (sync_shows (last_published h) (accepted h) reply v follows e).0
@@ -48,7 +48,7 @@ same_last h e none = ap (last_or None) (published_more h e ∙ (ap (λ v. publis
 
 -- what was reached stays so
 reached_more : (init : Document) (h : List Entry) (e : Entry) (v : ℕ) → MayFollow init h e → IsReached v (last_published h) → IsReached v (last_published (h ++ e ∷ []))
-reached_more init h (Edit editor index edit reply) v follows is = subst (IsReached v) (sym (same_last h (Edit editor index edit reply) refl)) is
+reached_more init h (Edit editor index edits reply) v follows is = subst (IsReached v) (sym (same_last h (Edit editor index edits reply) refl)) is
 reached_more init h (Publish w) v follows is =
     subst (IsReached v) (sym (ap (last_or None) (published_more h (Publish w)) ∙ last_of_more None (published h) w))
     (reached_later v w (last_published h) (published h) refl follows.1 is)

@@ -3,8 +3,8 @@ use Rattle.std.proofs.Common.{◌≡◌, ◌<◌, ◌≤◌, ℕ, ◌+◌, suc, 
 use Rattle.std.proofs.lemmas.Bool.{cases_lt}
 use Rattle.std.proofs.lemmas.List.Elements.{All-push}
 use Rattle.lay_doc.specs.Document.{Document}
-use Rattle.lay_doc.specs.declared.history.Entry.{Entry}
-use Rattle.lay_doc.specs.declared.history.Entry.TheVariants.{Edit, Publish, Latest, Sync}
+use Rattle.lay_edits.specs.declared.history.Entry.{Entry}
+use Rattle.lay_edits.specs.declared.history.Entry.TheVariants.{Edit, Publish, Latest, Sync}
 use Rattle.lay_history.specs.Histories.{accepted, last_or, last_published, published, version_in}
 use Rattle.lay_history.specs.Legal.{IsLegal, MayFollow}
 use Rattle.lay_history.specs.Calls.{call_in, calls}
@@ -90,7 +90,7 @@ published_again h v v_is below is = record {
     few = few_below v (published h) (last_published h) refl (subst (λ n. HasGreatest n (published h)) (sym v_is) is.greatest) below
 
 one_more : (init : Document) (h : List Entry) (e : Entry) → MayFollow init h e → ArePublished h → ArePublished (h ++ e ∷ [])
-one_more init h (Edit editor index edit reply) follows is = same_more h (Edit editor index edit reply) refl is
+one_more init h (Edit editor index edits reply) follows is = same_more h (Edit editor index edits reply) refl is
 one_more init h (Publish v) follows is = published_again h v follows.0 follows.1 is
 one_more init h (Latest editor index reply) follows is = same_more h (Latest editor index reply) refl is
 one_more init h (Sync editor index reply) follows is = same_more h (Sync editor index reply) refl is
@@ -134,9 +134,9 @@ pub all_below : (init : Document) (h : List Entry) → IsLegal init h → (last_
     → (length (published h) ≤ accepted h) × All (λ w. w < accepted h) (published h)
 all_below init h legal other = below_other (accepted h) (published h) (last_published h) refl other (are_published init h legal).greatest
 
--- an entry is of a call or publishes a version, and each accepted edit is of a call
+-- an entry is of a call or publishes a version, and each accepted list is of a call
 entry_is : (e : Entry) → 1 ≡ length (call_in e) + length (version_in e)
-entry_is (Edit editor index edit reply) = refl
+entry_is (Edit editor index edits reply) = refl
 entry_is (Publish v) = refl
 entry_is (Latest editor index reply) = refl
 entry_is (Sync editor index reply) = refl

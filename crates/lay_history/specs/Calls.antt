@@ -1,10 +1,10 @@
 -- Whose commands a history answers, and in which order. The editors of a run are numbered from 1 and the commands of each
 -- one from 0. A call is one command of an editor, with its index.
 use Rattle.std.specs.Prelude.{ℕ, zero, suc, ◌≡◌, ◌+◌, ◌<◌, ◌⊎◌, ◌==◌, List, [], ◌∷◌, flat_map, slice_get, slice_index_or, Some, if◌then◌else◌}
-use Rattle.lay_doc.specs.declared.command.Cmd.{Cmd}
-use Rattle.lay_doc.specs.declared.command.Cmd.TheVariants as command
-use Rattle.lay_doc.specs.declared.history.Entry.{Entry}
-use Rattle.lay_doc.specs.declared.history.Entry.TheVariants.{Edit, Publish, Latest, Sync}
+use Rattle.lay_edits.specs.declared.command.Cmd.{Cmd}
+use Rattle.lay_edits.specs.declared.command.Cmd.TheVariants as command
+use Rattle.lay_edits.specs.declared.history.Entry.{Entry}
+use Rattle.lay_edits.specs.declared.history.Entry.TheVariants.{Edit, Publish, Latest, Sync}
 
 pub record Call : Type 0 where
   pub editor : ℕ
@@ -13,7 +13,7 @@ pub record Call : Type 0 where
 
 -- the call that an entry answers
 abbrev pub call_in : Entry → List Call
-call_in (Edit editor index edit reply) = record { editor = editor; index = index; command = command.Edit edit } ∷ []
+call_in (Edit editor index edits reply) = record { editor = editor; index = index; command = command.Edits edits } ∷ []
 call_in (Publish version) = []
 call_in (Latest editor index reply) = record { editor = editor; index = index; command = command.Latest } ∷ []
 call_in (Sync editor index reply) = record { editor = editor; index = index; command = command.Sync } ∷ []

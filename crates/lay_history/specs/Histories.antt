@@ -1,36 +1,36 @@
--- A history is a list of entries, in the order in which they came. Its accepted edits, in order, make the versions of
+-- A history is a list of entries, in the order in which they came. Its accepted lists of edits, in order, make the versions of
 -- the document: version v is the document after the first v of them. Some versions are published.
 use Rattle.std.specs.Prelude.{ℕ, List, [], ◌∷◌, length, take, fold, flat_map, Option, Some, None, Bool, ◌==◌}
 use Rattle.std.specs.List.{list_any}
 use Rattle.lay_doc.specs.declared.edit.Edit.{Edit as Change}
 use Rattle.lay_doc.specs.Document.{Document}
-use Rattle.lay_doc.specs.Edits.{after}
-use Rattle.lay_doc.specs.declared.command.Reply.{Reply}
-use Rattle.lay_doc.specs.declared.command.Reply.TheVariants.{Accepted, Shown}
-use Rattle.lay_doc.specs.declared.history.Entry.{Entry}
-use Rattle.lay_doc.specs.declared.history.Entry.TheVariants.{Edit, Publish, Latest, Sync}
+use Rattle.lay_edits.specs.EditLists.{after_all}
+use Rattle.lay_edits.specs.declared.command.Reply.{Reply}
+use Rattle.lay_edits.specs.declared.command.Reply.TheVariants.{Accepted, Shown}
+use Rattle.lay_edits.specs.declared.history.Entry.{Entry}
+use Rattle.lay_edits.specs.declared.history.Entry.TheVariants.{Edit, Publish, Latest, Sync}
 
--- the edit, where the reply to it is that it was accepted
-abbrev pub edit_if_accepted : Change → Reply → List Change
-edit_if_accepted edit (Accepted version) = edit ∷ []
-edit_if_accepted edit _ = []
+-- the list of edits, where the reply to it is that it was accepted
+abbrev pub list_if_accepted : List Change → Reply → List (List Change)
+list_if_accepted edits (Accepted version) = edits ∷ []
+list_if_accepted edits _ = []
 
--- the accepted edit of an entry
-abbrev pub edit_in : Entry → List Change
-edit_in (Edit editor index edit reply) = edit_if_accepted edit reply
-edit_in _ = []
+-- the accepted list of edits of an entry
+abbrev pub list_in : Entry → List (List Change)
+list_in (Edit editor index edits reply) = list_if_accepted edits reply
+list_in _ = []
 
--- the accepted edits of a history, in order
-abbrev pub edits : List Entry → List Change
-edits history = flat_map edit_in history
+-- the accepted lists of edits of a history, in order
+abbrev pub lists : List Entry → List (List Change)
+lists history = flat_map list_in history
 
--- how many edits were accepted, which is the number of the last version
+-- how many lists were accepted, which is the number of the last version
 abbrev pub accepted : List Entry → ℕ
-accepted history = length (edits history)
+accepted history = length (lists history)
 
 -- the document of a version
 abbrev pub doc_at : Document → List Entry → ℕ → Document
-doc_at init history version = fold after init (take version (edits history))
+doc_at init history version = fold after_all init (take version (lists history))
 
 -- the version that an entry publishes
 abbrev pub version_in : Entry → List ℕ

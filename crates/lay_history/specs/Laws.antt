@@ -1,22 +1,25 @@
 -- What follows of legal histories, and what determines a history.
 use Rattle.std.specs.Prelude.{ℕ, ◌≡◌, ◌+◌, ◌<◌, ◌≤◌, ⊤, List, [], ◌∷◌, length, take, slice_get, Some}
 use Rattle.std.specs.List.{All}
+use Rattle.lay_doc.specs.declared.edit.Edit.{Edit as Change}
+use Rattle.lay_doc.specs.declared.edit.EditFault.{EditFault}
 use Rattle.lay_doc.specs.Document.{Document}
-use Rattle.lay_doc.specs.declared.command.Cmd.{Cmd}
-use Rattle.lay_doc.specs.declared.command.Reply.{Reply}
-use Rattle.lay_doc.specs.declared.history.Entry.{Entry}
-use Rattle.lay_doc.specs.declared.history.Entry.TheVariants.{Edit, Publish, Latest, Sync}
+use Rattle.lay_edits.specs.declared.command.Cmd.{Cmd}
+use Rattle.lay_edits.specs.declared.command.Reply.{Reply}
+use Rattle.lay_edits.specs.declared.command.Reply.TheVariants.{Refused}
+use Rattle.lay_edits.specs.declared.history.Entry.{Entry}
+use Rattle.lay_edits.specs.declared.history.Entry.TheVariants.{Edit, Publish, Latest, Sync}
 use Rattle.lay_history.specs.Histories.{accepted, published, shown_by, shown_version}
 use Rattle.lay_history.specs.Legal.{IsLegal}
 use Rattle.lay_history.specs.Calls.{AnswersScripts, TakesTurns, calls}
 
--- the versions that a legal history publishes rise, and none is greater than the number of accepted edits
+-- the versions that a legal history publishes rise, and none is greater than the number of accepted lists of edits
 abbrev pub VersionsRise : Type 0
 VersionsRise = (init : Document) (history : List Entry) → IsLegal init history
     → ((j k v w : ℕ) → j < k → slice_get (published history) j ≡ Some v → slice_get (published history) k ≡ Some w → v < w)
     × All (λ v. v ≤ accepted history) (published history)
 
--- so there are at most one more than accepted edits
+-- so there are at most one more than accepted lists
 abbrev pub FewVersions : Type 0
 FewVersions = (init : Document) (history : List Entry) → IsLegal init history → length (published history) ≤ accepted history + 1
 
@@ -34,9 +37,14 @@ SyncsShowAll history = (k v editor index : ℕ) (reply : Reply) → slice_get hi
 abbrev pub ShownVersionsRise : Type 0
 ShownVersionsRise = (init : Document) (history : List Entry) → IsLegal init history → ShownRise history × SyncsShowAll history
 
--- the lines of a report show the same of these entries: all but what an edit was
+-- a list is refused at a place that it has
+abbrev pub RefusalsAreWithin : Type 0
+RefusalsAreWithin = (init : Document) (history : List Entry) (k editor index place : ℕ) (edits : List Change) (f : EditFault) → IsLegal init history
+    → slice_get history k ≡ Some (Edit editor index edits (Refused place f)) → place < length edits
+
+-- the lines of a report show the same of these entries: all but what the edits were
 abbrev pub ShowsSame : Entry → Entry → Type 0
-ShowsSame (Edit editor index edit reply) (Edit editor' index' edit' reply') = (editor ≡ editor') × (index ≡ index') × (reply ≡ reply')
+ShowsSame (Edit editor index edits reply) (Edit editor' index' edits' reply') = (editor ≡ editor') × (index ≡ index') × (reply ≡ reply')
 ShowsSame (Publish version) (Publish version') = version ≡ version'
 ShowsSame (Latest editor index reply) (Latest editor' index' reply') = (editor ≡ editor') × (index ≡ index') × (reply ≡ reply')
 ShowsSame (Sync editor index reply) (Sync editor' index' reply') = (editor ≡ editor') × (index ≡ index') × (reply ≡ reply')

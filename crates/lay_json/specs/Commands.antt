@@ -1,103 +1,71 @@
--- A command of an editor: an object whose `do` says what the command does, and whose further fields are
--- judged in the order in which they stand here. What names no property, or gives no value of its property, is no
--- fault of the run: it gives an edit that is always refused.
-use Rattle.std.specs.Prelude.{ℕ, List, Option, Some, None, ok_or, Result, Ok, Err, codes, if◌then◌else◌}
+-- A command of an editor: an object whose `do` says what the command does. An edit alone is a list of one edit; a batch holds its
+-- list in the field `edits`: objects each of which is an edit by itself. The fields of each are judged at the place of their command,
+-- those of the first edit first.
+use Rattle.std.specs.Prelude.{ℕ, List, [], ◌∷◌, ◌++◌, Option, Some, option_map, ok_or, Result, Ok, Err, codes, if◌then◌else◌}
 use Rattle.std.specs.Str.{bytes_eq}
-use Rattle.serde_json.specs.Data.{Data}
-use Rattle.lay_style.specs.declared.property.Property.{Property}
-use Rattle.lay_style.specs.Values.{Declaration}
-use Rattle.lay_doc.specs.declared.node.NodeId.{NodeId}
+use Rattle.serde_json.specs.Data.{Data, Items, no_items, item}
 use Rattle.lay_doc.specs.declared.edit.Edit.{Edit}
-use Rattle.lay_doc.specs.declared.edit.Edit.TheVariants.{SetStyle, ClearStyle, SetText, Insert as put_node, Remove as remove_node, Bad}
-use Rattle.lay_doc.specs.declared.edit.BadDeclaration.{BadDeclaration}
-use Rattle.lay_doc.specs.declared.edit.BadDeclaration.TheVariants.{Property as no_property}
-use Rattle.lay_doc.specs.NewNodes.{NewNodeValue}
-use Rattle.lay_doc.specs.declared.command.Cmd.{Cmd}
-use Rattle.lay_doc.specs.declared.command.Cmd.TheVariants.{Edit as an_edit, Latest as a_latest, Sync as a_sync}
-use Rattle.lay_values.specs.Names.{property_of}
-use Rattle.lay_json.specs.declared.fault.Field.TheVariants.{Do, Node, Property as a_property, Value as a_value, Text as a_text, Index}
+use Rattle.lay_edits.specs.declared.command.Cmd.{Cmd}
+use Rattle.lay_edits.specs.declared.command.Cmd.TheVariants.{Edits as some_edits, Latest as a_latest, Sync as a_sync}
+use Rattle.lay_json.specs.declared.fault.Field.TheVariants.{Do, Edits}
 use Rattle.lay_json.specs.declared.fault.Spot.{Spot}
+use Rattle.lay_json.specs.declared.fault.Spot.TheVariants.{Command as in_command}
 use Rattle.lay_json.specs.declared.fault.InputFault.{InputFault}
-use Rattle.lay_json.specs.declared.fault.InputFault.TheVariants.{WrongKind}
+use Rattle.lay_json.specs.declared.fault.InputFault.TheVariants.{Missing, WrongKind, BatchTooLong}
 use Rattle.lay_json.specs.declared.command.Action.{Action}
-use Rattle.lay_json.specs.declared.command.Action.TheVariants.{Set, Clear, Text, Insert, Remove, Latest, Sync}
-use Rattle.lay_json.specs.Fields.{then_read, map_read, object_of, required_text, required_number}
-use Rattle.lay_json.specs.NodeForms.{node_form, new_node, declaration_of}
+use Rattle.lay_json.specs.declared.command.Action.TheVariants.{Change, Batch, Latest, Sync}
+use Rattle.lay_json.specs.Fields.{then_read, map_read, has_at_most, object_of, list_of, required, required_text}
+use Rattle.lay_json.specs.EditCommands.{change_named, edit_for, edit_of}
 
 -- what a text of `do` names
 abbrev pub action_named : List ℕ → Option Action
 action_named text =
-    if bytes_eq text (codes "set") then Some Set
-    else (if bytes_eq text (codes "clear") then Some Clear
-    else (if bytes_eq text (codes "text") then Some Text
-    else (if bytes_eq text (codes "insert") then Some Insert
-    else (if bytes_eq text (codes "remove") then Some Remove
+    if bytes_eq text (codes "batch") then Some Batch
     else (if bytes_eq text (codes "latest") then Some Latest
-    else (if bytes_eq text (codes "sync") then Some Sync else None))))))
+    else (if bytes_eq text (codes "sync") then Some Sync
+    else option_map Change (change_named text)))
 
 abbrev pub action_of : Spot → Data → Result Action InputFault
 action_of place d = then_read (required_text Do place d) (λ text. ok_or (action_named text) (WrongKind Do place))
 
--- the node that a command names: any number that an id can be, and 0
-abbrev pub named_node : Spot → Data → Result NodeId InputFault
-named_node place d = map_read (λ n. record { 0 = n }) (required_number 0 4294967295 Node place d)
+-- the first of a batch's edits and those after it; an empty list counts as absent
+abbrev pub first_edit : Spot → Items → Result (Data × Items) InputFault
+first_edit place no_items = Err (Missing Edits place)
+first_edit place (item first rest) = Ok (first, rest)
 
--- a node is given a declaration; where the name and the text give none, the edit is a bad one
-abbrev pub style_set : NodeId → Result Declaration BadDeclaration → Edit
-style_set node (Ok decl) = SetStyle node decl
-style_set node (Err bad) = Bad bad
+-- these edits with the one that a value is
+abbrev pub with_edit : Spot → List Edit → Data → Result (List Edit) InputFault
+with_edit place before d = map_read (λ e. before ++ e ∷ []) (edit_of place d)
 
-abbrev pub set_command : Spot → Data → Result Edit InputFault
-set_command place d =
-    then_read (named_node place d) (λ node.
-    then_read (required_text a_property place d) (λ property.
-    then_read (required_text a_value place d) (λ value.
-    Ok (style_set node (declaration_of property value)))))
+-- these edits and those of the items
+abbrev pub edits_from : Spot → List Edit → Items → Result (List Edit) InputFault
+edits_from place before no_items = Ok before
+edits_from place before (item d ds) = then_read (with_edit place before d) (λ longer. edits_from place longer ds)
 
--- what a node declares for a property is taken away; where there is no such property, the edit is a bad one
-abbrev pub style_cleared : NodeId → Option Property → Edit
-style_cleared node (Some property) = ClearStyle node property
-style_cleared node None = Bad no_property
+-- the edits of a list, whose first is read before the others
+abbrev pub edits_in : Spot → Data × Items → Result (List Edit) InputFault
+edits_in place items = then_read (edit_of place items.0) (λ e. edits_from place (e ∷ []) items.1)
 
-abbrev pub clear_command : Spot → Data → Result Edit InputFault
-clear_command place d =
-    then_read (named_node place d) (λ node.
-    then_read (required_text a_property place d) (λ property.
-    Ok (style_cleared node (property_of property))))
+-- the edits of a list that isn't too long
+abbrev pub edits_within : ℕ → ℕ → Items → Data × Items → Result (List Edit) InputFault
+edits_within editor index all items = if has_at_most 1024 all then edits_in (in_command editor index) items else Err (BatchTooLong editor index)
 
-abbrev pub text_command : Spot → Data → Result Edit InputFault
-text_command place d =
-    then_read (named_node place d) (λ node.
-    then_read (required_text a_text place d) (λ text.
-    Ok (SetText node text)))
-
--- a node is put below its parent; where the first of its declarations that is none has a fault, the edit is a
--- bad one
-abbrev pub node_put : NodeId → ℕ → Result NewNodeValue BadDeclaration → Edit
-node_put parent index (Ok new) = put_node parent index new
-node_put parent index (Err bad) = Bad bad
-
-abbrev pub insert_command : Spot → Data → Result Edit InputFault
-insert_command place d =
-    then_read (required_number 0 4294967295 Index place d) (λ index.
-    then_read (node_form place d) (λ form.
-    Ok (node_put form.parent index (new_node form d))))
-
-abbrev pub remove_command : Spot → Data → Result Edit InputFault
-remove_command place d = map_read remove_node (named_node place d)
+-- the list of a batch: it must be there and be a list (I3, I4), then have at most 1,024 edits (I10), and then each edit its form
+abbrev pub batch_of : ℕ → ℕ → Data → Result (List Edit) InputFault
+batch_of editor index d =
+    then_read (required Edits (in_command editor index) d) (λ value.
+    then_read (list_of Edits (in_command editor index) value) (λ all.
+    then_read (first_edit (in_command editor index) all) (edits_within editor index all)))
 
 -- the command that does this
-abbrev pub command_for : Spot → Data → Action → Result Cmd InputFault
-command_for place d Set = map_read an_edit (set_command place d)
-command_for place d Clear = map_read an_edit (clear_command place d)
-command_for place d Text = map_read an_edit (text_command place d)
-command_for place d Insert = map_read an_edit (insert_command place d)
-command_for place d Remove = map_read an_edit (remove_command place d)
-command_for place d Latest = Ok a_latest
-command_for place d Sync = Ok a_sync
+abbrev pub command_for : ℕ → ℕ → Data → Action → Result Cmd InputFault
+command_for editor index d (Change change) = map_read (λ e. some_edits (e ∷ [])) (edit_for (in_command editor index) d change)
+command_for editor index d Batch = map_read some_edits (batch_of editor index d)
+command_for editor index d Latest = Ok a_latest
+command_for editor index d Sync = Ok a_sync
 
--- the command that a value is; one that is no object is of another kind than what has a `do`
-abbrev pub command_of : Spot → Data → Result Cmd InputFault
-command_of place d =
-    then_read (object_of Do place d) (λ members.
-    then_read (action_of place d) (command_for place d))
+-- the command of this index of an editor, which a value is; one that is no object is of another kind than what has a `do`
+abbrev pub command_of : ℕ → ℕ → Data → Result Cmd InputFault
+command_of editor index d =
+    then_read (object_of Do (in_command editor index) d) (λ members.
+    then_read (action_of (in_command editor index) d) (command_for editor index d))

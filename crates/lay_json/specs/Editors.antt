@@ -5,9 +5,9 @@
 use Rattle.std.specs.Prelude.{◌+◌, ◌&&◌, ◌||◌, List, [], ◌∷◌, ◌++◌, length, nat_le, Bool, true, is_some, Result, Ok, Err, if◌then◌else◌}
 use Rattle.serde_json.specs.Data.{Data, Items, no_items, item}
 use Rattle.serde_json.specs.Find.{as_array}
-use Rattle.lay_doc.specs.declared.command.Cmd.{Cmd}
+use Rattle.lay_edits.specs.declared.command.Cmd.{Cmd}
 use Rattle.lay_json.specs.declared.fault.Field.TheVariants.{Editors}
-use Rattle.lay_json.specs.declared.fault.Spot.TheVariants.{Run as in_run, Command as in_command}
+use Rattle.lay_json.specs.declared.fault.Spot.TheVariants.{Run as in_run}
 use Rattle.lay_json.specs.declared.fault.InputFault.{InputFault}
 use Rattle.lay_json.specs.declared.fault.InputFault.TheVariants.{WrongKind, TooManyEditors, TooManyCommands}
 use Rattle.lay_json.specs.Fields.{then_read, map_read, list_of, has_at_most}
@@ -26,7 +26,7 @@ within_limits before own c = if is_past before own c then Err TooManyCommands el
 -- the command that a value is, after these scripts and these commands of its own script
 abbrev pub next_command : List (List Cmd) → List Cmd → Data → Result Cmd InputFault
 next_command before own d =
-    then_read (command_of (in_command (length before + 1) (length own)) d) (within_limits before own)
+    then_read (command_of (length before + 1) (length own) d) (within_limits before own)
 
 -- the own commands with the one that a value is
 abbrev pub with_command : List (List Cmd) → List Cmd → Data → Result (List Cmd) InputFault

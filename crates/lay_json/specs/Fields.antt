@@ -6,7 +6,7 @@ use Rattle.std.specs.Prelude.{ℕ, suc, ◌≡◌, ◌≢◌, ◌&&◌, List, Bo
 use Rattle.serde_json.specs.Data.{Data, Items, no_items, item, Members}
 use Rattle.serde_json.specs.Find.{get, at, as_number, as_u64, as_str, as_array, as_object}
 use Rattle.lay_json.specs.declared.fault.Field.{Field}
-use Rattle.lay_json.specs.declared.fault.Field.TheVariants.{Run, Viewport, Face, Advance, Default, Ascent, Descent, XHeight, Normal, Nodes, Editors, Id, Parent, Kind, Style, Colspan, Rowspan, Text, Natural, Do, Node, Property, Value, Index, Sheet, Tag, Label, Classes, Check, Report}
+use Rattle.lay_json.specs.declared.fault.Field.TheVariants.{Run, Viewport, Face, Advance, Default, Ascent, Descent, XHeight, Normal, Nodes, Editors, Id, Parent, Kind, Style, Colspan, Rowspan, Text, Natural, Do, Node, Property, Value, Index, Edits, Sheet, Tag, Label, Classes, Check, Report}
 use Rattle.lay_json.specs.declared.fault.Spot.{Spot}
 use Rattle.lay_json.specs.declared.fault.InputFault.{InputFault}
 use Rattle.lay_json.specs.declared.fault.InputFault.TheVariants.{Missing, WrongKind, BadNumber, NoMemory}
@@ -37,6 +37,7 @@ name_of Node = codes "node"
 name_of Property = codes "property"
 name_of Value = codes "value"
 name_of Index = codes "index"
+name_of Edits = codes "edits"
 name_of Sheet = codes "sheet"
 name_of Tag = codes "tag"
 name_of Label = codes "label"

@@ -2,6 +2,7 @@ pub mod Fields
 pub mod FaceFields
 pub mod NodeForms
 pub mod Nodes
+pub mod EditCommands
 pub mod Commands
 pub mod Editors
 pub mod Listing

@@ -1,28 +1,22 @@
 //! One command of an editor.
 
-ghost use Rattle.std.specs.Prelude.{◌≡◌, IfOk};
-ghost use Rattle.serde_json.specs.View.{view};
-ghost use Rattle.lay_json.specs.Fields.{Gives};
-ghost use Rattle.lay_json.specs.Commands.{action_named, action_of, named_node, set_command, clear_command, text_command, insert_command, remove_command, command_for, command_of};
+ghost use Rattle.std.specs.Prelude.{◌≡◌, ◌≤◌, ◌<◌, ◌+◌, length, IfOk};
+ghost use Rattle.serde_json.specs.View.{view, items_view};
+ghost use Rattle.lay_json.specs.Fields.{Changes, Gives, map_read};
+ghost use Rattle.lay_json.specs.Commands.{action_named, action_of, batch_of, command_for, command_of, edits_from, first_edit, with_edit};
 
+use crate::edit::{Change, change_named, edit_for, edit_of};
 use crate::fault::{Field, InputFault, Spot};
-use crate::fields::{NUMBERS, object_of, required_number, required_text};
-use crate::new_node::{declaration_of, new_node};
-use crate::node_form::node_form;
-use lay_doc::{BadDeclaration, Cmd, Edit, NodeId};
-use lay_units::{NoMemory, Text};
-use lay_values::property_of;
+use crate::fields::{has_at_most, list_of, object_of, required, required_text};
+use lay_edits::{Cmd, Edits, MOST_EDITS};
 use serde_json::Value;
 use std::alloc::Global;
 
 /// What `do` names.
 #[derive(Clone, Copy)]
 pub(crate) enum Action {
-    Set,
-    Clear,
-    Text,
-    Insert,
-    Remove,
+    Change(Change),
+    Batch,
     Latest,
     Sync,
 }
@@ -31,14 +25,13 @@ fn action_named(text: &str) -> Option<Action>
     ensures { result ≡ action_named text.now }
 {
     match text {
-        "set" => Some(Action::Set),
-        "clear" => Some(Action::Clear),
-        "text" => Some(Action::Text),
-        "insert" => Some(Action::Insert),
-        "remove" => Some(Action::Remove),
+        "batch" => Some(Action::Batch),
         "latest" => Some(Action::Latest),
         "sync" => Some(Action::Sync),
-        _ => None,
+        _ => match change_named(text) {
+            Some(change) => Some(Action::Change(change)),
+            None => None,
+        },
     }
 }
 
@@ -52,102 +45,92 @@ fn action_of(object: &Value, place: Spot) -> Result<Action, InputFault>
     }
 }
 
-/// The node that a command names.
-fn named_node(object: &Value, place: Spot) -> Result<NodeId, InputFault>
-    ensures { result ≡ named_node place (view object.now) }
+/// The first of a batch's edits, and those after it.
+fn first_edit(values: &[Value], place: Spot) -> Result<(&Value, &[Value]), InputFault>
+    ensures value { map_read (λ p. (view p.0.now, items_view p.1.now)) result ≡ first_edit place (items_view values.now) }
+    ensures count { IfOk result (λ p. length p.1.now + 1 ≡ length values.now) }
 {
-    let id = required_number(NUMBERS, object, Field::Node, place)?;
-    Ok(NodeId(id as u32))
-}
-
-fn set_command(alloc: Global, object: &Value, place: Spot) -> Result<Edit, InputFault>
-    ensures { result ≡ set_command place (view object.now) }
-{
-    let node = named_node(object, place)?;
-    let property = required_text(object, Field::Property, place)?;
-    let value = required_text(object, Field::Value, place)?;
-    match declaration_of(alloc, property, value) {
-        Ok(decl) => Ok(Edit::SetStyle { node, decl }),
-        Err(fault) => Ok(Edit::Bad { fault }),
-    }
-}
-
-fn clear_command(object: &Value, place: Spot) -> Result<Edit, InputFault>
-    ensures { result ≡ clear_command place (view object.now) }
-{
-    let node = named_node(object, place)?;
-    let name = required_text(object, Field::Property, place)?;
-    match property_of(name) {
-        Some(property) => Ok(Edit::ClearStyle { node, property }),
-        None => Ok(Edit::Bad {
-            fault: BadDeclaration::Property,
+    match values.split_first() {
+        Some(edits) => Ok(edits),
+        None => Err(InputFault::Missing {
+            field: Field::Edits,
+            place,
         }),
     }
 }
 
-fn text_copy(alloc: Global, text: &str) -> Result<Text, NoMemory>
-    ensures { IfOk result (λ t. t ≡ text.now) }
+/// Reads the next edit of a batch and adds it.
+fn add_edit(alloc: Global, edits: &mut Edits, value: &Value, place: Spot) -> Result<(), InputFault>
+    requires { length edits.old < 1024 }
+    ensures { Changes result edits.new (with_edit place edits.old (view value.now)) }
 {
-    Ok(Text::new(String::from_str(alloc, text)?))
+    let edit = edit_of(alloc, value, place)?;
+    edits.push(edit)?;
+    Ok(())
 }
 
-fn text_command(alloc: Global, object: &Value, place: Spot) -> Result<Edit, InputFault>
-    ensures { Gives result (text_command place (view object.now)) }
+fn add_edits(
+    alloc: Global,
+    edits: &mut Edits,
+    values: &[Value],
+    place: Spot,
+) -> Result<(), InputFault>
+    requires { length edits.old + length values.now ≤ 1024 }
+    ensures { Changes result edits.new (edits_from place edits.old (items_view values.now)) }
 {
-    let node = named_node(object, place)?;
-    let text = required_text(object, Field::Text, place)?;
-    Ok(Edit::SetText {
-        node,
-        text: text_copy(alloc, text)?,
-    })
-}
-
-fn insert_command(alloc: Global, object: &Value, place: Spot) -> Result<Edit, InputFault>
-    ensures { Gives result (insert_command place (view object.now)) }
-{
-    let index = required_number(NUMBERS, object, Field::Index, place)?;
-    let form = node_form(object, place)?;
-    match new_node(alloc, &form, object)? {
-        Ok(new) => Ok(Edit::Insert {
-            parent: form.parent,
-            index: index as u32,
-            new,
-        }),
-        Err(fault) => Ok(Edit::Bad { fault }),
+    for value in values {
+        add_edit(alloc, edits, value, place)?;
     }
+    Ok(())
 }
 
-fn remove_command(object: &Value, place: Spot) -> Result<Edit, InputFault>
-    ensures { result ≡ remove_command place (view object.now) }
+/// The edits of a batch, or the first fault of its list.
+fn batch_of(alloc: Global, object: &Value, editor: u32, index: u32) -> Result<Edits, InputFault>
+    ensures { Gives result (batch_of editor index (view object.now)) }
 {
-    let node = named_node(object, place)?;
-    Ok(Edit::Remove { node })
+    let place = Spot::Command { editor, index };
+    let value = required(object, Field::Edits, place)?;
+    let all = list_of(value, Field::Edits, place)?;
+    let (first, rest) = first_edit(all, place)?;
+    if !has_at_most(MOST_EDITS, all) {
+        return Err(InputFault::BatchTooLong { editor, index });
+    }
+    let mut edits = Edits::one(alloc, edit_of(alloc, first, place)?)?;
+    add_edits(alloc, &mut edits, rest, place)?;
+    Ok(edits)
 }
 
 fn command_for(
     alloc: Global,
     object: &Value,
-    place: Spot,
+    editor: u32,
+    index: u32,
     action: Action,
 ) -> Result<Cmd, InputFault>
-    ensures { Gives result (command_for place (view object.now) action) }
+    ensures { Gives result (command_for editor index (view object.now) action) }
 {
     match action {
-        Action::Set => Ok(Cmd::Edit(set_command(alloc, object, place)?)),
-        Action::Clear => Ok(Cmd::Edit(clear_command(object, place)?)),
-        Action::Text => Ok(Cmd::Edit(text_command(alloc, object, place)?)),
-        Action::Insert => Ok(Cmd::Edit(insert_command(alloc, object, place)?)),
-        Action::Remove => Ok(Cmd::Edit(remove_command(object, place)?)),
+        Action::Change(change) => {
+            let edit = edit_for(alloc, object, Spot::Command { editor, index }, change)?;
+            Ok(Cmd::Edits(Edits::one(alloc, edit)?))
+        }
+        Action::Batch => Ok(Cmd::Edits(batch_of(alloc, object, editor, index)?)),
         Action::Latest => Ok(Cmd::Latest),
         Action::Sync => Ok(Cmd::Sync),
     }
 }
 
-/// The command that a value is, or the first fault of its fields.
-pub(crate) fn command_of(alloc: Global, value: &Value, place: Spot) -> Result<Cmd, InputFault>
-    ensures { Gives result (command_of place (view value.now)) }
+/// The command of this index of an editor, which a value is, or the first fault of its fields.
+pub(crate) fn command_of(
+    alloc: Global,
+    value: &Value,
+    editor: u32,
+    index: u32,
+) -> Result<Cmd, InputFault>
+    ensures { Gives result (command_of editor index (view value.now)) }
 {
+    let place = Spot::Command { editor, index };
     object_of(value, Field::Do, place)?;
     let action = action_of(value, place)?;
-    command_for(alloc, value, place, action)
+    command_for(alloc, value, editor, index, action)
 }

@@ -9,7 +9,7 @@ ghost use Rattle.lay_json.specs.Editors.{is_past, next_command, with_command, sc
 use crate::command::command_of;
 use crate::fault::{Field, InputFault, Spot};
 use crate::fields::{has_at_most, list_of};
-use lay_doc::{Cmd, CmdList};
+use lay_edits::{Cmd, CmdList};
 use lay_run::{ScriptList, is_read};
 use lay_units::NoMemory;
 use serde_json::Value;
@@ -32,7 +32,7 @@ struct Script {
 
 impl Model for Script {
     ghost use Rattle.std.specs.Prelude.{List};
-    ghost use Rattle.lay_doc.specs.declared.command.Cmd.{Cmd};
+    ghost use Rattle.lay_edits.specs.declared.command.Cmd.{Cmd};
     ghost use Rattle.lay_run.specs.Scripts.{IsScript};
 
     ghost Value = { List Cmd };
@@ -115,8 +115,7 @@ fn next_command(
     ensures within { IfOk result (λ c. is_past before.now own.now c ≡ false) }
 {
     let index = own.len() as u32;
-    let place = Spot::Command { editor, index };
-    let command = command_of(alloc, value, place)?;
+    let command = command_of(alloc, value, editor, index)?;
     if is_past(before, own, &command) {
         return Err(InputFault::TooManyCommands);
     }

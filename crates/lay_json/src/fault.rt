@@ -34,6 +34,7 @@ pub enum Field {
     Property,
     Value,
     Index,
+    Edits,
     Sheet,
     Tag,
     Label,
@@ -72,6 +73,7 @@ impl Field {
             Field::Property => "property",
             Field::Value => "value",
             Field::Index => "index",
+            Field::Edits => "edits",
             Field::Sheet => "sheet",
             Field::Tag => "tag",
             Field::Label => "label",
@@ -115,6 +117,8 @@ pub enum InputFault {
     TooManyEditors,
     /// I8: more than 8,192 commands, or more than 256 that read.
     TooManyCommands,
+    /// I10: the batch that this command is has more than 1,024 edits.
+    BatchTooLong { editor: u32, index: u32 },
     /// I11: the style sheet has more than 4,096 selectors. It is found where the sheet is read (lay_input).
     TooManySelectors,
     /// Memory ran out.

@@ -1,6 +1,6 @@
 //! The values of fields.
 
-ghost use Rattle.std.specs.Prelude.{◌≡◌, ◌≤◌, ◌&&◌, true, Some, Result, option_map, IfOk, IfSome, IsTrue};
+ghost use Rattle.std.specs.Prelude.{◌≡◌, ◌≤◌, ◌&&◌, true, Some, Result, length, nat_le, option_map, IfOk, IfSome, IsTrue};
 ghost use Rattle.serde_json.specs.View.{view, items_view, members_view};
 ghost use Rattle.lay_json.specs.Fields.{map_read, has_at_most, value_in, required, object_of, list_of, text_of, whole_within, number_of, required_number, number_or, required_text, has_number, is_pair, pair_within, sides_of, required_sides};
 
@@ -51,7 +51,8 @@ pub(crate) fn list_of(value: &Value, field: Field, place: Spot) -> Result<&Vec<V
 /// Whether there are at most so many items.
 #[tactic(auto, using(crate::proofs::Counts::count_of_view))]
 pub(crate) fn has_at_most(most: usize, items: &[Value]) -> bool
-    ensures { result ≡ has_at_most most (items_view items.now) }
+    ensures value { result ≡ has_at_most most (items_view items.now) }
+    ensures count { result ≡ nat_le (length items.now) most }
 {
     items.len() <= most
 }

@@ -4,8 +4,8 @@
 //! `read_run` answers the one reading that the bytes have (`specs/Reading.antt`, `specs/Laws.antt`): they
 //! are a JSON text, and its value is a run document (`specs/RunDocument.antt`). What is asked of a field,
 //! and which of its faults comes first, is said in `specs/Fields.antt`; then come a file for the face,
-//! two for nodes (`specs/NodeForms.antt`, `specs/Nodes.antt`) and two for the commands of editors
-//! (`specs/Commands.antt`, `specs/Editors.antt`).
+//! two for nodes (`specs/NodeForms.antt`, `specs/Nodes.antt`) and three for the commands of editors
+//! (`specs/EditCommands.antt`, `specs/Commands.antt`, `specs/Editors.antt`).
 //!
 //! `read_names` answers the style sheet of a run document and what its nodes are called (`specs/SheetNames.antt`), and
 //! `read_input` the run with both, of one reading of the bytes. `read_check` answers these and a report that stands beside the
@@ -15,6 +15,7 @@
 mod check;
 mod check_in;
 mod command;
+mod edit;
 mod editors;
 mod face_fields;
 mod fault;

@@ -3,6 +3,7 @@ pub use Rattle.lay_cells.proofs as lay_cells
 pub use Rattle.lay_context.proofs as lay_context
 pub use Rattle.lay_contexts.proofs as lay_contexts
 pub use Rattle.lay_doc.proofs as lay_doc
+pub use Rattle.lay_edits.proofs as lay_edits
 pub use Rattle.lay_history.proofs as lay_history
 pub use Rattle.lay_own_nodes.proofs as lay_own_nodes
 pub use Rattle.lay_positioned.proofs as lay_positioned

@@ -2,17 +2,18 @@
 -- tree; then the number of the last version and the lines of its tree. The report of a run of editors has one line
 -- more, with how much was laid out.
 -- The line of an entry names its command, with the editor and the command's index, and the reply, as
--- `edit 1 0 accepted 1`, `edit 2 3 refused E6`, `publish 1` or `latest 1 1 nomemory`. In place of `shown` a
--- reply has the version alone, as `sync 1 2 1`.
-use Rattle.std.specs.Prelude.{ℕ, List, [], ◌∷◌, ◌++◌, codes, Option, Some, None}
+-- `edit 1 0 accepted 1`, `edit 2 3 refused E6`, `publish 1` or `latest 1 1 nomemory`. Where a list of more than one edit is refused,
+-- the place of its first fault follows, as `edit 2 3 refused E6 at 12`. In place of `shown` a reply has the version alone, as
+-- `sync 1 2 1`.
+use Rattle.std.specs.Prelude.{ℕ, ◌==◌, List, [], ◌∷◌, ◌++◌, length, codes, Option, Some, None, if◌then◌else◌}
 use Rattle.std.specs.List.{flat_map}
 use Rattle.std.specs.Fmt.{decimal}
 use Rattle.lay_doc.specs.declared.edit.EditFault.{EditFault}
 use Rattle.lay_doc.specs.declared.edit.EditFault.TheVariants.{NoNode, NotElement, NotText, IdTaken, BadIndex, RootFixed, TooManyNodes, TooDeep, TextTooLong, BadProperty, BadValue}
-use Rattle.lay_doc.specs.declared.history.Entry.{Entry}
-use Rattle.lay_doc.specs.declared.history.Entry.TheVariants.{Edit, Publish, Latest, Sync}
-use Rattle.lay_doc.specs.declared.command.Reply.{Reply}
-use Rattle.lay_doc.specs.declared.command.Reply.TheVariants.{Accepted, Refused, Shown, NoMemory}
+use Rattle.lay_edits.specs.declared.history.Entry.{Entry}
+use Rattle.lay_edits.specs.declared.history.Entry.TheVariants.{Edit, Publish, Latest, Sync}
+use Rattle.lay_edits.specs.declared.command.Reply.{Reply}
+use Rattle.lay_edits.specs.declared.command.Reply.TheVariants.{Accepted, Refused, Shown, NoMemory}
 use Rattle.lay_frag.specs.Pieces.{Context}
 use Rattle.lay_frag.specs.Lines.{tree_text}
 use Rattle.lay_history.specs.Histories.{accepted, shown_version}
@@ -32,21 +33,27 @@ fault_number TextTooLong = 9
 fault_number BadProperty = 10
 fault_number BadValue = 11
 
-abbrev pub reply_text : Reply → List ℕ
-reply_text (Accepted version) = codes "accepted " ++ decimal version
-reply_text (Refused fault) = codes "refused E" ++ decimal (fault_number fault)
-reply_text (Shown version) = decimal version
-reply_text NoMemory = codes "nomemory"
+-- the place of an edit in a list of so many: one edit alone needs none
+abbrev pub place_text : (count place : ℕ) → List ℕ
+place_text count place = if count == 1 then [] else codes " at " ++ decimal place
 
--- a command of an editor, by its word, and the reply to it
-abbrev pub command_line : List ℕ → ℕ → ℕ → Reply → List ℕ
-command_line word editor index reply = word ++ decimal editor ++ codes " " ++ decimal index ++ codes " " ++ reply_text reply ++ codes "\n"
+-- the reply to a command that has so many edits; one that is shown a version has none
+abbrev pub reply_text : ℕ → Reply → List ℕ
+reply_text count (Accepted version) = codes "accepted " ++ decimal version
+reply_text count (Refused place fault) = codes "refused E" ++ decimal (fault_number fault) ++ place_text count place
+reply_text count (Shown version) = decimal version
+reply_text count NoMemory = codes "nomemory"
+
+-- a command of an editor, by its word, with so many edits, and the reply to it
+abbrev pub command_line : List ℕ → ℕ → ℕ → ℕ → Reply → List ℕ
+command_line word editor index count reply =
+    word ++ decimal editor ++ codes " " ++ decimal index ++ codes " " ++ reply_text count reply ++ codes "\n"
 
 abbrev pub entry_line : Entry → List ℕ
-entry_line (Edit editor index edit reply) = command_line (codes "edit ") editor index reply
+entry_line (Edit editor index edits reply) = command_line (codes "edit ") editor index (length edits) reply
 entry_line (Publish version) = codes "publish " ++ decimal version ++ codes "\n"
-entry_line (Latest editor index reply) = command_line (codes "latest ") editor index reply
-entry_line (Sync editor index reply) = command_line (codes "sync ") editor index reply
+entry_line (Latest editor index reply) = command_line (codes "latest ") editor index 0 reply
+entry_line (Sync editor index reply) = command_line (codes "sync ") editor index 0 reply
 
 -- the lines of a tree that is there
 abbrev pub tree_lines : Option (List Context) → List ℕ

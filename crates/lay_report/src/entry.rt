@@ -2,10 +2,11 @@
 
 ghost use Rattle.std.specs.Prelude.{◌≡◌, ◌++◌, IfOk, OnOk, OnErr, codes, string_bytes};
 ghost use Rattle.std.specs.Fmt.{decimal};
-ghost use Rattle.lay_report.specs.Report.{entry_line, command_line, reply_text, fault_number};
+ghost use Rattle.lay_report.specs.Report.{entry_line, place_text, reply_text, fault_number};
 
 use itoa::Buffer;
-use lay_doc::{EditFault, Entry, Reply};
+use lay_doc::EditFault;
+use lay_edits::{Entry, Reply};
 use lay_units::NoMemory;
 use std::alloc::Global;
 
@@ -27,20 +28,29 @@ fn line_of(alloc: Global, entry: &Entry) -> Result<String, NoMemory>
         Entry::Edit {
             editor,
             index,
-            edit: _,
+            edits,
             reply,
-        } => push_command(&mut line, "edit ", *editor, *index, *reply)?,
+        } => {
+            push_call(&mut line, "edit ", *editor, *index)?;
+            push_answer(&mut line, edits.len(), *reply)?;
+        }
         Entry::Publish { version } => push_version(&mut line, "publish ", *version)?,
         Entry::Latest {
             editor,
             index,
             reply,
-        } => push_command(&mut line, "latest ", *editor, *index, *reply)?,
+        } => {
+            push_call(&mut line, "latest ", *editor, *index)?;
+            push_answer(&mut line, 0, *reply)?;
+        }
         Entry::Sync {
             editor,
             index,
             reply,
-        } => push_command(&mut line, "sync ", *editor, *index, *reply)?,
+        } => {
+            push_call(&mut line, "sync ", *editor, *index)?;
+            push_answer(&mut line, 0, *reply)?;
+        }
     }
     Ok(line)
 }
@@ -54,36 +64,50 @@ pub(crate) fn push_version(text: &mut String, word: &str, version: u64) -> Resul
     Ok(())
 }
 
-/// Adds the line of a command of an editor and the reply to it.
-fn push_command(
-    text: &mut String,
-    word: &str,
-    editor: u32,
-    index: u32,
-    reply: Reply,
-) -> Result<(), NoMemory>
-    ensures { OnOk result (string_bytes text.new ≡ string_bytes text.old ++ command_line word.now editor index reply) }
+/// Adds the beginning of the line of a command of an editor.
+fn push_call(text: &mut String, word: &str, editor: u32, index: u32) -> Result<(), NoMemory>
+    ensures { OnOk result (string_bytes text.new ≡ string_bytes text.old ++ word.now ++ decimal editor ++ codes " " ++ decimal index ++ codes " ") }
 {
     push_number(text, word, u64::from(editor))?;
     push_number(text, " ", u64::from(index))?;
     text.push_str(" ")?;
-    push_reply(text, reply)?;
+    Ok(())
+}
+
+/// Adds the end of the line: the reply to a command with so many edits.
+pub fn push_answer(text: &mut String, count: usize, reply: Reply) -> Result<(), NoMemory>
+    ensures { OnOk result (string_bytes text.new ≡ string_bytes text.old ++ reply_text count reply ++ codes "\n") }
+{
+    push_reply(text, count, reply)?;
     text.push_str("\n")?;
     Ok(())
 }
 
-fn push_reply(text: &mut String, reply: Reply) -> Result<(), NoMemory>
-    ensures { OnOk result (string_bytes text.new ≡ string_bytes text.old ++ reply_text reply) }
+fn push_reply(text: &mut String, count: usize, reply: Reply) -> Result<(), NoMemory>
+    ensures { OnOk result (string_bytes text.new ≡ string_bytes text.old ++ reply_text count reply) }
 {
     match reply {
         Reply::Accepted(version) => push_number(text, "accepted ", version),
-        Reply::Refused(fault) => push_number(text, "refused E", fault_number(fault)),
+        Reply::Refused { place, fault } => {
+            push_number(text, "refused E", fault_number(fault))?;
+            push_place(text, count, place)
+        }
         Reply::Shown(version) => push_number(text, "", version),
         Reply::NoMemory => {
             text.push_str("nomemory")?;
             Ok(())
         }
     }
+}
+
+/// Adds the place of an edit in a list of so many, where it isn't alone.
+fn push_place(text: &mut String, count: usize, place: u32) -> Result<(), NoMemory>
+    ensures { OnOk result (string_bytes text.new ≡ string_bytes text.old ++ place_text count place) }
+{
+    if count == 1 {
+        return Ok(());
+    }
+    push_number(text, " at ", u64::from(place))
 }
 
 /// Adds a word and a number. For want of memory the text stays as it was.

@@ -13,7 +13,7 @@ mod pieces;
 mod report;
 mod writing;
 
-pub use entry::{fault_number, push_entry, push_number};
+pub use entry::{fault_number, push_answer, push_entry, push_number};
 pub use fault::ReportFault;
 pub use laws::{reports_show_entries, reports_tell_histories};
 pub use report::{write_run, write_scratch};

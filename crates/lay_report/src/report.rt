@@ -1,7 +1,7 @@
 //! The report of a run.
 
 ghost use Rattle.std.specs.Prelude.{◌≡◌, ◌≤◌, IfErr, OnErr, OnOk, length, string_bytes, if◌then◌else◌};
-ghost use Rattle.lay_history.specs.Histories.{accepted, edit_in, shown_by, shown_version};
+ghost use Rattle.lay_history.specs.Histories.{accepted, list_in, shown_by, shown_version};
 ghost use Rattle.lay_history.specs.Trees.{tree_at};
 ghost use Rattle.lay_outside.specs.Outside.{Rose, Took, TookFront};
 ghost use Rattle.lay_report.specs.Report.{entry_text, final_text, history_text, run_report, scratch_report, shown_lines, tree_lines};
@@ -11,7 +11,7 @@ use crate::buffer::hand_on;
 use crate::entry::{push_entry, push_version};
 use crate::fault::ReportFault;
 use crate::pieces::push_tree;
-use lay_doc::{Entry, Reply};
+use lay_edits::{Entry, Reply};
 use lay_frag::Tree;
 use lay_history::{PublishedTree, tree_at};
 use lay_outside::Sink;
@@ -151,7 +151,7 @@ fn shown_by(reply: Reply) -> Option<u64>
     }
 }
 
-/// How many edits a history has accepted.
+/// How many lists of edits a history has accepted.
 fn accepted(history: &[Entry]) -> u64
     ensures { result ≡ accepted history.now }
 {
@@ -165,7 +165,7 @@ fn accepted(history: &[Entry]) -> u64
 }
 
 fn is_accepted(entry: &Entry) -> bool
-    ensures { (if result then 1 else 0) ≡ length (edit_in entry.now) }
+    ensures { (if result then 1 else 0) ≡ length (list_in entry.now) }
 {
     matches!(
         entry,

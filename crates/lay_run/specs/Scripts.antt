@@ -1,12 +1,12 @@
 -- The scripts of a run: for each editor, in order, its commands. There are at most 16 scripts, with at most 8,192
 -- commands together, of which at most 256 read.
 use Rattle.std.specs.Prelude.{ℕ, ◌≡◌, ◌≤◌, List, length, sum_by, count_by, Bool, true, false}
-use Rattle.lay_doc.specs.declared.command.Cmd.{Cmd}
-use Rattle.lay_doc.specs.declared.command.Cmd.TheVariants.{Edit, Latest, Sync}
+use Rattle.lay_edits.specs.declared.command.Cmd.{Cmd}
+use Rattle.lay_edits.specs.declared.command.Cmd.TheVariants.{Edits, Latest, Sync}
 
 -- whether a command is to be shown a version
 abbrev pub is_read : Cmd → Bool
-is_read (Edit edit) = false
+is_read (Edits edits) = false
 is_read Latest = true
 is_read Sync = true
 

@@ -1,14 +1,12 @@
 use Rattle.std.proofs.Common.{◌≡◌, ◌≤◌, ◌-◌, ◌++◌, length}
 use Rattle.std.specs.List.{filter, range_with_len}
-use Rattle.lay_run.specs.Scripts.{reads_of}
 use Rattle.lay_generator.specs.Draws.{state_after}
 use Rattle.lay_generator.specs.Commands.{is_of, paddings, sections_of}
 use Rattle.lay_generator.proofs.commands.script.Given as goal
 
 abbrev pub invariant-loop-section : goal.invariant-loop-section
 invariant-loop-section l = record {
-  commands : l.commands ++ paddings (filter (is_of l.editor) (range_with_len l.section (l.size - l.section))) l.draws ≡ paddings (sections_of l.size l.editor) l.fn.draws;
+  edits : l.batches ++ paddings (filter (is_of l.editor) (range_with_len l.section (l.size - l.section))) l.draws ≡ paddings (sections_of l.size l.editor) l.fn.draws;
   state : state_after (length (filter (is_of l.editor) (range_with_len l.section (l.size - l.section)))) l.draws ≡ state_after (length (sections_of l.size l.editor)) l.fn.draws;
-  few : length l.commands ≤ l.section;
-  reads : reads_of l.commands ≡ 0;
+  few : length l.batches ≤ l.section;
 }

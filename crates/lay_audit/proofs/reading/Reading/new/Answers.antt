@@ -12,4 +12,4 @@ returns-clause-read c = λ face.
 pub returns-clause-steady : goal.returns-clause-steady
 returns-clause-steady c =
     let few = c.report_fits.ensures in let none = (c.in_ok-present.ensures {u = tt}).count in
-    record { room = omega (arith, few); few = omega (arith, none); editors = (c.in_ok-present.ensures {u = tt}).editors }
+    record { lists = c.lists_fit.ensures; room = omega (arith, few); few = omega (arith, none); editors = (c.in_ok-present.ensures {u = tt}).editors }

@@ -1,7 +1,9 @@
-use Rattle.std.proofs.Common.{◌≡◌, ◌∙◌, None, ap, subst, sym}
+use Rattle.std.proofs.Common.{◌≡◌, ◌∙◌, All, List, None, ap, subst, sym}
 use Rattle.lay_layout.specs.context.Solves.{medium_of}
 use Rattle.lay_layout.specs.doc.Document.{Document, IsDocument}
-use Rattle.lay_layout.specs.doc.Edits.{fault}
+use Rattle.lay_layout.specs.doc.Laws.{PutsNode}
+use Rattle.lay_layout.specs.doc.declared.edit.Edit.{Edit}
+use Rattle.lay_layout.specs.edits.EditLists.{first}
 use Rattle.lay_document_cells.specs.State.{AreStyledLists, State}
 use Rattle.lay_document_cells.proofs.Answered.{err_any, ok_none, own_nodes}
 use Rattle.lay_document_cells.proofs.KeptSteps.{state_of}
@@ -20,20 +22,21 @@ pub invariant_of-self-2 : goal.invariant_of-self-2
 invariant_of-self-2 c =
     let lists = subst (λ (x : Document). AreStyledLists x c.in_ok-later.later.table.styles c.in_ok-later.later.table.lists) (sym c.become_edited.ensures) c.in_ok-later.ensures.lists in
     edit_kept c.self.inside.doc c.self.inside.face.value c.self.inside.cells c.self.inside.laid c.self.inside.medium c.self.inside.table c.self.invariant
-    c.args.edit.now c.become_edited.new.self (c.become_edited.ensures ∙ c.in_ok-doc.ensures.edited)
+    c.args.edits.now c.become_edited.new.self (c.become_edited.ensures ∙ c.in_ok-doc.ensures.edited)
     c.in_ok-later.later.table lists c.follow_lists.new.cells c.in_ok-follow_lists.ensures.ok
-    c.edits_keep_cells.ensures c.touched_contexts_are_listed.ensures c.puts_node.ensures
-    (subst (λ (x : State). fault x.document c.args.edit.now ≡ None) (sym c.self.view_is) c.requires.no_fault) c.sound.ensures
+    c.lists_keep_cells.ensures c.touched_contexts_are_listed.ensures
+    (subst (λ (es : List Edit). All PutsNode es) c.as_slice.ensures.edits c.put_nodes.ensures)
+    (rw c.in_ok-doc.was at c.edited.ensures.answer) c.sound.ensures
     c.medium_of-medium.result
     (c.medium_of-medium.ensures
-    ∙ (ap (medium_of c.in_ok-doc.doc) c.in_ok-clone.ensures.cases ∙ ap (λ (x : Document). medium_of x c.self.inside.face.value) (sym c.become_edited.ensures)))
+    ∙ (ap (medium_of c.in_ok-doc.doc) c.in_ok-shared.ensures ∙ ap (λ (x : Document). medium_of x c.self.inside.face.value) (sym c.become_edited.ensures)))
     c.in_ok-follow_lists.ensures.counted c.in_ok-follow_lists.ensures.drawn
 
 pub returns-clause-ok : goal.returns-clause-ok
 returns-clause-ok c =
     let lists = subst (λ (x : Document). AreStyledLists x c.in_ok-later.later.table.styles c.in_ok-later.later.table.lists) (sym c.become_edited.ensures) c.in_ok-later.ensures.lists in
     edited_to c.self.inside.doc c.self.inside.face.value c.self.inside.cells c.self.inside.laid c.self.inside.medium c.self.inside.table c.self.invariant
-    c.args.edit.now c.become_edited.new.self (c.become_edited.ensures ∙ c.in_ok-doc.ensures.edited)
+    c.args.edits.now c.become_edited.new.self (c.become_edited.ensures ∙ c.in_ok-doc.ensures.edited)
     c.in_ok-later.later.table lists c.follow_lists.new.cells c.in_ok-follow_lists.ensures.ok
     c.args.self.now c.self.view_is
 
@@ -48,5 +51,4 @@ returns-in_err-follow_lists-clause-err c =
 
 pub become_edited-requires-clause-no_fault : goal.become_edited-requires-clause-no_fault
 become_edited-requires-clause-no_fault c =
-    subst (λ (d : Document). fault d c.args.edit.now ≡ None) (sym c.edited.ensures.same)
-    (subst (λ (x : State). fault x.document c.args.edit.now ≡ None) (sym c.self.view_is) c.requires.no_fault)
+    subst (λ (d : Document). first d c.args.edits.now ≡ None) (sym c.edited.ensures.same) (rw c.in_ok-doc.was at c.edited.ensures.answer)
