@@ -114,7 +114,7 @@ impl Doc {
         self.height
     }
 
-    /// The number of nodes, from 1 to 16,384.
+    /// The number of nodes, from 1 to 65,536.
     pub fn len(&self) -> usize
         ensures { result ≡ length self.now.nodes }
     {

@@ -79,7 +79,7 @@ pub enum EditFault {
     BadIndex,
     /// E6: the root can't be removed.
     RootFixed,
-    /// E7: there would be more than 16,384 nodes.
+    /// E7: there would be more than 65,536 nodes.
     TooManyNodes,
     /// E8: the node would have a depth over 128.
     TooDeep,

@@ -57,7 +57,7 @@ impl Gathered {
         }
     }
 
-    /// The number of nodes, from 1 to 16,384.
+    /// The number of nodes, from 1 to 65,536.
     pub fn len(&self) -> usize
         ensures value { result ≡ length self.now.nodes }
         ensures few { result ≤ most_nodes }

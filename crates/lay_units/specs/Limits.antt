@@ -3,7 +3,7 @@
 use Rattle.std.specs.Prelude.{ℕ, ◌^◌}
 
 abbrev pub most_nodes : ℕ
-most_nodes = 2 ^ 14
+most_nodes = 2 ^ 16
 
 abbrev pub most_depth : ℕ
 most_depth = 2 ^ 7
