@@ -1000,7 +1000,7 @@
     for (const kid of item.kids) if (!widths || !/^table-column/.test(displayOf(kid))) write(job, kid, item.id, making.inherited);
   }
   function write(job, item, parent, inherited) {
-    if (job.nodes.length > 16380) { warn(job, 'more than 16,384 nodes: the rest is left out', item.element); return; }
+    if (job.nodes.length > 65532) { warn(job, 'more than 65,536 nodes: the rest is left out', item.element); return; }
     if (item.kind === 'text') { writeText(job, item, parent); return; }
     if (item.kind === 'break') { writeBreak(job, item, parent); return; }
     if (item.kind === 'shut' || item.kind === 'marker') {

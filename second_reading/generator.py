@@ -8,7 +8,7 @@ The draws are those of a small generator of numbers, settled by the seed.
 import json
 import sys
 
-from batches import READS_BATCHES, edits_of
+from batches import edits_of
 from report import report
 
 EDITORS = 4
@@ -44,7 +44,7 @@ def section(draws, number):
 
 
 def generated_run(size, seed):
-    """The run document: each editor sets a padding in every fourth section, in batches where these are read, and then syncs."""
+    """The run document: each editor sets a padding in every fourth section, in batches, and then syncs."""
     draws = Draws(seed)
     nodes = [{'id': 1, 'parent': 0, 'kind': 'element', 'style': {'display': 'block'}}]
     for number in range(size):
@@ -53,7 +53,7 @@ def generated_run(size, seed):
     for editor in range(EDITORS):
         edits = [{'do': 'set', 'node': 4 + 4 * number, 'property': 'padding-left', 'value': draws.pixels(0, 30)}
                  for number in range(editor, size, EDITORS)]
-        editors.append((batches_of(edits) if READS_BATCHES else edits) + [{'do': 'sync'}])
+        editors.append(batches_of(edits) + [{'do': 'sync'}])
     return {'viewport': [800, 600], 'nodes': nodes, 'editors': editors}
 
 

@@ -3,13 +3,13 @@
 
 usage: run_documents.py COUNT SEED      prints the documents 0 .. COUNT - 1 of a seed, one a line
 
-Several editors change the same few nodes, so that whether an edit has a fault depends on the order of the history. With
-`LAY_BATCHES=1` in the environment some commands are batches.
+Several editors change the same few nodes, so that whether an edit has a fault depends on the order of the history. Some
+commands are batches.
 """
 import random
 
 from atomic_documents import atomic_document
-from batches import READS_BATCHES, edits_of, refusal
+from batches import edits_of, refusal
 from documents import document, print_documents
 from edits import Document
 from positioned_documents import positioned_document
@@ -21,7 +21,7 @@ DRAWS = (document, text_document, atomic_document, table_document, table_documen
 EDITORS = [0, 1, 1, 2, 2, 3, 4, 16]
 COMMANDS = [0, 1, 2, 3, 4, 5, 6, 8]
 EDITS = ['set'] * 6 + ['clear'] * 2 + ['text'] * 2 + ['insert'] * 3 + ['remove'] * 2
-BATCHES = ['batch'] * 6 if READS_BATCHES else []
+BATCHES = ['batch'] * 6
 EDITS_OF_A_BATCH = [1, 2, 2, 3, 3, 4, 6, 12]
 BAD_DECLARATIONS = [('colour', 'red'), ('Width', '1px'), ('width', '10'), ('width', '-1px'), ('display', 'flex'),
                     ('margin-top', '1 px'), ('line-height', '-1'), ('float', ''), ('', ''), ('font-size', '1.px')]

@@ -1,11 +1,7 @@
-"""Batches of edits: what a report may say of them, and the faults of their forms.
-
-LAY_BATCHES=1 python3 -m unittest test_batches       all of it; without the variable what doesn't depend on the reader
-"""
+"""Batches of edits: what a report may say of them, and the faults of their forms."""
 import json
 import unittest
 
-from batches import READS_BATCHES
 from edits import Document
 from generator import summary
 from histories import first_fault
@@ -89,7 +85,6 @@ class Lists(unittest.TestCase):
         self.assertEqual(('E6', 0), document.take([{'do': 'remove', 'node': 1}, set_to(9, 'width', '1px')]))
 
 
-@unittest.skipUnless(READS_BATCHES, 'LAY_BATCHES=1 in the environment')
 class Forms(unittest.TestCase):
     def refusal_of(self, *commands):
         return first_fault_of_bytes(json.dumps(run(*commands)).encode())
