@@ -44,7 +44,7 @@ pub(crate) fn computed<R: Threads + Sync, G: Gate + Sync>(
         Batch::None => Ok(Batch::None),
         Batch::Claims(claims) => match run_batch(rt, alloc, claims, workers, gate) {
             Ok(outcomes) => Ok(Batch::Outcomes(outcomes)),
-            Err((_, claims)) => Ok(Batch::Claims(claims)),
+            Err((NoMemory, claims)) => Ok(Batch::Claims(claims)),
         },
         Batch::Outcomes(outcomes) => completed(alloc, outcomes),
     }
@@ -141,8 +141,9 @@ pub(crate) fn lay<R: Threads + Sync, G: Gate + Sync>(
         if let Some(idle) = core.claim_some(limit, &mut list)? {
             return Ok(Some(shown::idle(alloc, &idle)?));
         }
-        let Ok(outcomes) = run_batch(rt, alloc, list, workers, gate) else {
-            return Err(NoMemory);
+        let outcomes = match run_batch(rt, alloc, list, workers, gate) {
+            Ok(outcomes) => outcomes,
+            Err(_) => return Err(NoMemory),
         };
         let _tally = core.finish_all(outcomes);
     }
