@@ -3,3 +3,4 @@ pub mod Nodes
 pub mod Commands
 pub mod Generated
 pub mod Summary
+pub mod Laws
