@@ -8,7 +8,7 @@ use std::alloc::Global;
 
 /// What came of a case.
 #[derive(Drop)]
-pub(crate) struct Found {
+pub(crate) struct Comparison {
     /// The first call that has another answer than its line says, with that answer.
     pub other: Option<String>,
     /// The calls that lacked memory, each behind a comma.
@@ -16,7 +16,7 @@ pub(crate) struct Found {
 }
 
 /// What comes of a case.
-pub(crate) fn found(alloc: Global, core: &mut OneCore, lines: &str) -> Result<Found> {
+pub(crate) fn compared(alloc: Global, core: &mut OneCore, lines: &str) -> Result<Comparison> {
     let mut lacking = String::new(alloc);
     for line in lines.lines() {
         let (line, between) = call_and_between(line);
@@ -26,10 +26,10 @@ pub(crate) fn found(alloc: Global, core: &mut OneCore, lines: &str) -> Result<Fo
             other = answer_again(alloc, core, line, between)?;
         }
         if other.is_some() {
-            return Ok(Found { other, lacking });
+            return Ok(Comparison { other, lacking });
         }
     }
-    Ok(Found {
+    Ok(Comparison {
         other: None,
         lacking,
     })

@@ -18,7 +18,7 @@ mod trees;
 mod words;
 
 use crate::calls::OneCore;
-use crate::case::{answers, found};
+use crate::case::{Comparison, answers, compared};
 use anyhow::{Context, Result, bail};
 use lay_core::Core;
 use lay_json::read_run;
@@ -77,10 +77,10 @@ fn go_through(
             )?;
             continue;
         }
-        let found = found(rt.alloc(), &mut subject, lines)?;
-        match found.other {
-            None => println!(rt; "{name}: {case}: ok{}", found.lacking)?,
-            Some(other) => println!(rt; "{name}: {case}: NOT SO, but {other}{}", found.lacking)?,
+        let Comparison { other, lacking } = compared(rt.alloc(), &mut subject, lines)?;
+        match other {
+            None => println!(rt; "{name}: {case}: ok{lacking}")?,
+            Some(other) => println!(rt; "{name}: {case}: NOT SO, but {other}{lacking}")?,
         }
     }
     Ok(())

@@ -11,7 +11,7 @@ use std::time::Clock;
 
 /// What came of a case.
 #[derive(Drop)]
-pub(crate) struct Found {
+pub(crate) struct Comparison {
     /// The first call that has another answer than its line says, with that answer.
     pub other: Option<String>,
     /// The calls that lacked memory, each behind a comma.
@@ -19,12 +19,12 @@ pub(crate) struct Found {
 }
 
 /// What comes of a case.
-pub(crate) fn found<R: Threads + Wait + Clock + Sync>(
+pub(crate) fn compared<R: Threads + Wait + Clock + Sync>(
     rt: &R,
     alloc: Global,
     core: &mut OneCore,
     lines: &str,
-) -> Result<Found> {
+) -> Result<Comparison> {
     let mut lacking = String::new(alloc);
     for line in lines.lines() {
         let (line, between) = line.split_once(" | ").unwrap_or((line, ""));
@@ -34,10 +34,10 @@ pub(crate) fn found<R: Threads + Wait + Clock + Sync>(
             other = answer_again(rt, alloc, core, line, between)?;
         }
         if other.is_some() {
-            return Ok(Found { other, lacking });
+            return Ok(Comparison { other, lacking });
         }
     }
-    Ok(Found {
+    Ok(Comparison {
         other: None,
         lacking,
     })

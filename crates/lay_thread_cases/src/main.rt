@@ -15,7 +15,7 @@ mod shown;
 mod span;
 
 use crate::calls::OneCore;
-use crate::case::found;
+use crate::case::{Comparison, compared};
 use anyhow::{Context, Result, bail};
 use lay_core::Core;
 use lay_json::read_run;
@@ -71,10 +71,10 @@ fn go_through<R: Files + Print + AllocGlobal + Threads + Wait + Clock + Sync>(
         let bytes = document(rt, folder, name)?;
         let core = core(rt.alloc(), name, &bytes)?;
         let mut subject = OneCore::new(core, bytes);
-        let found = found(rt, rt.alloc(), &mut subject, lines)?;
-        match found.other {
-            None => println!(rt; "{name}: {case}: ok{}", found.lacking)?,
-            Some(other) => println!(rt; "{name}: {case}: NOT SO, but {other}{}", found.lacking)?,
+        let Comparison { other, lacking } = compared(rt, rt.alloc(), &mut subject, lines)?;
+        match other {
+            None => println!(rt; "{name}: {case}: ok{lacking}")?,
+            Some(other) => println!(rt; "{name}: {case}: NOT SO, but {other}{lacking}")?,
         }
     }
     Ok(())
