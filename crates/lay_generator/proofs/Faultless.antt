@@ -4,12 +4,11 @@ use Rattle.std.specs.List.{repeat}
 use Rattle.std.proofs.lemmas.Nat.{mod_below}
 use Rattle.std.proofs.lemmas.List.{length-append}
 use Rattle.std.proofs.lemmas.List.Elements.{All-weaker}
-use Rattle.lay_doc.specs.declared.node.Node.{Node}
 use Rattle.lay_doc.specs.declared.node.NodeId.{NodeId}
 use Rattle.lay_doc.specs.NewNodes.{NewNodeValue}
 use Rattle.lay_doc.specs.Document.{Document, root_document}
 use Rattle.lay_generator.specs.Draws.{draw, next, state_after}
-use Rattle.lay_generator.specs.Nodes.{block, container, float_box, id, more_count, more_words, root, section_end, section_nodes, sections, text, word, words}
+use Rattle.lay_generator.specs.Nodes.{block, container, float_box, id, more_count, more_words, root, section_end, section_nodes, sections, text, word}
 use Rattle.lay_generator.specs.Generated.{with_node, with_nodes}
 use Rattle.lay_generator.specs.Laws.{AreFaultless, GeneratedNodesFit}
 use Rattle.lay_generator.proofs.Placed.{Fits, IsParent, fits_more, no_fault, parent_more, parent_stays, put}

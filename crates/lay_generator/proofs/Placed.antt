@@ -1,6 +1,6 @@
 -- A node that is put into a document as the last child of a parent: it has no fault where the parent is an element and not deep, the id is
 -- new, and nodes and texts are few. What was so of the nodes is so of them with it.
-use Rattle.std.proofs.Common.{◌≡◌, ℕ, zero, suc, ◌+◌, ◌-◌, ◌==◌, ◌||◌, ◌<◌, ◌≤◌, true, false, not, List, [], ◌∷◌, map, take, drop, length, get_or, is_some, nat_lt, nat_le, refl, sym, ap, ◌∙◌, subst, arith, Option, Some, None, inl, inr}
+use Rattle.std.proofs.Common.{◌≡◌, ℕ, ◌+◌, ◌-◌, ◌==◌, ◌||◌, ◌<◌, ◌≤◌, true, false, not, List, [], ◌∷◌, take, drop, length, get_or, is_some, nat_lt, nat_le, refl, sym, ap, ◌∙◌, arith, Option, Some, None, inl, inr}
 use Rattle.std.specs.List.{All, insert}
 use Rattle.std.proofs.lemmas.Bool.{cases_eq, cases_lt, le-ltb, lt-leb, ne_eqb, not_from_true}
 use Rattle.std.proofs.lemmas.List.{length-drop}
@@ -13,7 +13,7 @@ use Rattle.lay_doc.specs.declared.node.Node.{Node}
 use Rattle.lay_doc.specs.declared.node.NodeId.{NodeId}
 use Rattle.lay_doc.specs.NewNodes.{NewNodeValue, is_element}
 use Rattle.lay_doc.specs.Tree.{child_count, slot_from, slot_of}
-use Rattle.lay_doc.specs.Document.{Document, becomes, depths_of, ids_of, inserted, is_element_at, is_too_long, moved, parents_of, text_size}
+use Rattle.lay_doc.specs.Document.{Document, becomes, depths_of, ids_of, inserted, is_element_at, moved, parents_of, text_size}
 use Rattle.lay_doc.specs.Edits.{insert_fault, last_index}
 use Rattle.lay_doc.proofs.Inserted.{ids_inserted, text_size_inserted}
 use Rattle.lay_doc.proofs.NodeColumns.{length-column, length-ids, length-parents}
