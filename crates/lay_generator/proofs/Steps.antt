@@ -74,7 +74,7 @@ pub states_more : (a b state : ℕ) → state_after (a + b) state ≡ state_afte
 states_more zero b state = let e : 0 + b ≡ b = omega arith in rw e refl
 states_more (suc a) b state = let e : suc a + b ≡ suc (a + b) = omega arith in rw e (states_more a b (next state))
 
-by_bool : {P : Type 0} (b : Bool) → (b ≡ true → P) → (b ≡ false → P) → P
+pub by_bool : {P : Type 0} (b : Bool) → (b ≡ true → P) → (b ≡ false → P) → P
 by_bool true t f = t refl
 by_bool false t f = f refl
 

@@ -4,3 +4,4 @@ pub mod Commands
 pub mod Batches
 pub mod Generated
 pub mod Summary
+pub mod Laws

@@ -18,8 +18,8 @@ use lay_units::NoMemory;
 use std::alloc::Global;
 use std::sync::Arc;
 
-/// The run of a size, 1 to 1,000, and a seed below 2^31. NoMemory is also the answer where a node would have a fault in the
-/// document, which none has; that isn't proved.
+/// The run of a size, 1 to 1,000, and a seed below 2^31. NoMemory would also be the answer where a node has a fault in the document; none
+/// has one (`generated_nodes_fit`).
 pub fn generated_run(alloc: Global, size: u32, seed: u32) -> Result<RunDoc, NoMemory>
     requires size { size ≤ 1000 }
     requires seed { seed < 2 ^ 31 }

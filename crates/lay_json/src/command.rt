@@ -1,6 +1,6 @@
 //! One command of an editor.
 
-ghost use Rattle.std.specs.Prelude.{◌≡◌, ◌≤◌, ◌<◌, ◌+◌, length, IfOk};
+ghost use Rattle.std.specs.Prelude.{◌≡◌, ◌≤◌, ◌<◌, ◌+◌, length, IfOk, OnOk};
 ghost use Rattle.serde_json.specs.View.{view, items_view};
 ghost use Rattle.lay_json.specs.Fields.{Changes, Gives, map_read};
 ghost use Rattle.lay_json.specs.Commands.{action_named, action_of, batch_of, command_for, command_of, edits_from, first_edit, with_edit};
@@ -62,7 +62,8 @@ fn first_edit(values: &[Value], place: Spot) -> Result<(&Value, &[Value]), Input
 /// Reads the next edit of a batch and adds it.
 fn add_edit(alloc: Global, edits: &mut Edits, value: &Value, place: Spot) -> Result<(), InputFault>
     requires { length edits.old < 1024 }
-    ensures { Changes result edits.new (with_edit place edits.old (view value.now)) }
+    ensures value { Changes result edits.new (with_edit place edits.old (view value.now)) }
+    ensures count { OnOk result (length edits.new ≡ length edits.old + 1) }
 {
     let edit = edit_of(alloc, value, place)?;
     edits.push(edit)?;
