@@ -5,6 +5,7 @@ mod CountedCells
 mod EditSteps
 mod FlagSteps
 mod KeptSteps
+mod ListFaults
 mod ListedContexts
 mod ListsOfOne
 mod OneEdits
