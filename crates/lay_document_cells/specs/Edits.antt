@@ -6,11 +6,11 @@ use Rattle.lay_layout.specs.doc.declared.edit.Edit.{Edit}
 use Rattle.lay_layout.specs.edits.EditLists.{after_all}
 use Rattle.lay_layout.specs.cells.Marks.{Marks}
 use Rattle.lay_layout.specs.cells.Reshapes.{Reshapes}
-use Rattle.lay_cell_table.specs.shape.declared.cell_key.CellKey.{CellKey}
-use Rattle.lay_cell_table.specs.shape.Shapes.{shape_of}
-use Rattle.lay_cell_table.specs.cell_laws.SoundCells.{CellState}
-use Rattle.lay_cell_table.specs.changes.ContextFlags.{ContextLists}
-use Rattle.lay_cell_table.specs.changes.TouchedKeys.{AreTouchedKeys}
+use Rattle.lay_list_steps.specs.shape.declared.cell_key.CellKey.{CellKey}
+use Rattle.lay_list_steps.specs.shape.Shapes.{shape_of}
+use Rattle.lay_list_steps.specs.cell_laws.SoundCells.{CellState}
+use Rattle.lay_list_steps.specs.changes.ContextFlags.{ContextLists}
+use Rattle.lay_list_steps.specs.changes.TouchedKeys.{AreTouchedKeys}
 use Rattle.lay_document_cells.specs.State.{AreListsOf, State}
 
 -- the cells s of the contexts before an edit became t, which are cells of those after it

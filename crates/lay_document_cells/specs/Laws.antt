@@ -7,8 +7,8 @@ use Rattle.lay_layout.specs.edits.EditLists.{after_all}
 use Rattle.lay_layout.specs.cells.Reads.{AllClean}
 use Rattle.lay_layout.specs.cell_progress.Grants.{laid_of_all}
 use Rattle.lay_layout.specs.cell_progress.Progress.{GivesNoneBack, KeepsRows}
-use Rattle.lay_cell_table.specs.shape.declared.cell_key.CellKey.{CellKey}
-use Rattle.lay_cell_table.specs.cell_work.Claims.{Claim}
+use Rattle.lay_list_steps.specs.shape.declared.cell_key.CellKey.{CellKey}
+use Rattle.lay_list_steps.specs.cell_work.Claims.{Claim}
 use Rattle.lay_claims.specs.declared.outcome.Outcome.{Outcome}
 use Rattle.lay_document_cells.specs.Batches.{ClaimsSome}
 use Rattle.lay_document_cells.specs.Claims.{AnswersClaim, AnswersNext}

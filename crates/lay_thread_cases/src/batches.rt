@@ -3,12 +3,12 @@
 ghost use Rattle.std.specs.Prelude.{◌<◌, ◌≤◌, IfSome};
 
 use crate::shown;
-use lay_core::Core;
+use lay_drive::cell_work::Claim;
+use lay_drive::claim_lists::{ClaimList, Outcome, Outcomes};
+use lay_drive::editing_core::Core;
+use lay_drive::pool::{Hand, hands, run_batch};
 use lay_layout::units::NoMemory;
 use lay_outside::Gate;
-use lay_pool::cell_work::Claim;
-use lay_pool::claim_lists::{ClaimList, Outcome, Outcomes};
-use lay_pool::{Hand, hands, run_batch};
 use std::alloc::Global;
 use std::thread;
 use std::thread::Threads;

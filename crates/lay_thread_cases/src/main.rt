@@ -17,7 +17,7 @@ mod span;
 use crate::calls::OneCore;
 use crate::case::{Comparison, compared};
 use anyhow::{Context, Result, bail};
-use lay_core::Core;
+use lay_drive::editing_core::Core;
 use lay_json::read_run;
 use std::alloc::Global;
 use std::rt::{Env, Files};
