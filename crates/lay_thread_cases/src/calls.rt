@@ -22,7 +22,7 @@ use crate::batches::{Batch, computed, joined, lay, number, shared};
 use crate::gates::{CaseGate, gate};
 use crate::shown;
 use crate::span::Span;
-use lay_drive::claim_lists::{ClaimList, ClaimList, Outcome};
+use lay_drive::claim_lists::{ClaimList, Outcome};
 use lay_drive::drive;
 use lay_drive::editing_core::{Core, Publish};
 use lay_json::read_run;
