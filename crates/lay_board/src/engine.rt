@@ -33,8 +33,8 @@ impl Model for Engine {
 }
 
 impl Engine {
-    /// A call of the pass's editor that edits the document by a list of edits, in one turn of the lock. The reply is Accepted with the new version, Refused
-    /// with the first fault of the list and its place, or NoMemory.
+    /// A call of the pass's editor that edits the document by a list of edits, in one turn of the lock. The reply is Accepted with the new
+    /// version, Refused with the first fault of the list and its place, or NoMemory.
     pub fn edit<R: Wait>(&self, rt: &R, pass: Pass, edits: Edits) -> (Reply, Pass)
         requires of { pass.table ≡ self.now.table }
         requires left { 0 < pass.knows.left }

@@ -1,6 +1,6 @@
--- What a list of edits of a document does to its cells. They take the shape of the contexts after it (CSS 2.2, 9.4.1), where cells of new contexts
--- are made and those of contexts that are gone are dropped; and then those of the contexts that the list touches are marked, with all that
--- depend on them.
+-- What a list of edits of a document does to its cells. They take the shape of the contexts after it (CSS 2.2, 9.4.1), where cells of new
+-- contexts are made and those of contexts that are gone are dropped; and then those of the contexts that the list touches are marked, with
+-- all that depend on them.
 use Rattle.std.specs.Prelude.{◌≡◌, List, []}
 use Rattle.lay_layout.specs.doc.declared.edit.Edit.{Edit}
 use Rattle.lay_layout.specs.edits.EditLists.{after_all}
