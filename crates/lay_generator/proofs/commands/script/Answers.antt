@@ -1,4 +1,6 @@
-use Rattle.std.proofs.Common.{◌≡◌, ◌∙◌, ◌+◌, ◌-◌, ◌<◌, sym, arith}
+use Rattle.std.proofs.Common.{◌≡◌, ◌∙◌, ◌+◌, ◌-◌, ◌<◌, ◌≤◌, ◌∷◌, [], length, sym, ap, arith, length-append}
+use Rattle.lay_edits.specs.declared.command.Cmd.TheVariants.{Sync}
+use Rattle.lay_generator.proofs.Batching.{few_batches}
 use Rattle.lay_generator.proofs.Steps.{edits_step, state_after_step, few_more}
 use Rattle.lay_generator.proofs.commands.script.Goals as goal
 
@@ -15,3 +17,10 @@ loop-section-preserved c =
       state = sym (state_after_step c.args.editor k n state some) ∙ c.loop-section.invariant.state;
       few = few_more c.args.editor k state c.loop-section.batches c.loop-section.invariant.few;
     })
+
+pub returns-clause-few : goal.returns-clause-few
+returns-clause-few c =
+    let edits = c.loop-section.batches in
+    let few : length edits ≤ 1000 = omega (arith, c.loop-section.invariant.few, c.loop-section-test.false, c.loop-section.auto.section-end, c.requires.size) in
+    let sum : length c.push.new.self ≡ length c.in_ok-commands.commands + 1 = ap length c.in_ok-push.ensures.ok ∙ length-append c.in_ok-commands.commands (Sync ∷ []) in
+    omega (arith, few_batches edits few, sum, ap length c.in_ok-commands.ensures)
