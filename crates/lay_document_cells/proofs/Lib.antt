@@ -7,7 +7,6 @@ mod FlagSteps
 mod KeptSteps
 mod ListFaults
 mod ListedContexts
-mod ListsOfOne
 mod OneEdits
 mod Passing
 mod Pigeonhole
