@@ -26,7 +26,7 @@ use crate::keys::{counts, key, shown_key};
 use crate::trees::{contexts, is_as_scratch};
 use crate::words::{first, lacks, number};
 use lay_core::{Core, Publish};
-use lay_layout::edits::{Edits, Reply};
+use lay_layout::edit_lists::{Edits, Reply};
 use lay_layout::units::NoMemory;
 use std::alloc::Global;
 

@@ -2,7 +2,7 @@
 use Rattle.std.proofs.Common.{◌≡◌, inl, ℕ, ◌≤◌, List, All, arith, ap, sym, subst, ◌∙◌, None}
 use Rattle.lay_layout.specs.doc.Document.{Document}
 use Rattle.lay_layout.specs.doc.declared.edit.Edit.{Edit}
-use Rattle.lay_layout.specs.edits.EditLists.{after_all, first}
+use Rattle.lay_layout.specs.edit_lists.EditLists.{after_all, first}
 use Rattle.lay_layout.specs.doc.Laws.{PutsNode}
 use Rattle.lay_layout.specs.face.FaceValue.{FaceValue}
 use Rattle.lay_layout.specs.context.Medium.{Medium}

@@ -2,7 +2,7 @@
 use Rattle.std.proofs.Common.{◌≡◌, List, [], ◌∷◌, None, Result, Ok, Err, IfErr, refl}
 use Rattle.lay_layout.specs.doc.declared.edit.Edit.{Edit}
 use Rattle.lay_layout.specs.doc.Document.{Document}
-use Rattle.lay_layout.specs.edits.EditLists.{fault_at, first}
+use Rattle.lay_layout.specs.edit_lists.EditLists.{fault_at, first}
 use Rattle.lay_layout.proofs.lay_edits.Lists.{none_first}
 
 pub none_at_first : (d : Document) (edits : List Edit) → first d edits ≡ None → fault_at d edits 0 ≡ None

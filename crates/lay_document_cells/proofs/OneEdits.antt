@@ -7,7 +7,7 @@ use Rattle.lay_layout.specs.contexts.FormattingLaws.{OneFormattingContextList}
 use Rattle.lay_layout.specs.contexts.Laws.{OneContextList}
 use Rattle.lay_layout.specs.doc.declared.edit.Edit.{Edit}
 use Rattle.lay_layout.specs.doc.Document.{Document, IsDocument, declarations_of, parents_of}
-use Rattle.lay_layout.specs.edits.EditLists.{after_all}
+use Rattle.lay_layout.specs.edit_lists.EditLists.{after_all}
 use Rattle.lay_layout.specs.doc.Laws.{OneStyleColumn}
 use Rattle.lay_layout.specs.style.declared.style.Style.{Style}
 use Rattle.lay_layout.specs.cells.Laws.{OneMarking, OneReshape}

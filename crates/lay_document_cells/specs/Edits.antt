@@ -3,7 +3,7 @@
 -- all that depend on them.
 use Rattle.std.specs.Prelude.{◌≡◌, List, []}
 use Rattle.lay_layout.specs.doc.declared.edit.Edit.{Edit}
-use Rattle.lay_layout.specs.edits.EditLists.{after_all}
+use Rattle.lay_layout.specs.edit_lists.EditLists.{after_all}
 use Rattle.lay_layout.specs.cells.Marks.{Marks}
 use Rattle.lay_layout.specs.cells.Reshapes.{Reshapes}
 use Rattle.lay_list_steps.specs.shape.declared.cell_key.CellKey.{CellKey}

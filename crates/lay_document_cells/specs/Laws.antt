@@ -3,7 +3,7 @@ use Rattle.std.specs.Prelude.{ℕ, ◌≡◌, ◌+◌, ◌*◌, ◌≤◌, List,
 use Rattle.lay_layout.specs.units.declared.memory.NoMemory.{NoMemory}
 use Rattle.lay_layout.specs.doc.declared.edit.Edit.{Edit}
 use Rattle.lay_layout.specs.doc.Document.{IsDocument}
-use Rattle.lay_layout.specs.edits.EditLists.{after_all}
+use Rattle.lay_layout.specs.edit_lists.EditLists.{after_all}
 use Rattle.lay_layout.specs.cells.Reads.{AllClean}
 use Rattle.lay_layout.specs.cell_progress.Grants.{laid_of_all}
 use Rattle.lay_layout.specs.cell_progress.Progress.{GivesNoneBack, KeepsRows}

@@ -11,7 +11,7 @@ use Rattle.lay_layout.proofs.lay_doc.EditedDocuments.{edits_leave_documents}
 use Rattle.lay_layout.proofs.lay_doc.NodeColumns.{length-parents}
 use Rattle.lay_layout.specs.contexts.ContextList.{AreContextsOf}
 use Rattle.lay_layout.specs.contexts.Contexts.{Context}
-use Rattle.lay_layout.specs.edits.EditLists.{after_all, first}
+use Rattle.lay_layout.specs.edit_lists.EditLists.{after_all, first}
 use Rattle.lay_layout.proofs.lay_edits.Lists.{lists_leave_documents, none_first}
 use Rattle.lay_cell_steps.specs.shape.Keys.{node_of}
 use Rattle.lay_cell_steps.proofs.lay_shape.OwnNodes.{contexts_are_of_own_nodes_lem}

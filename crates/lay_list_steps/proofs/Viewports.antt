@@ -5,7 +5,7 @@ use Rattle.lay_layout.specs.doc.Document.{Document}
 use Rattle.lay_layout.specs.doc.Edits.{after}
 use Rattle.lay_layout.specs.face.FaceValue.{FaceValue}
 use Rattle.lay_layout.specs.context.Solves.{medium_of}
-use Rattle.lay_layout.specs.edits.EditLists.{after_all}
+use Rattle.lay_layout.specs.edit_lists.EditLists.{after_all}
 use Rattle.lay_cell_steps.proofs.EditedRows.{IsOneViewport, one_medium, one_viewport}
 
 one_viewport_of_all : (d : Document) (edits : List Edit) → IsOneViewport d (after_all d edits)
