@@ -6,7 +6,7 @@ ghost use Rattle.lay_report.specs.Report.{final_line, laid_line};
 ghost use Rattle.lay_audit.specs.NextLines.{BeginsWith, command_front, command_word, edit_count, reply_end};
 
 use lay_edits::{Cmd, Reply};
-use lay_report::{push_answer, push_number};
+use lay_report::{answer_text, push_number};
 use lay_units::NoMemory;
 use std::alloc::Global;
 
@@ -48,9 +48,7 @@ fn command_word(command: &Cmd) -> &'static str
 pub(crate) fn reply_end(alloc: Global, command: &Cmd, reply: Reply) -> Result<String, NoMemory>
     ensures { IfOk result (λ t. string_bytes t ≡ reply_end (edit_count command.now) reply) }
 {
-    let mut text = String::new(alloc);
-    push_answer(&mut text, edit_count(command), reply)?;
-    Ok(text)
+    answer_text(alloc, edit_count(command), reply)
 }
 
 /// How many edits a command has.

@@ -2,12 +2,12 @@
 
 ghost use Rattle.std.specs.Prelude.{◌≡◌, ◌<◌, ◌≤◌, length};
 ghost use Rattle.lay_board.specs.Passes.{Calls};
-ghost use Rattle.lay_layout.specs.edits.declared.history.Entry.TheVariants as entry;
+ghost use Rattle.lay_layout.specs.edit_lists.declared.history.Entry.TheVariants as entry;
 
 use crate::pass::Pass;
 use crate::table::{Looks, Shelf};
 use crate::turn::{begun, ended};
-use lay_layout::edits::{Edits, Reply};
+use lay_layout::edit_lists::{Edits, Reply};
 use lay_outside::Gate;
 use std::alloc::Global;
 use std::marker::Model;
@@ -33,8 +33,8 @@ impl Model for Engine {
 }
 
 impl Engine {
-    /// A call of the pass's editor that edits the document by a list of edits, in one turn of the lock. The reply is Accepted with the new version, Refused
-    /// with the first fault of the list and its place, or NoMemory.
+    /// A call of the pass's editor that edits the document by a list of edits, in one turn of the lock. The reply is Accepted with the new
+    /// version, Refused with the first fault of the list and its place, or NoMemory.
     pub fn edit<R: Wait>(&self, rt: &R, pass: Pass, edits: Edits) -> (Reply, Pass)
         requires of { pass.table ≡ self.now.table }
         requires left { 0 < pass.knows.left }

@@ -2,7 +2,7 @@
 
 use lay_core::Core;
 use lay_layout::doc::Doc;
-use lay_layout::edits::Entry;
+use lay_layout::edit_lists::Entry;
 use lay_layout::face::Face;
 use std::collections::LinkedList;
 

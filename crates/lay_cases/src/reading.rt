@@ -4,7 +4,7 @@ use crate::answer::Answer;
 use anyhow::Result;
 use lay_json::read_run;
 use lay_layout::doc::{BadDeclaration, Edit, Kind, NewNode, Node, NodeId};
-use lay_layout::edits::Cmd;
+use lay_layout::edit_lists::Cmd;
 use lay_layout::face::Face;
 use lay_layout::run::RunDoc;
 use lay_layout::style::Decls;

@@ -22,9 +22,9 @@ use Rattle.lay_cell_steps.specs.EditedCells.{EditsKeepCells}
 use Rattle.lay_cell_steps.proofs.FollowedRows.{followed}
 
 -- the two have one viewport
-record IsOneViewport (d e : Document) : Type 0 where
-  width : d.width ≡ e.width
-  height : d.height ≡ e.height
+pub record IsOneViewport (d e : Document) : Type 0 where
+  pub width : d.width ≡ e.width
+  pub height : d.height ≡ e.height
 
 changed_viewport : (d : Document) (id : ℕ) (change : Node → Node) → IsOneViewport d (after_change d id change)
 changed_viewport d id change = by (place_of id (ids_of d.nodes)) refl
@@ -47,7 +47,7 @@ inserted_viewport d parent index new = by (place_of parent (ids_of d.nodes)) ref
     by None e = rw e (record { width = refl; height = refl })
     by (Some p) e = rw e (record { width = refl; height = refl })
 
-one_viewport : (d : Document) (edit : Edit) → IsOneViewport d (after d edit)
+pub one_viewport : (d : Document) (edit : Edit) → IsOneViewport d (after d edit)
 one_viewport d (SetStyle node decl) = changed_viewport d node.0 (with_style decl)
 one_viewport d (ClearStyle node property) = changed_viewport d node.0 (without_style property)
 one_viewport d (SetText node text) = changed_viewport d node.0 (with_text text)
@@ -55,7 +55,7 @@ one_viewport d (Bad bad) = record { width = refl; height = refl }
 one_viewport d (Remove node) = removed_viewport d node.0
 one_viewport d (Insert parent index new) = inserted_viewport d parent.0 index new
 
-one_medium : (d e : Document) (face : FaceValue) → IsOneViewport d e → medium_of d face ≡ medium_of e face
+pub one_medium : (d e : Document) (face : FaceValue) → IsOneViewport d e → medium_of d face ≡ medium_of e face
 one_medium d e face same =
     ap (λ (n : ℕ). record { viewport = record { width = px n; height = Of (px d.height) }; face = face }) same.width
     ∙ ap (λ (n : ℕ). record { viewport = record { width = px e.width; height = Of (px n) }; face = face }) same.height

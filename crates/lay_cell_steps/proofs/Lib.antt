@@ -11,3 +11,4 @@ pub mod ReachedContexts
 pub use Rattle.lay_cell_laws.proofs as lay_cell_laws
 pub use Rattle.lay_cell_laws.proofs.lay_cell_work as lay_cell_work
 pub use Rattle.lay_shape_laws.proofs.lay_shape as lay_shape
+pub use Rattle.lay_shape_laws.proofs as lay_shape_laws

@@ -18,6 +18,7 @@ pub use laws::{
 pub use lay_cell_laws as cell_laws;
 pub use lay_cell_laws::cell_work as cell_work;
 pub use lay_changes as changes;
+pub use lay_shape_laws as shape_laws;
 pub use lay_shape_laws::shape as shape;
 pub use ready_cells::{
     assembled_trees_solve, clean_cells_are_known, kept_values_are_counted, ready_to_input,

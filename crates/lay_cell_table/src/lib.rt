@@ -21,8 +21,4 @@ pub use cell_input_at::input_at;
 pub use cell_table::CellTable;
 pub use cell_values::CellValues;
 pub use context_root::ContextRoot;
-pub use lay_cell_steps as cell_steps;
-pub use lay_cell_steps::{
-    cell_laws as cell_laws, cell_work as cell_work, changes as changes, shape as shape,
-};
 pub use tree::tree_of;

@@ -1,7 +1,7 @@
 -- Calls but edits are steps of work on cells.
 use Rattle.std.proofs.Common.{◌≡◌, Bool, true, false, sym, ap, subst, inl, inr}
-use Rattle.lay_layout.specs.edits.declared.command.Reply.{Reply}
-use Rattle.lay_layout.specs.edits.declared.command.Reply.TheVariants.{Accepted, Refused, Shown, NoMemory}
+use Rattle.lay_layout.specs.edit_lists.declared.command.Reply.{Reply}
+use Rattle.lay_layout.specs.edit_lists.declared.command.Reply.TheVariants.{Accepted, Refused, Shown, NoMemory}
 use Rattle.lay_layout.specs.cells.declared.answers.Claimed.{Claimed}
 use Rattle.lay_document_cells.specs.shape.declared.cell_key.CellKey.{CellKey}
 use Rattle.lay_document_cells.specs.cell_work.CellInputs.{CellInput}

@@ -3,11 +3,11 @@ use Rattle.std.proofs.Common.{◌≡◌, ◌<◌, ◌≤◌, ◌*◌, ℕ, ◌+�
 use Rattle.std.proofs.lemmas.List.Elements.{All-push}
 use Rattle.lay_layout.specs.doc.declared.edit.Edit.{Edit as Change}
 use Rattle.lay_layout.specs.doc.Document.{Document}
-use Rattle.lay_layout.specs.edits.EditLists.{after_all, fault_at, first}
-use Rattle.lay_layout.specs.edits.declared.command.Reply.{Reply}
-use Rattle.lay_layout.specs.edits.declared.command.Reply.TheVariants.{Accepted, Refused, Shown, NoMemory}
-use Rattle.lay_layout.specs.edits.declared.history.Entry.{Entry}
-use Rattle.lay_layout.specs.edits.declared.history.Entry.TheVariants.{Edit, Publish, Latest, Sync}
+use Rattle.lay_layout.specs.edit_lists.EditLists.{after_all, fault_at, first}
+use Rattle.lay_layout.specs.edit_lists.declared.command.Reply.{Reply}
+use Rattle.lay_layout.specs.edit_lists.declared.command.Reply.TheVariants.{Accepted, Refused, Shown, NoMemory}
+use Rattle.lay_layout.specs.edit_lists.declared.history.Entry.{Entry}
+use Rattle.lay_layout.specs.edit_lists.declared.history.Entry.TheVariants.{Edit, Publish, Latest, Sync}
 use Rattle.lay_layout.specs.frag.Pieces.{Context}
 use Rattle.lay_layout.specs.history.Histories.{accepted, doc_at, list_in, lists, last_or, last_published, published, version_in}
 use Rattle.lay_layout.specs.history.Legal.{MayFollow}

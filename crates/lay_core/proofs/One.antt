@@ -1,12 +1,12 @@
 -- What editors see of a core after a call is decided by what they saw before, but for want of memory.
 use Rattle.std.proofs.Common.{◌≡◌, ◌+◌, ℕ, Bool, true, false, List, Option, Some, refl, sym, ap, ◌∙◌, subst, rules}
 use Rattle.lay_layout.specs.doc.Document.{IsDocument}
-use Rattle.lay_layout.specs.edits.EditLists.{after_all, fault_at, first}
+use Rattle.lay_layout.specs.edit_lists.EditLists.{after_all, first}
 use Rattle.lay_layout.specs.doc.declared.edit.Edit.{Edit as Change}
 use Rattle.lay_layout.specs.doc.declared.edit.EditFault.{EditFault}
-use Rattle.lay_layout.specs.edits.declared.command.Reply.{Reply}
-use Rattle.lay_layout.specs.edits.declared.command.Reply.TheVariants.{Accepted, Refused, Shown, NoMemory}
-use Rattle.lay_layout.specs.edits.declared.history.Entry.TheVariants.{Edit, Latest, Sync}
+use Rattle.lay_layout.specs.edit_lists.declared.command.Reply.{Reply}
+use Rattle.lay_layout.specs.edit_lists.declared.command.Reply.TheVariants.{Accepted, Refused, Shown, NoMemory}
+use Rattle.lay_layout.specs.edit_lists.declared.history.Entry.TheVariants.{Edit, Latest, Sync}
 use Rattle.lay_layout.specs.cells.Laws.{OneFirstDirty}
 use Rattle.lay_layout.specs.cells.Reads.{AllClean, IsFirstDirtyKey}
 use Rattle.lay_document_cells.specs.shape.declared.cell_key.CellKey.{CellKey}

@@ -1,8 +1,8 @@
 -- Steps of a core that is seen by its parts.
 use Rattle.std.proofs.Common.{◌≡◌, ◌≢◌, ◌<◌, ◌≤◌, ◌*◌, ◌+◌, ◌^◌, ℕ, List, length, true, false, Option, Some, None, Result, Ok, Err, OnErr, OnOk, refl, sym, ap, ◌∙◌, ◌⊎◌, subst, arith, inl, inr, ne_eqb}
-use Rattle.lay_layout.specs.edits.declared.command.Reply.{Reply}
-use Rattle.lay_layout.specs.edits.declared.history.Entry.{Entry}
-use Rattle.lay_layout.specs.edits.declared.history.Entry.TheVariants.{Latest, Sync}
+use Rattle.lay_layout.specs.edit_lists.declared.command.Reply.{Reply}
+use Rattle.lay_layout.specs.edit_lists.declared.history.Entry.{Entry}
+use Rattle.lay_layout.specs.edit_lists.declared.history.Entry.TheVariants.{Latest, Sync}
 use Rattle.lay_layout.specs.cells.Reads.{AllClean}
 use Rattle.lay_layout.specs.history.Histories.{accepted, last_or, last_published}
 use Rattle.lay_layout.specs.history.Trees.{PublishedTreeValue, versions_of}

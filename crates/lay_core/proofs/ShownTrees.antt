@@ -3,7 +3,7 @@ use Rattle.std.proofs.Common.{◌≡◌, ◌||◌, ℕ, ◌==◌, List, [], ◌�
 use Rattle.std.specs.List.{list_any}
 use Rattle.std.proofs.lemmas.List.{take-append-drop}
 use Rattle.std.proofs.lemmas.List.Concat.{flat_map-append}
-use Rattle.lay_layout.specs.edits.declared.history.Entry.{Entry}
+use Rattle.lay_layout.specs.edit_lists.declared.history.Entry.{Entry}
 use Rattle.lay_layout.specs.history.Histories.{doc_at, published, version_in}
 use Rattle.lay_layout.proofs.lay_history.ShownVersions.{shown_last}
 use Rattle.lay_layout.specs.context.Solves.{Solves}

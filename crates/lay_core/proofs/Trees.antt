@@ -5,7 +5,7 @@ use Rattle.lay_layout.specs.frag.Pieces.{Context}
 use Rattle.lay_layout.specs.history.Histories.{is_published, last_or}
 use Rattle.lay_layout.specs.history.Trees.{HasTrees, PublishedTreeValue, tree_at, versions_of}
 use Rattle.lay_layout.proofs.lay_history.Lists.{not_none}
-use Rattle.lay_layout.specs.edits.declared.history.Entry.{Entry}
+use Rattle.lay_layout.specs.edit_lists.declared.history.Entry.{Entry}
 
 found_by : (b : Bool) (t : PublishedTreeValue) (o : Option PublishedTreeValue) (others : Bool) → is_some (option_map (λ x. x.tree) o) ≡ others
     → is_some (option_map (λ x. x.tree) (cond b (Some t) o)) ≡ (b || others)

@@ -2,7 +2,7 @@
 -- of work, by `Works` of lay_document_cells. So a clean cell stays clean, and each grant is one of the number of grants.
 use Rattle.std.specs.Prelude.{ℕ, ◌≡◌, List, Option, Result}
 use Rattle.lay_layout.specs.units.declared.memory.NoMemory.{NoMemory}
-use Rattle.lay_layout.specs.edits.declared.command.Reply.{Reply}
+use Rattle.lay_layout.specs.edit_lists.declared.command.Reply.{Reply}
 use Rattle.lay_layout.specs.cells.declared.answers.Finished.{Finished}
 use Rattle.lay_layout.specs.cells.declared.answers.Released.{Released}
 use Rattle.lay_document_cells.specs.shape.declared.cell_key.CellKey.{CellKey}

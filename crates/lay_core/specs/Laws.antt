@@ -3,9 +3,9 @@
 use Rattle.std.specs.Prelude.{ℕ, ◌≡◌, List, [], slice_get, Some}
 use Rattle.lay_layout.specs.doc.declared.edit.Edit.{Edit as Change}
 use Rattle.lay_layout.specs.doc.Document.{IsDocument}
-use Rattle.lay_layout.specs.edits.declared.command.Reply.{Reply}
-use Rattle.lay_layout.specs.edits.declared.command.Reply.TheVariants.{NoMemory}
-use Rattle.lay_layout.specs.edits.declared.history.Entry.{Entry}
+use Rattle.lay_layout.specs.edit_lists.declared.command.Reply.{Reply}
+use Rattle.lay_layout.specs.edit_lists.declared.command.Reply.TheVariants.{NoMemory}
+use Rattle.lay_layout.specs.edit_lists.declared.history.Entry.{Entry}
 use Rattle.lay_layout.specs.frag.Pieces.{Context}
 use Rattle.lay_layout.specs.history.Histories.{accepted, doc_at, shown_version}
 use Rattle.lay_layout.specs.history.Legal.{IsWhole}

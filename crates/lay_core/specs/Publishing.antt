@@ -1,6 +1,6 @@
 -- How a version is published: it is the present one, each cell is clean, and its tree is the layout of the document.
 use Rattle.std.specs.Prelude.{ℕ, ◌≡◌, ◌≢◌, ◌==◌, ◌⊎◌, List, [], ◌∷◌, ◌++◌, Bool, true, false, Option, Some, None}
-use Rattle.lay_layout.specs.edits.declared.history.Entry.TheVariants.{Publish as publication}
+use Rattle.lay_layout.specs.edit_lists.declared.history.Entry.TheVariants.{Publish as publication}
 use Rattle.lay_layout.specs.frag.Pieces.{Context}
 use Rattle.lay_layout.specs.cells.Reads.{AllClean, IsFirstDirtyKey}
 use Rattle.lay_layout.specs.history.Histories.{accepted, last_published}

@@ -3,7 +3,7 @@
 use Rattle.std.specs.Prelude.{ℕ, ◌≡◌, ◌+◌, ◌*◌, ◌≤◌, ◌^◌, ◌&&◌, not, Bool, true, List, [], ◌∷◌, length}
 use Rattle.std.specs.List.{All}
 use Rattle.lay_layout.specs.doc.Document.{Document}
-use Rattle.lay_layout.specs.edits.declared.history.Entry.{Entry}
+use Rattle.lay_layout.specs.edit_lists.declared.history.Entry.{Entry}
 use Rattle.lay_layout.specs.face.FaceValue.{FaceValue}
 use Rattle.lay_layout.specs.frag.Pieces.{Context}
 use Rattle.lay_layout.specs.history.Calls.{calls}

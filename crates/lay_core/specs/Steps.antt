@@ -2,11 +2,11 @@
 use Rattle.std.specs.Prelude.{ℕ, ⊤, ◌≡◌, ◌+◌, ◌-◌, ◌&&◌, not, List, [], ◌∷◌, ◌++◌, Bool, true, false, Option, Some, None, is_some, if◌then◌else◌}
 use Rattle.lay_layout.specs.doc.declared.edit.Edit.{Edit as Change}
 use Rattle.lay_layout.specs.doc.Document.{Document}
-use Rattle.lay_layout.specs.edits.EditLists.{after_all, fault_at, first}
-use Rattle.lay_layout.specs.edits.declared.command.Reply.{Reply}
-use Rattle.lay_layout.specs.edits.declared.command.Reply.TheVariants.{Accepted, Refused, Shown, NoMemory}
-use Rattle.lay_layout.specs.edits.declared.history.Entry.{Entry}
-use Rattle.lay_layout.specs.edits.declared.history.Entry.TheVariants.{Edit, Publish, Latest, Sync}
+use Rattle.lay_layout.specs.edit_lists.EditLists.{after_all, fault_at, first}
+use Rattle.lay_layout.specs.edit_lists.declared.command.Reply.{Reply}
+use Rattle.lay_layout.specs.edit_lists.declared.command.Reply.TheVariants.{Accepted, Refused, Shown, NoMemory}
+use Rattle.lay_layout.specs.edit_lists.declared.history.Entry.{Entry}
+use Rattle.lay_layout.specs.edit_lists.declared.history.Entry.TheVariants.{Edit, Publish, Latest, Sync}
 use Rattle.lay_layout.specs.face.FaceValue.{FaceValue}
 use Rattle.lay_layout.specs.history.Histories.{accepted, last_published}
 use Rattle.lay_document_cells.specs.Edits.{EditsTo as CellsEditTo}

@@ -8,7 +8,7 @@ ghost use Rattle.lay_core.specs.Steps.{IsNewCore};
 
 use lay_document_cells::DocumentCells;
 use lay_layout::doc::Doc;
-use lay_layout::edits::Entry;
+use lay_layout::edit_lists::Entry;
 use lay_layout::face::Face;
 use lay_layout::frag::Tree;
 use lay_layout::history::{PublishedTree, tree_at};

@@ -7,11 +7,12 @@ ghost use Rattle.lay_core.specs.Steps.{EditsTo, LatestTo, SyncTo};
 use crate::core_state::Core;
 use crate::editing::edited;
 use crate::showing::{shown_latest, shown_present};
-use lay_layout::edits::{Edits, Entry, Reply};
+use lay_layout::edit_lists::{Edits, Entry, Reply};
 
 impl Core {
-    /// Answers a list of edits of an editor: Refused with its first fault and the place of that; else Accepted with the new version, and then cells are dirty
-    /// of contexts that it touches, and those that depend on them; or NoMemory, and then document and cells are as before.
+    /// Answers a list of edits of an editor: Refused with its first fault and the place of that; else Accepted with the new version, and
+    /// then cells are dirty of contexts that it touches, and those that depend on them; or NoMemory, and then document and cells are as
+    /// before.
     pub fn edit(&mut self, editor: u32, index: u32, edits: Edits) -> Reply
         requires calls { 0 < self.old.calls_left }
         ensures edits { EditsTo self.old editor index edits result self.new }

@@ -14,7 +14,7 @@ use crate::answers::Publish;
 use crate::core_state::Core;
 use crate::showing::are_clean;
 use lay_document_cells::DocumentCells;
-use lay_layout::edits::Entry;
+use lay_layout::edit_lists::Entry;
 use lay_layout::history::PublishedTree;
 use lay_layout::units::NoMemory;
 use std::alloc::Global;

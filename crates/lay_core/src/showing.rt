@@ -10,7 +10,7 @@ ghost use Rattle.lay_core.specs.Steps.{ShowsLatest, ShowsPresent, ShowsVersion, 
 
 use crate::publishing::{last_version, refreshed};
 use lay_document_cells::DocumentCells;
-use lay_layout::edits::{Entry, Reply};
+use lay_layout::edit_lists::{Entry, Reply};
 use lay_layout::history::PublishedTree;
 use std::alloc::Global;
 

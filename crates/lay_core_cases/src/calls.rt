@@ -9,21 +9,24 @@
 //!     latest, sync                      the replies to them and to edits are written as in a report
 //!     settle, publish
 //!     laid, draws, accepted, entries
+//!     few-laid NUMBER                   whether no more than so many claims were granted
 //!     laid-of PHASE NODE
 //!     contexts VERSION                  of how many contexts the tree of a version is, or `none`
 //!     as-scratch                        whether the tree of the present version is that of a layout from nothing
 //!     cells ID ..                       for each the grants of its three cells
 //!     granted                           the cells that were granted since the last such call (`grants.rt`)
 //!     claim, finish and so on           claims by hand (`claims.rt`)
+//!
+//! Where a call on the core lacks memory the answer is `no memory`. Where the request was one of the program's own, the program ends.
 
 use crate::claims::Claims;
 use crate::edits::edit;
 use crate::grants::Grants;
 use crate::keys::{counts, key, shown_key};
 use crate::trees::{contexts, is_as_scratch};
-use crate::words::first;
+use crate::words::{first, lacks, number};
 use lay_core::{Core, Publish};
-use lay_layout::edits::{Edits, Reply};
+use lay_layout::edit_lists::{Edits, Reply};
 use lay_layout::units::NoMemory;
 use std::alloc::Global;
 
@@ -88,8 +91,10 @@ impl OneCore {
         if self.core.draws() > MANY {
             return Ok(None);
         }
-        self.core.settle()?;
-        Ok(Some(String::from_str(alloc, "done")?))
+        match self.core.settle() {
+            Ok(()) => Ok(Some(String::from_str(alloc, "done")?)),
+            Err(NoMemory) => Ok(Some(lacks(alloc)?)),
+        }
     }
 
     fn publish(&mut self, alloc: Global) -> Result<String, NoMemory> {
@@ -99,7 +104,7 @@ impl OneCore {
                 "unsettled {}",
                 shown_key(alloc, key)?
             )?),
-            Publish::NoMemory => Err(NoMemory),
+            Publish::NoMemory => lacks(alloc),
         }
     }
 
@@ -110,10 +115,18 @@ impl OneCore {
             "accepted" => shown(alloc, self.core.accepted()),
             "entries" => shown(alloc, self.core.history().len() as u64),
             "laid-of" => self.laid_of(alloc, rest),
+            "few-laid" => self.few_laid(alloc, rest),
             "contexts" => contexts(alloc, &self.core, rest),
             "as-scratch" => is_as_scratch(alloc, &self.core),
             "cells" => counts(alloc, &self.core, rest),
             _ => Ok(None),
+        }
+    }
+
+    fn few_laid(&self, alloc: Global, rest: &str) -> Result<Option<String>, NoMemory> {
+        match number(rest) {
+            Some(most) => Ok(Some(format!(in alloc; "{}", self.core.laid() <= most)?)),
+            None => Ok(None),
         }
     }
 
@@ -137,6 +150,6 @@ fn shown_reply(alloc: Global, reply: Reply) -> Result<String, NoMemory> {
         Reply::Accepted(version) => Ok(format!(in alloc; "accepted {version}")?),
         Reply::Refused { fault, .. } => Ok(format!(in alloc; "refused {fault:?}")?),
         Reply::Shown(version) => Ok(format!(in alloc; "shown {version}")?),
-        Reply::NoMemory => Err(NoMemory),
+        Reply::NoMemory => lacks(alloc),
     }
 }

@@ -1,22 +1,38 @@
-//! Cases.
+//! Cases. A call that lacks memory is made again, and has then the answer that its line says. What its line says behind ` | `, as in
+//! `sync -> shown 1 | contexts 1 -> none`, is what stands between the two.
 
 use crate::calls::OneCore;
 use anyhow::{Result, bail};
 use lay_layout::units::NoMemory;
 use std::alloc::Global;
 
-/// The first line of a case that has another answer than it says, with that answer.
-pub(crate) fn first_difference(
-    alloc: Global,
-    core: &mut OneCore,
-    lines: &str,
-) -> Result<Option<String>> {
+/// What came of a case.
+#[derive(Drop)]
+pub(crate) struct Comparison {
+    /// The first call that has another answer than its line says, with that answer.
+    pub other: Option<String>,
+    /// The calls that lacked memory, each behind a comma.
+    pub lacking: String,
+}
+
+/// What comes of a case.
+pub(crate) fn compared(alloc: Global, core: &mut OneCore, lines: &str) -> Result<Comparison> {
+    let mut lacking = String::new(alloc);
     for line in lines.lines() {
-        if let Some(found) = difference(alloc, core, line)? {
-            return Ok(Some(found));
+        let (line, between) = call_and_between(line);
+        let mut other = other_answer(alloc, core, line)?;
+        if lacks(&other) {
+            write!(lacking, ", {} lacked memory", call_and_answer(line).0)?;
+            other = answer_again(alloc, core, line, between)?;
+        }
+        if other.is_some() {
+            return Ok(Comparison { other, lacking });
         }
     }
-    Ok(None)
+    Ok(Comparison {
+        other: None,
+        lacking,
+    })
 }
 
 /// A case with the answers that come.
@@ -27,12 +43,14 @@ pub(crate) fn answers(alloc: Global, core: &mut OneCore, lines: &str) -> Result<
             writeln!(text, "{line}")?;
             continue;
         }
+        let (line, between) = call_and_between(line);
         let (call, _) = call_and_answer(line);
         let answer = answer(alloc, core, call)?;
+        let bar = if between.is_empty() { "" } else { " | " };
         if answer.as_str() == "done" {
-            writeln!(text, "{call}")?;
+            writeln!(text, "{call}{bar}{between}")?;
         } else {
-            writeln!(text, "{call} -> {answer}")?;
+            writeln!(text, "{call} -> {answer}{bar}{between}")?;
         }
     }
     Ok(text)
@@ -42,13 +60,42 @@ fn is_call(line: &str) -> bool {
     !line.is_empty() && !line.starts_with('#')
 }
 
-/// The call of a line, and its answer.
+/// The call of a line with its answer, and what stands where the call lacks memory.
+fn call_and_between(line: &str) -> (&str, &str) {
+    line.split_once(" | ").unwrap_or((line, ""))
+}
+
+/// A call, and its answer.
 fn call_and_answer(line: &str) -> (&str, &str) {
     line.split_once(" -> ").unwrap_or((line, "done"))
 }
 
+/// Whether a call has lacked memory, by its answer where that is another than the line says.
+fn lacks(other: &Option<String>) -> bool {
+    match other {
+        Some(other) => other.as_str().ends_with(" -> no memory"),
+        None => false,
+    }
+}
+
+/// Looks at what stands behind a call that lacked memory, and makes it again; answers what is other than the lines say.
+fn answer_again(
+    alloc: Global,
+    core: &mut OneCore,
+    line: &str,
+    between: &str,
+) -> Result<Option<String>> {
+    for state in between.split(" | ") {
+        let other = other_answer(alloc, core, state)?;
+        if other.is_some() {
+            return Ok(other);
+        }
+    }
+    other_answer(alloc, core, line)
+}
+
 /// Makes the call of a line, if it has one, and answers what is other than it says.
-fn difference(alloc: Global, core: &mut OneCore, line: &str) -> Result<Option<String>> {
+fn other_answer(alloc: Global, core: &mut OneCore, line: &str) -> Result<Option<String>> {
     if !is_call(line) {
         return Ok(None);
     }

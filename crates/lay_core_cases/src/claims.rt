@@ -11,11 +11,11 @@
 //! A claim that was granted is held to the end, so it can be finished late, or twice.
 
 use crate::keys::{key, shown_key};
-use crate::words::{first, number, small_number};
-use lay_core::cell_work::{Claim, Layout};
+use crate::words::{first, lacks, number, small_number};
+use lay_core::cell_work::Claim;
 use lay_core::claim_lists::{ClaimList, Outcome, Outcomes};
 use lay_core::{Answer, Core, IdleKind, Next, Tally};
-use lay_layout::cells::{Done, Finished, Released};
+use lay_layout::cells::{Finished, Released};
 use lay_layout::units::NoMemory;
 use std::alloc::Global;
 
@@ -79,7 +79,7 @@ impl Claims {
             Answer::Taken(number) => format!(in alloc; "taken {number}")?,
             Answer::Gone => String::from_str(alloc, "gone")?,
             Answer::Spent => String::from_str(alloc, "spent")?,
-            Answer::NoMemory => return Err(NoMemory),
+            Answer::NoMemory => lacks(alloc)?,
         };
         Ok(Some(text))
     }
@@ -90,7 +90,7 @@ impl Claims {
             Next::Settled => shown_idle(alloc, IdleKind::Settled),
             Next::Busy(number) => shown_idle(alloc, IdleKind::Busy(number)),
             Next::Spent => shown_idle(alloc, IdleKind::Spent),
-            Next::NoMemory => Err(NoMemory),
+            Next::NoMemory => lacks(alloc),
         }
     }
 
@@ -107,8 +107,10 @@ impl Claims {
             return Ok(None);
         }
         let mut list = ClaimList::with_room(alloc, limit)?;
-        if let Some(idle) = core.claim_some(limit, &mut list)? {
-            return Ok(Some(shown_idle(alloc, idle.kind())?));
+        match core.claim_some(limit, &mut list) {
+            Ok(None) => {}
+            Ok(Some(idle)) => return Ok(Some(shown_idle(alloc, idle.kind())?)),
+            Err(NoMemory) => return Ok(Some(lacks(alloc)?)),
         }
         let mut text = String::new(alloc);
         for claim in list.into_vec() {
@@ -130,18 +132,18 @@ impl Claims {
     }
 
     /// What the claim of this number comes to, under this one or another.
-    fn done(
+    fn computed(
         &self,
         alloc: Global,
         number: u64,
         under: u64,
-    ) -> Result<Option<Done<Layout>>, NoMemory> {
+    ) -> Result<Option<Outcome>, NoMemory> {
         let Some(claim) = self.again(number, under)? else {
             return Ok(None);
         };
         match claim.compute(alloc) {
-            Ok(done) => Ok(Some(done)),
-            Err(_) => Err(NoMemory),
+            Ok(done) => Ok(Some(Outcome::Done(done))),
+            Err(claim) => Ok(Some(Outcome::NoMemory(claim))),
         }
     }
 
@@ -154,16 +156,11 @@ impl Claims {
         let Some((number, under)) = numbers(rest) else {
             return Ok(None);
         };
-        let Some(done) = self.done(alloc, number, under)? else {
-            return Ok(None);
-        };
-        let text = match core.finish(done) {
-            Finished::Cleaned => String::from_str(alloc, "cleaned")?,
-            Finished::Stored => String::from_str(alloc, "stored")?,
-            Finished::Superseded(last) => format!(in alloc; "superseded {last}")?,
-            Finished::Gone => String::from_str(alloc, "gone")?,
-        };
-        Ok(Some(text))
+        match self.computed(alloc, number, under)? {
+            Some(Outcome::Done(done)) => Ok(Some(shown_finished(alloc, core.finish(done))?)),
+            Some(Outcome::NoMemory(_claim)) => Ok(Some(lacks(alloc)?)),
+            None => Ok(None),
+        }
     }
 
     /// The outcome that a word names.
@@ -179,8 +176,7 @@ impl Claims {
             let claim = self.again(number, number)?;
             return Ok(claim.map(|claim| Outcome::NoMemory(claim)));
         }
-        let done = self.done(alloc, number, number)?;
-        Ok(done.map(|done| Outcome::Done(done)))
+        self.computed(alloc, number, number)
     }
 
     fn finish_all(
@@ -232,6 +228,15 @@ fn numbers(text: &str) -> Option<(u64, u64)> {
         _ => one,
     };
     Some((number(one)?, number(under)?))
+}
+
+fn shown_finished(alloc: Global, finished: Finished) -> Result<String, NoMemory> {
+    match finished {
+        Finished::Cleaned => Ok(String::from_str(alloc, "cleaned")?),
+        Finished::Stored => Ok(String::from_str(alloc, "stored")?),
+        Finished::Superseded(last) => Ok(format!(in alloc; "superseded {last}")?),
+        Finished::Gone => Ok(String::from_str(alloc, "gone")?),
+    }
 }
 
 fn shown_idle(alloc: Global, kind: IdleKind) -> Result<String, NoMemory> {

@@ -4,7 +4,8 @@
 //!
 //! `NAME.json` is a run document, whose editors are taken as none. `NAME.calls` beside it has cases, each over a core of that document:
 //! a line `case NAME`, and calls that are made in turn, each a line `CALL -> ANSWER`, or `CALL` where the answer is `done`. Lines that
-//! begin with `#` are remarks. Which calls there are is said in `calls.rt`.
+//! begin with `#` are remarks. Which calls there are is said in `calls.rt`, and what of a call that lacks memory in `case.rt`;
+//! `bench/refuse_calls` has each request for memory of the cases in `refusals.calls` refused.
 #![tactic(auto)]
 
 mod calls;
@@ -17,7 +18,7 @@ mod trees;
 mod words;
 
 use crate::calls::OneCore;
-use crate::case::{answers, first_difference};
+use crate::case::{Comparison, answers, compared};
 use anyhow::{Context, Result, bail};
 use lay_core::Core;
 use lay_json::read_run;
@@ -76,9 +77,10 @@ fn go_through(
             )?;
             continue;
         }
-        match first_difference(rt.alloc(), &mut subject, lines)? {
-            None => println!(rt; "{name}: {case}: ok")?,
-            Some(found) => println!(rt; "{name}: {case}: NOT SO, but {found}")?,
+        let Comparison { other, lacking } = compared(rt.alloc(), &mut subject, lines)?;
+        match other {
+            None => println!(rt; "{name}: {case}: ok{lacking}")?,
+            Some(other) => println!(rt; "{name}: {case}: NOT SO, but {other}{lacking}")?,
         }
     }
     Ok(())

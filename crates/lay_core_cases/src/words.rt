@@ -1,10 +1,17 @@
 //! The words of a call.
 
 use lay_layout::doc::NodeId;
+use lay_layout::units::NoMemory;
+use std::alloc::Global;
 
 /// The first word of a text, and what stands behind it.
 pub(crate) fn first(text: &str) -> (&str, &str) {
     text.split_once(' ').unwrap_or((text, ""))
+}
+
+/// The answer of a call that lacks memory.
+pub(crate) fn lacks(alloc: Global) -> Result<String, NoMemory> {
+    Ok(String::from_str(alloc, "no memory")?)
 }
 
 pub(crate) fn number(word: &str) -> Option<u64> {

@@ -18,21 +18,21 @@ use Rattle.lay_layout.specs.cells.Reshapes.{Reshapes}
 use Rattle.lay_layout.specs.cells.Shapes.{IsIn}
 use Rattle.lay_layout.specs.cells.Sound.{IsSound}
 use Rattle.lay_layout.proofs.lay_cells.Lists.{one_at}
-use Rattle.lay_cell_table.specs.shape.Keys.{AreOfOwnNodes}
-use Rattle.lay_cell_table.specs.shape.Laws.{ContextsAreOfOwnNodes}
-use Rattle.lay_cell_table.specs.shape.Shapes.{shape_of}
-use Rattle.lay_cell_table.specs.shape.declared.cell_key.CellKey.{CellKey}
+use Rattle.lay_list_steps.specs.shape.Keys.{AreOfOwnNodes}
+use Rattle.lay_list_steps.specs.shape.Laws.{ContextsAreOfOwnNodes}
+use Rattle.lay_list_steps.specs.shape.Shapes.{shape_of}
+use Rattle.lay_list_steps.specs.shape.declared.cell_key.CellKey.{CellKey}
 use Rattle.lay_layout.specs.cell_progress.Grants.{laid_of_all}
-use Rattle.lay_cell_table.specs.cell_work.CellInputs.{CellInput}
-use Rattle.lay_cell_table.specs.cell_work.CellLocal.{IsCellLocal}
-use Rattle.lay_cell_table.specs.cell_work.PresentInputs.{key_of}
-use Rattle.lay_cell_table.specs.cell_laws.DocumentCells.{AreDocumentCells}
-use Rattle.lay_cell_table.specs.cell_laws.SoundCells.{CellRow, CellState, input_now}
-use Rattle.lay_cell_table.specs.cell_steps.CellSteps.{NewCellsAreSound, no_cells}
-use Rattle.lay_cell_table.specs.cell_steps.ReadyCells.{AssembledTreesSolve}
+use Rattle.lay_list_steps.specs.cell_work.CellInputs.{CellInput}
+use Rattle.lay_list_steps.specs.cell_work.CellLocal.{IsCellLocal}
+use Rattle.lay_list_steps.specs.cell_work.PresentInputs.{key_of}
+use Rattle.lay_list_steps.specs.cell_laws.DocumentCells.{AreDocumentCells}
+use Rattle.lay_list_steps.specs.cell_laws.SoundCells.{CellRow, CellState, input_now}
+use Rattle.lay_list_steps.specs.cell_steps.CellSteps.{NewCellsAreSound, no_cells}
+use Rattle.lay_list_steps.specs.cell_steps.ReadyCells.{AssembledTreesSolve}
 use Rattle.lay_cell_table.specs.CellTables.{CellTable}
 use Rattle.lay_cell_table.specs.TableCells.{AreCellsOn, IsGivenNow as IsGivenThere, workings_in}
-use Rattle.lay_cell_table.specs.changes.ContextFlags.{ContextLists}
+use Rattle.lay_list_steps.specs.changes.ContextFlags.{ContextLists}
 use Rattle.lay_document_cells.specs.Kept.{IsKept, TableValue}
 use Rattle.lay_document_cells.specs.Laws.{CleanCellsAreCounted}
 use Rattle.lay_document_cells.specs.Settling.{FinishesWork, GivesBackWork}

@@ -4,8 +4,8 @@ use Rattle.std.proofs.lemmas.List.Sums.{sum_by_push}
 use Rattle.lay_layout.specs.units.declared.memory.NoMemory.{NoMemory}
 use Rattle.lay_layout.specs.cells.declared.answers.Finished.{Finished}
 use Rattle.lay_layout.specs.cells.declared.answers.Released.{Released}
-use Rattle.lay_cell_table.specs.shape.declared.cell_key.CellKey.{CellKey}
-use Rattle.lay_cell_table.specs.cell_work.Claims.{Claim}
+use Rattle.lay_list_steps.specs.shape.declared.cell_key.CellKey.{CellKey}
+use Rattle.lay_list_steps.specs.cell_work.Claims.{Claim}
 use Rattle.lay_claims.specs.declared.outcome.Outcome.{Outcome}
 use Rattle.lay_document_cells.specs.Batches.{ClaimsSome, Grants, GrantsNone, IsBatchAnswer, IsNoGrant, fewer, full, more, none, start}
 use Rattle.lay_document_cells.specs.Claims.{AnswersNext}
@@ -13,7 +13,7 @@ use Rattle.lay_document_cells.specs.Outcomes.{FinishesAll, HandsIn, HandsInEach,
 use Rattle.lay_document_cells.specs.Outcomes.{more as one_more, start as no_outcomes}
 use Rattle.lay_document_cells.specs.State.{State}
 use Rattle.lay_document_cells.specs.Steps.{CellDone, FinishesTo, GivesBackTo}
-use Rattle.lay_cell_table.specs.cell_laws.SoundCells.{CellState}
+use Rattle.lay_list_steps.specs.cell_laws.SoundCells.{CellState}
 use Rattle.lay_document_cells.specs.declared.answers.Next.{Next}
 use Rattle.lay_document_cells.specs.declared.answers.Next.TheVariants as next
 use Rattle.lay_document_cells.specs.declared.idle.IdleKind.{IdleKind}

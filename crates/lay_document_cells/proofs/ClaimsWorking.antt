@@ -6,9 +6,9 @@ use Rattle.lay_layout.specs.cells.Steps.{draws_after}
 use Rattle.lay_layout.proofs.lay_cells.Lists.{one_at}
 use Rattle.lay_layout.specs.cells.declared.answers.Claimed.TheVariants.{Granted, Reused, Taken}
 use Rattle.lay_layout.specs.cells.declared.answers.Claimed.{Claimed}
-use Rattle.lay_cell_table.specs.shape.declared.cell_key.CellKey.{CellKey}
-use Rattle.lay_cell_table.specs.cell_work.CellInputs.{CellInput}
-use Rattle.lay_cell_table.specs.cell_work.Claims.{Claim}
+use Rattle.lay_list_steps.specs.shape.declared.cell_key.CellKey.{CellKey}
+use Rattle.lay_list_steps.specs.cell_work.CellInputs.{CellInput}
+use Rattle.lay_list_steps.specs.cell_work.Claims.{Claim}
 use Rattle.lay_claims.specs.declared.outcome.Outcome.{Outcome}
 use Rattle.lay_claims.specs.declared.outcome.Outcome.TheVariants as outcome
 use Rattle.lay_document_cells.specs.Batches.{ClaimsSome, Grants, fewer, full, more, none as no_grants, start}
@@ -16,7 +16,7 @@ use Rattle.lay_document_cells.specs.Claims.{AnswersClaim, AnswersNext, ClaimsFor
 use Rattle.lay_document_cells.specs.Laws.{BatchesWork, ClaimsWork, NextClaimsWork, OutcomesWork}
 use Rattle.lay_document_cells.specs.Outcomes.{HandsIn, HandsInEach, Reply, finished, more as one_more, released, start as no_outcomes}
 use Rattle.lay_document_cells.specs.State.{State}
-use Rattle.lay_cell_table.specs.cell_laws.SoundCells.{CellRow, CellState}
+use Rattle.lay_list_steps.specs.cell_laws.SoundCells.{CellRow, CellState}
 use Rattle.lay_document_cells.specs.Steps.{ClaimsTo, Step, Works, claim, finish, give_back, none, step}
 use Rattle.lay_document_cells.specs.declared.answers.Answer.{Answer}
 use Rattle.lay_document_cells.specs.declared.answers.Answer.TheVariants as answer

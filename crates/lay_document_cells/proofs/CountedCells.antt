@@ -7,15 +7,15 @@ use Rattle.lay_layout.specs.cells.Shapes.{IsIn}
 use Rattle.lay_layout.specs.contexts.Contexts.{Context}
 use Rattle.lay_layout.specs.context.declared.task.Phase.{Phase}
 use Rattle.lay_layout.specs.context.declared.task.Phase.TheVariants as phase
-use Rattle.lay_cell_table.specs.shape.Keys.{AreOfOwnNodes}
-use Rattle.lay_cell_table.specs.shape.Laws.{ContextsAreOfOwnNodes}
-use Rattle.lay_cell_table.specs.shape.declared.cell_key.CellKey.{CellKey}
+use Rattle.lay_list_steps.specs.shape.Keys.{AreOfOwnNodes}
+use Rattle.lay_list_steps.specs.shape.Laws.{ContextsAreOfOwnNodes}
+use Rattle.lay_list_steps.specs.shape.declared.cell_key.CellKey.{CellKey}
 use Rattle.lay_layout.specs.cell_progress.Grants.{CleanCellsCount, laid_of_all}
-use Rattle.lay_cell_table.specs.cell_work.CellInputs.{CellInput}
-use Rattle.lay_cell_table.specs.cell_work.CellLocal.{IsCellLocal}
-use Rattle.lay_cell_table.specs.cell_work.CellValues.{CellValue}
-use Rattle.lay_cell_table.specs.cell_work.PresentInputs.{key_of}
-use Rattle.lay_cell_table.specs.cell_laws.SoundCells.{CellRow, IsCellOf}
+use Rattle.lay_list_steps.specs.cell_work.CellInputs.{CellInput}
+use Rattle.lay_list_steps.specs.cell_work.CellLocal.{IsCellLocal}
+use Rattle.lay_list_steps.specs.cell_work.CellValues.{CellValue}
+use Rattle.lay_list_steps.specs.cell_work.PresentInputs.{key_of}
+use Rattle.lay_list_steps.specs.cell_laws.SoundCells.{CellRow, IsCellOf}
 use Rattle.lay_document_cells.specs.Laws.{CleanCellsAreCounted}
 use Rattle.lay_document_cells.specs.State.{IsOfDocument, State}
 use Rattle.lay_document_cells.proofs.Pigeonhole.{pigeonhole}

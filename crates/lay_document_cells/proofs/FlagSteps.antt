@@ -7,7 +7,7 @@ use Rattle.lay_layout.specs.contexts.Contexts.{Context}
 use Rattle.lay_layout.specs.contexts.FormattingContexts.{FormattingContext}
 use Rattle.lay_layout.specs.contexts.FormattingContextList.{first_number}
 use Rattle.lay_layout.specs.context.Measured.{is_measured}
-use Rattle.lay_cell_table.specs.changes.ContextFlags.{AreContextFlagsTo}
+use Rattle.lay_list_steps.specs.changes.ContextFlags.{AreContextFlagsTo}
 
 flag_before : (flags : List Bool) (b : Bool) (k : ℕ) → k < length flags → flag_at (flags ++ b ∷ []) k ≡ flag_at flags k
 flag_before flags b k lt = grind (arith, elements)

@@ -16,17 +16,17 @@ use Rattle.lay_layout.specs.cells.declared.answers.Finished.{Finished}
 use Rattle.lay_layout.specs.cells.declared.answers.Look.TheVariants as look
 use Rattle.lay_layout.specs.cells.declared.answers.Released.{Released}
 use Rattle.lay_layout.proofs.lay_cells.Lists.{one_at}
-use Rattle.lay_cell_table.specs.shape.declared.cell_key.CellKey.{CellKey}
+use Rattle.lay_list_steps.specs.shape.declared.cell_key.CellKey.{CellKey}
 use Rattle.lay_layout.specs.cell_progress.Grants.{ClaimsCount, FinishesCount, GiveBacksCount, grants, laid_of_all}
 use Rattle.lay_layout.specs.cell_progress.Progress.{FinishesKeepRows, GiveBacksKeepRows}
-use Rattle.lay_cell_table.specs.cell_work.CellInputs.{CellInput}
-use Rattle.lay_cell_table.specs.cell_work.CellLocal.{IsCellLocal}
-use Rattle.lay_cell_table.specs.cell_work.CellValues.{CellValue}
-use Rattle.lay_cell_table.specs.cell_work.PresentInputs.{key_of}
-use Rattle.lay_cell_table.specs.cell_laws.SoundCells.{CellRow, CellState}
-use Rattle.lay_cell_table.specs.cell_laws.DocumentCells.{AreDocumentCells}
-use Rattle.lay_cell_table.specs.cell_steps.CellSteps.{ClaimsKeepCells, FinishesKeepCells, GiveBacksKeepCells}
-use Rattle.lay_cell_table.specs.changes.ContextFlags.{ContextLists}
+use Rattle.lay_list_steps.specs.cell_work.CellInputs.{CellInput}
+use Rattle.lay_list_steps.specs.cell_work.CellLocal.{IsCellLocal}
+use Rattle.lay_list_steps.specs.cell_work.CellValues.{CellValue}
+use Rattle.lay_list_steps.specs.cell_work.PresentInputs.{key_of}
+use Rattle.lay_list_steps.specs.cell_laws.SoundCells.{CellRow, CellState}
+use Rattle.lay_list_steps.specs.cell_laws.DocumentCells.{AreDocumentCells}
+use Rattle.lay_list_steps.specs.cell_steps.CellSteps.{ClaimsKeepCells, FinishesKeepCells, GiveBacksKeepCells}
+use Rattle.lay_list_steps.specs.changes.ContextFlags.{ContextLists}
 use Rattle.lay_document_cells.specs.Kept.{IsKept, TableValue}
 use Rattle.lay_document_cells.specs.State.{AreListsOf, State}
 use Rattle.lay_document_cells.specs.Steps.{CellDone, ClaimsTo, FinishesTo, GivesBackTo, IsGivenNow}

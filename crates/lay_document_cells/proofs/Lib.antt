@@ -5,6 +5,7 @@ mod CountedCells
 mod EditSteps
 mod FlagSteps
 mod KeptSteps
+mod ListFaults
 mod ListedContexts
 mod OneEdits
 mod Passing
@@ -12,6 +13,6 @@ mod Pigeonhole
 mod SettledPlaces
 mod WalkSteps
 mod Working
-pub use Rattle.lay_cell_table.proofs.lay_cell_laws as lay_cell_laws
-pub use Rattle.lay_cell_table.proofs.lay_cell_work as lay_cell_work
-pub use Rattle.lay_cell_table.proofs.lay_shape as lay_shape
+pub use Rattle.lay_list_steps.proofs.lay_cell_laws as lay_cell_laws
+pub use Rattle.lay_list_steps.proofs.lay_cell_work as lay_cell_work
+pub use Rattle.lay_list_steps.proofs.lay_shape as lay_shape

@@ -7,20 +7,20 @@ use Rattle.lay_layout.specs.contexts.FormattingLaws.{OneFormattingContextList}
 use Rattle.lay_layout.specs.contexts.Laws.{OneContextList}
 use Rattle.lay_layout.specs.doc.declared.edit.Edit.{Edit}
 use Rattle.lay_layout.specs.doc.Document.{Document, IsDocument, declarations_of, parents_of}
-use Rattle.lay_layout.specs.edits.EditLists.{after_all}
+use Rattle.lay_layout.specs.edit_lists.EditLists.{after_all}
 use Rattle.lay_layout.specs.doc.Laws.{OneStyleColumn}
 use Rattle.lay_layout.specs.style.declared.style.Style.{Style}
 use Rattle.lay_layout.specs.cells.Laws.{OneMarking, OneReshape}
 use Rattle.lay_layout.specs.cells.Rows.{entry_of}
 use Rattle.lay_layout.specs.cells.Shapes.{IsShape}
-use Rattle.lay_cell_table.specs.shape.Laws.{CellsHaveAShape, ContextsAreOfOwnNodes}
-use Rattle.lay_cell_table.specs.shape.Shapes.{shape_of}
-use Rattle.lay_cell_table.specs.shape.declared.cell_key.CellKey.{CellKey}
-use Rattle.lay_cell_table.specs.cell_work.CellInputs.{CellInput}
-use Rattle.lay_cell_table.specs.cell_work.CellValues.{CellValue}
-use Rattle.lay_cell_table.specs.cell_laws.SoundCells.{CellRow, CellState}
-use Rattle.lay_cell_table.specs.changes.ContextFlags.{ContextLists}
-use Rattle.lay_cell_table.specs.changes.Laws.{OneListOfTouchedKeys}
+use Rattle.lay_list_steps.specs.shape.Laws.{CellsHaveAShape, ContextsAreOfOwnNodes}
+use Rattle.lay_list_steps.specs.shape.Shapes.{shape_of}
+use Rattle.lay_list_steps.specs.shape.declared.cell_key.CellKey.{CellKey}
+use Rattle.lay_list_steps.specs.cell_work.CellInputs.{CellInput}
+use Rattle.lay_list_steps.specs.cell_work.CellValues.{CellValue}
+use Rattle.lay_list_steps.specs.cell_laws.SoundCells.{CellRow, CellState}
+use Rattle.lay_list_steps.specs.changes.ContextFlags.{ContextLists}
+use Rattle.lay_list_steps.specs.changes.Laws.{OneListOfTouchedKeys}
 use Rattle.lay_document_cells.specs.Edits.{EditsTo, FollowsLists}
 use Rattle.lay_document_cells.specs.Laws.{OneEdit}
 use Rattle.lay_document_cells.specs.State.{AreListsOf, IsOfDocument, State}

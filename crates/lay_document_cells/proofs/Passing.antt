@@ -12,11 +12,11 @@ use Rattle.lay_layout.specs.cells.declared.answers.Look.TheVariants as look
 use Rattle.lay_layout.proofs.lay_cells.Lists.{map_at, one_at, set_same}
 use Rattle.lay_layout.proofs.lay_cells.OneAnswer.{not_both, one_row}
 use Rattle.lay_layout.specs.cell_progress.Progress.{ClaimsKeepRows, KeepsRows}
-use Rattle.lay_cell_table.specs.shape.declared.cell_key.CellKey.{CellKey}
-use Rattle.lay_cell_table.specs.cell_work.CellInputs.{CellInput}
-use Rattle.lay_cell_table.specs.cell_work.CellValues.{CellValue}
-use Rattle.lay_cell_table.specs.cell_work.Claims.{Claim}
-use Rattle.lay_cell_table.specs.cell_laws.SoundCells.{CellRow, CellState}
+use Rattle.lay_list_steps.specs.shape.declared.cell_key.CellKey.{CellKey}
+use Rattle.lay_list_steps.specs.cell_work.CellInputs.{CellInput}
+use Rattle.lay_list_steps.specs.cell_work.CellValues.{CellValue}
+use Rattle.lay_list_steps.specs.cell_work.Claims.{Claim}
+use Rattle.lay_list_steps.specs.cell_laws.SoundCells.{CellRow, CellState}
 use Rattle.lay_document_cells.specs.Claims.{HasDirtyCell, IsReady, none, reused, taken}
 use Rattle.lay_document_cells.specs.State.{State}
 use Rattle.lay_document_cells.specs.Steps.{ClaimsTo}

@@ -17,11 +17,11 @@ use Rattle.lay_layout.proofs.lay_cells.Lists.{map_at, one_at}
 use Rattle.lay_layout.proofs.lay_cells.OneAnswer.{one_row}
 use Rattle.lay_layout.specs.cell_progress.Progress.{ClaimsKeepRows, FinishesKeepRows, GiveBacksKeepRows}
 use Rattle.lay_layout.specs.cell_progress.Settled.{CleansAt, FinishedCellsAreClean, GrantedClaimsAreReleased, ReusedCellsAreClean, claim_number}
-use Rattle.lay_cell_table.specs.shape.declared.cell_key.CellKey.{CellKey}
-use Rattle.lay_cell_table.specs.cell_work.CellInputs.{CellInput}
-use Rattle.lay_cell_table.specs.cell_work.CellLocal.{IsCellLocal}
-use Rattle.lay_cell_table.specs.cell_work.CellValues.{CellValue}
-use Rattle.lay_cell_table.specs.cell_laws.SoundCells.{CellRow, CellState}
+use Rattle.lay_list_steps.specs.shape.declared.cell_key.CellKey.{CellKey}
+use Rattle.lay_list_steps.specs.cell_work.CellInputs.{CellInput}
+use Rattle.lay_list_steps.specs.cell_work.CellLocal.{IsCellLocal}
+use Rattle.lay_list_steps.specs.cell_work.CellValues.{CellValue}
+use Rattle.lay_list_steps.specs.cell_laws.SoundCells.{CellRow, CellState}
 use Rattle.lay_document_cells.specs.Settling.{AreCleanBefore, FinishesWork, GivesBackWork, GivesUpAt, Settles, SettlesAt, SettlesFirst, SettlesTo, StopsAt, computed, granted, next, none, reused, taken, unclaimed}
 use Rattle.lay_document_cells.specs.State.{State}
 use Rattle.lay_document_cells.specs.Steps.{CellDone, ClaimsTo, FinishesTo, GivesBackTo}

@@ -8,9 +8,9 @@ use Rattle.lay_layout.specs.cells.Reads.{AllClean, IsFirstDirtyKey}
 use Rattle.lay_layout.specs.cells.Rows.{entry_of}
 use Rattle.lay_layout.specs.cells.Shapes.{IsShape}
 use Rattle.lay_layout.proofs.lay_cells.Lists.{map_at, map_got, one_at, some_inj}
-use Rattle.lay_cell_table.specs.shape.declared.cell_key.CellKey.{CellKey}
-use Rattle.lay_cell_table.specs.cell_work.Claims.{Claim}
-use Rattle.lay_cell_table.specs.cell_laws.SoundCells.{CellRow}
+use Rattle.lay_list_steps.specs.shape.declared.cell_key.CellKey.{CellKey}
+use Rattle.lay_list_steps.specs.cell_work.Claims.{Claim}
+use Rattle.lay_list_steps.specs.cell_laws.SoundCells.{CellRow}
 use Rattle.lay_document_cells.specs.Claims.{AnswersNext, ArePassed, DrawsFew, HasDirtyCell, IsBusy, IsOpenToClaims, IsReady, Passes, none, reused, taken}
 use Rattle.lay_document_cells.specs.Settling.{AreCleanBefore}
 use Rattle.lay_document_cells.specs.State.{State}

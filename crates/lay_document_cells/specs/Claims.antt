@@ -7,10 +7,10 @@ use Rattle.lay_layout.specs.cells.Shapes.{IsIn}
 use Rattle.lay_layout.specs.cells.declared.answers.Claimed.{Claimed}
 use Rattle.lay_layout.specs.cells.declared.answers.Claimed.TheVariants as claimed
 use Rattle.lay_layout.specs.cells.declared.answers.Look.TheVariants as look
-use Rattle.lay_cell_table.specs.shape.declared.cell_key.CellKey.{CellKey}
-use Rattle.lay_cell_table.specs.cell_work.CellInputs.{CellInput}
-use Rattle.lay_cell_table.specs.cell_work.Claims.{Claim}
-use Rattle.lay_cell_table.specs.cell_laws.SoundCells.{CellRow}
+use Rattle.lay_list_steps.specs.shape.declared.cell_key.CellKey.{CellKey}
+use Rattle.lay_list_steps.specs.cell_work.CellInputs.{CellInput}
+use Rattle.lay_list_steps.specs.cell_work.Claims.{Claim}
+use Rattle.lay_list_steps.specs.cell_laws.SoundCells.{CellRow}
 use Rattle.lay_document_cells.specs.State.{State}
 use Rattle.lay_document_cells.specs.Steps.{ClaimsTo}
 use Rattle.lay_document_cells.specs.declared.answers.Answer.{Answer}

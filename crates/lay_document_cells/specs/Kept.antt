@@ -2,9 +2,9 @@
 use Rattle.std.specs.Prelude.{◌≡◌, ◌≤◌, List}
 use Rattle.lay_layout.specs.style.declared.style.Style.{Style}
 use Rattle.lay_layout.specs.cell_progress.Grants.{laid_of_all}
-use Rattle.lay_cell_table.specs.cell_laws.DocumentCells.{AreDocumentCells}
+use Rattle.lay_list_steps.specs.cell_laws.DocumentCells.{AreDocumentCells}
 use Rattle.lay_cell_table.specs.CellTables.{CellTable}
-use Rattle.lay_cell_table.specs.changes.ContextFlags.{ContextLists}
+use Rattle.lay_list_steps.specs.changes.ContextFlags.{ContextLists}
 use Rattle.lay_layout.specs.context.Medium.{Medium}
 use Rattle.lay_layout.specs.context.Solves.{medium_of}
 use Rattle.lay_document_cells.specs.State.{AreStyledLists, State}

@@ -9,7 +9,7 @@ pub mod Outcomes
 pub mod Kept
 pub mod TreeLengths
 pub mod Laws
-pub use Rattle.lay_cell_table.specs.cell_laws as cell_laws
-pub use Rattle.lay_cell_table.specs.cell_work as cell_work
+pub use Rattle.lay_list_steps.specs.cell_laws as cell_laws
+pub use Rattle.lay_list_steps.specs.cell_work as cell_work
 pub use Rattle.lay_claims.specs as claim_lists
-pub use Rattle.lay_cell_table.specs.shape as shape
+pub use Rattle.lay_list_steps.specs.shape as shape

@@ -9,10 +9,10 @@ use Rattle.lay_layout.specs.cells.declared.answers.Finished.TheVariants.{Cleaned
 use Rattle.lay_layout.specs.cells.declared.answers.Released.{Released as Answer}
 use Rattle.lay_layout.specs.cells.declared.answers.Released.TheVariants.{Released}
 use Rattle.lay_layout.specs.cell_progress.Settled.{claim_number}
-use Rattle.lay_cell_table.specs.shape.declared.cell_key.CellKey.{CellKey}
-use Rattle.lay_cell_table.specs.cell_work.CellInputs.{CellInput}
-use Rattle.lay_cell_table.specs.cell_work.CellValues.{CellValue}
-use Rattle.lay_cell_table.specs.cell_laws.SoundCells.{CellRow}
+use Rattle.lay_list_steps.specs.shape.declared.cell_key.CellKey.{CellKey}
+use Rattle.lay_list_steps.specs.cell_work.CellInputs.{CellInput}
+use Rattle.lay_list_steps.specs.cell_work.CellValues.{CellValue}
+use Rattle.lay_list_steps.specs.cell_laws.SoundCells.{CellRow}
 use Rattle.lay_document_cells.specs.State.{State}
 use Rattle.lay_document_cells.specs.Steps.{ClaimsTo, FinishesTo, GivesBackTo}
 

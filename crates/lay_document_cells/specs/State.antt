@@ -8,11 +8,11 @@ use Rattle.lay_layout.specs.cells.Reshapes.{Reshapes}
 use Rattle.lay_layout.specs.cell_progress.Grants.{laid_of_all}
 use Rattle.lay_layout.specs.contexts.ContextList.{AreContextsOf}
 use Rattle.lay_layout.specs.contexts.FormattingContextList.{AreFormattingContextsOf}
-use Rattle.lay_cell_table.specs.shape.Shapes.{shape_of}
-use Rattle.lay_cell_table.specs.cell_laws.DocumentCells.{AreDocumentCells}
-use Rattle.lay_cell_table.specs.cell_laws.SoundCells.{CellState}
-use Rattle.lay_cell_table.specs.cell_steps.CellSteps.{no_cells}
-use Rattle.lay_cell_table.specs.changes.ContextFlags.{ContextLists}
+use Rattle.lay_list_steps.specs.shape.Shapes.{shape_of}
+use Rattle.lay_list_steps.specs.cell_laws.DocumentCells.{AreDocumentCells}
+use Rattle.lay_list_steps.specs.cell_laws.SoundCells.{CellState}
+use Rattle.lay_list_steps.specs.cell_steps.CellSteps.{no_cells}
+use Rattle.lay_list_steps.specs.changes.ContextFlags.{ContextLists}
 
 pub record State : Type 0 where
   pub document : Document

@@ -11,13 +11,13 @@ use Rattle.lay_layout.specs.cells.declared.answers.Look.TheVariants.{Ready}
 use Rattle.lay_layout.specs.cells.declared.answers.Released.{Released}
 use Rattle.lay_layout.specs.context.declared.task.Phase.{Phase}
 use Rattle.lay_layout.specs.context.Solves.{medium_of}
-use Rattle.lay_cell_table.specs.shape.declared.cell_key.CellKey.{CellKey}
-use Rattle.lay_cell_table.specs.cell_work.CellInputs.{CellInput}
-use Rattle.lay_cell_table.specs.cell_work.CellLocal.{IsCellLocal}
-use Rattle.lay_cell_table.specs.cell_work.CellValues.{CellValue}
-use Rattle.lay_cell_table.specs.cell_work.PresentInputs.{key_of}
-use Rattle.lay_cell_table.specs.cell_laws.SoundCells.{CellState, input_now}
-use Rattle.lay_cell_table.specs.changes.ContextFlags.{ContextLists}
+use Rattle.lay_list_steps.specs.shape.declared.cell_key.CellKey.{CellKey}
+use Rattle.lay_list_steps.specs.cell_work.CellInputs.{CellInput}
+use Rattle.lay_list_steps.specs.cell_work.CellLocal.{IsCellLocal}
+use Rattle.lay_list_steps.specs.cell_work.CellValues.{CellValue}
+use Rattle.lay_list_steps.specs.cell_work.PresentInputs.{key_of}
+use Rattle.lay_list_steps.specs.cell_laws.SoundCells.{CellState, input_now}
+use Rattle.lay_list_steps.specs.changes.ContextFlags.{ContextLists}
 use Rattle.lay_document_cells.specs.State.{AreListsOf, State}
 
 abbrev pub CellDone : Type 0

@@ -4,8 +4,8 @@ use Rattle.std.specs.Prelude.{ℕ, ◌≡◌, ◌≢◌, ◌⊎◌, ◌+◌, ◌
 use Rattle.lay_layout.specs.cells.Looks.{IsAt}
 use Rattle.lay_layout.specs.cells.Places.{IsClaimed}
 use Rattle.lay_layout.specs.cells.Rows.{entry_of}
-use Rattle.lay_cell_table.specs.cell_work.Claims.{Claim}
-use Rattle.lay_cell_table.specs.cell_laws.SoundCells.{CellRow}
+use Rattle.lay_list_steps.specs.cell_work.Claims.{Claim}
+use Rattle.lay_list_steps.specs.cell_laws.SoundCells.{CellRow}
 use Rattle.lay_document_cells.specs.Claims.{GrantsClaim, IsReady, Passes}
 use Rattle.lay_document_cells.specs.State.{State}
 use Rattle.lay_document_cells.specs.declared.walking.Passed.{Passed}

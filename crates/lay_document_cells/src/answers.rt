@@ -1,7 +1,7 @@
 //! What claims of the cells of a document are answered.
 
-use lay_cell_table::cell_work::Claim;
-use lay_cell_table::shape::CellKey;
+use lay_list_steps::cell_work::Claim;
+use lay_list_steps::shape::CellKey;
 
 /// What a claim of a key comes to.
 #[derive(Drop)]

@@ -10,9 +10,9 @@ ghost use Rattle.lay_document_cells.specs.Steps.{GivesBackTo};
 use crate::answers::Answer;
 use crate::document_cells::DocumentCells;
 use crate::walking::CLAIM_NUMBERS;
-use lay_cell_table::cell_work::Claim;
-use lay_cell_table::shape::CellKey;
 use lay_layout::cells::{Claimed, Look, Released};
+use lay_list_steps::cell_work::Claim;
+use lay_list_steps::shape::CellKey;
 
 impl DocumentCells {
     /// Claims the cell of a key: Gone where there is none, Clean where it is clean, Waiting where it depends on a dirty one; else Spent

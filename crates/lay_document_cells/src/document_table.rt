@@ -4,23 +4,23 @@ ghost use Rattle.std.specs.Prelude.{◌≡◌, ◌+◌, IfOk, IfSome, None, OnOk
 ghost use Rattle.lay_layout.specs.style.ComputedStyle.{HasStyles};
 ghost use Rattle.lay_layout.specs.doc.Document.{declarations_of, parents_of};
 ghost use Rattle.lay_layout.specs.doc.Edits.{after, fault};
-ghost use Rattle.lay_layout.specs.edits.EditLists.{after_all, first};
-ghost use Rattle.lay_cell_table.specs.changes.ContextFlags.{AreContextFlags};
+ghost use Rattle.lay_layout.specs.edit_lists.EditLists.{after_all, first};
+ghost use Rattle.lay_list_steps.specs.changes.ContextFlags.{AreContextFlags};
 ghost use Rattle.lay_layout.specs.contexts.FormattingContextList.{AreFormattingContextsOf};
 ghost use Rattle.lay_later_contexts.specs.Links.{AreRestyled};
 ghost use Rattle.lay_document_cells.specs.State.{AreStyledLists};
 
 use lay_cell_table::CellTable;
-use lay_cell_table::changes::MeasuredContexts;
 use lay_later_cells::MeasuredList;
 use lay_later_contexts::{EditedDoc, LaterContexts, contexts_after};
 use lay_layout::contexts::{Contexts, contexts_of};
 use lay_layout::doc::{Doc, Edit};
-use lay_layout::edits::Edits;
+use lay_layout::edit_lists::Edits;
 use lay_layout::inherit::computed;
 use lay_layout::restyled::restyled;
 use lay_layout::style::Computed;
 use lay_layout::units::NoMemory;
+use lay_list_steps::changes::MeasuredContexts;
 use std::alloc::Global;
 use std::marker::Model;
 
@@ -33,7 +33,7 @@ pub(crate) struct DocumentTable {
 }
 
 impl Model for DocumentTable {
-    ghost use Rattle.lay_cell_table.specs.changes.ContextFlags.{AreContextFlags};
+    ghost use Rattle.lay_list_steps.specs.changes.ContextFlags.{AreContextFlags};
     ghost use Rattle.lay_document_cells.specs.Kept.{TableValue, lists_in};
 
     ghost Value = { TableValue };

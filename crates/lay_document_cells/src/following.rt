@@ -2,19 +2,19 @@
 
 ghost use Rattle.std.specs.Prelude.{◌≡◌, ◌≤◌, ◌+◌, ◌^◌, IfSome, OnErr, OnOk, map};
 ghost use Rattle.lay_layout.specs.cell_progress.Grants.{laid_of_all};
-ghost use Rattle.lay_cell_table.specs.shape.Keys.{AreOfOwnNodes};
+ghost use Rattle.lay_list_steps.specs.shape.Keys.{AreOfOwnNodes};
 ghost use Rattle.lay_layout.specs.cells.Rows.{entry_of};
-ghost use Rattle.lay_cell_table.specs.shape.Shapes.{shape_of};
+ghost use Rattle.lay_list_steps.specs.shape.Shapes.{shape_of};
 ghost use Rattle.lay_later_contexts.specs.Links.{AreRestyled};
 ghost use Rattle.lay_document_cells.specs.Edits.{FollowsLists};
 
 use crate::document_table::{DocumentTable, EditedTable};
-use lay_cell_table::cell_work::Layout;
-use lay_cell_table::changes::changed_keys;
 use lay_later_cells::{keys_of_restyled, shapes_stay};
 use lay_layout::cell_progress::{marks_count, reshapes_count, reshapes_draw};
 use lay_layout::cells::{Cells, present_shape_keeps};
 use lay_layout::units::NoMemory;
+use lay_list_steps::cell_work::Layout;
+use lay_list_steps::changes::changed_keys;
 use std::alloc::Global;
 
 /// The cells of the contexts before an edit become those of the contexts after it. On an error they are as before.

@@ -3,9 +3,6 @@
 ghost use Rattle.lay_document_cells.specs.TreeLengths.{TreesListContexts};
 ghost use Rattle.lay_document_cells.specs.Laws.{BatchesWork, ClaimsWork, CleanCellsAreCounted, NextClaimsWork, OneEdit, OutcomesWork, SettlingGivesNothingBack, SettlingWorks, StoppingWorks, WorkKeepsCells};
 
-use lay_cell_table::cell_work::Layout;
-use lay_cell_table::changes::one_list_of_touched_keys;
-use lay_cell_table::shape::{cells_have_a_shape, contexts_are_of_own_nodes};
 use lay_layout::cell_progress::{
     claims_count, claims_keep_rows, clean_cells_count, finishes_count, finishes_keep_rows,
     give_backs_count, give_backs_keep_rows, keeping_is_transitive,
@@ -13,6 +10,9 @@ use lay_layout::cell_progress::{
 use lay_layout::cells::{one_marking, one_reshape};
 use lay_layout::contexts::{one_context_list, one_formatting_context_list};
 use lay_layout::doc::one_style_column;
+use lay_list_steps::cell_work::Layout;
+use lay_list_steps::changes::one_list_of_touched_keys;
+use lay_list_steps::shape::{cells_have_a_shape, contexts_are_of_own_nodes};
 
 /// Work on cells makes none anew, drops none and dirties none, and each grant is counted.
 pub fn work_keeps_cells()

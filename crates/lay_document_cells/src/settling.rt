@@ -8,14 +8,14 @@ ghost use Rattle.lay_layout.specs.cells.declared.answers.Look.TheVariants as loo
 ghost use Rattle.lay_document_cells.specs.Settling.{AreCleanBefore, FinishesWork, GivesBackWork, GivesUpAt, SettlesAt, SettlesTo, StopsAt};
 
 use crate::document_cells::DocumentCells;
-use lay_cell_table::cell_work::{CellInput, Layout, value_of_cell};
-use lay_cell_table::shape::CellKey;
 use lay_layout::cell_progress::{
     claims_keep_rows, finished_cells_are_clean, finishes_keep_rows, give_backs_keep_rows,
     granted_claims_are_released, reused_cells_are_clean,
 };
 use lay_layout::cells::{Claimed, Done, Look};
 use lay_layout::units::NoMemory;
+use lay_list_steps::cell_work::{CellInput, Layout, value_of_cell};
+use lay_list_steps::shape::CellKey;
 use std::sync::Arc;
 
 impl DocumentCells {

@@ -8,10 +8,7 @@ ghost use Rattle.lay_layout.specs.cells.declared.answers.Look.TheVariants as loo
 ghost use Rattle.lay_document_cells.specs.Steps.{ClaimsTo, FinishesTo, GivesBackTo, IsGivenNow};
 
 use crate::document_cells::DocumentCells;
-use lay_cell_table::cell_steps::{claims_keep_cells, finishes_keep_cells, give_backs_keep_cells};
-use lay_cell_table::cell_work::{CellInput, Layout};
 use lay_cell_table::input_at;
-use lay_cell_table::shape::CellKey;
 use lay_layout::cell_progress::{
     claims_count, finishes_count, finishes_keep_rows, give_backs_count, give_backs_keep_rows,
 };
@@ -19,6 +16,9 @@ use lay_layout::cells::{Claimed, Done, Finished, Released};
 use lay_layout::contexts::{one_context_list, one_formatting_context_list};
 use lay_layout::doc::one_style_column;
 use lay_layout::units::NoMemory;
+use lay_list_steps::cell_steps::{claims_keep_cells, finishes_keep_cells, give_backs_keep_cells};
+use lay_list_steps::cell_work::{CellInput, Layout};
+use lay_list_steps::shape::CellKey;
 use std::sync::Arc;
 
 impl DocumentCells {

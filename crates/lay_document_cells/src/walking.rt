@@ -11,10 +11,10 @@ ghost use Rattle.lay_document_cells.specs.Walks.{DrawsFrom, IsLeastAfter, IsLess
 
 use crate::answers::Next;
 use crate::document_cells::DocumentCells;
-use lay_cell_table::cell_work::{CellInput, Claim, Layout};
 use lay_layout::cell_progress::claims_keep_rows;
 use lay_layout::cells::{Claimed, Look};
 use lay_layout::units::NoMemory;
+use lay_list_steps::cell_work::{CellInput, Claim, Layout};
 use std::sync::Arc;
 
 /// So many numbers are drawn by claims; those above are kept for edits and for settling.

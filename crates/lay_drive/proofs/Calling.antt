@@ -1,7 +1,7 @@
 -- The calls of a pass, one by one.
 use Rattle.std.proofs.Common.{◌≡◌, ℕ, suc, ◌+◌, ◌<◌, ◌≤◌, List, [], ◌∷◌, ◌++◌, length, refl, sym, ap, ◌∙◌, arith, append_assoc, append-nil, length-append}
-use Rattle.lay_layout.specs.edits.declared.command.Cmd.{Cmd}
-use Rattle.lay_layout.specs.edits.declared.history.Entry.{Entry}
+use Rattle.lay_layout.specs.edit_lists.declared.command.Cmd.{Cmd}
+use Rattle.lay_layout.specs.edit_lists.declared.history.Entry.{Entry}
 use Rattle.lay_layout.specs.history.Calls.{Call, call_in, calls, script_calls}
 use Rattle.lay_layout.proofs.lay_history.OneMore.{calls_more}
 use Rattle.lay_board.specs.Passes.{Calls, PassOf}

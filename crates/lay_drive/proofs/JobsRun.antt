@@ -4,8 +4,8 @@ use Rattle.std.proofs.lemmas.List.{length-map}
 use Rattle.std.proofs.lemmas.Option.{get_or_from_slice_get, slice_get-get_or, same_Some, slice_get-map, slice_get_within}
 use Rattle.std.specs.List.{All}
 use Rattle.atomic_table.specs.Seated.{TableId}
-use Rattle.lay_layout.specs.edits.declared.command.Cmd.{Cmd}
-use Rattle.lay_layout.specs.edits.declared.history.Entry.{Entry}
+use Rattle.lay_layout.specs.edit_lists.declared.command.Cmd.{Cmd}
+use Rattle.lay_layout.specs.edit_lists.declared.history.Entry.{Entry}
 use Rattle.lay_layout.specs.history.Calls.{AnswersScripts, calls, calls_of, script_calls}
 use Rattle.lay_board.specs.editing_core.Publishing.{RefreshesTo}
 use Rattle.lay_board.specs.editing_core.State.{State}

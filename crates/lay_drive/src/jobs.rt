@@ -4,7 +4,7 @@ ghost use Rattle.std.specs.Prelude.{◌≡◌, ◌≤◌, length, map, IfOk};
 ghost use Rattle.std.specs.List.{All};
 
 use lay_board::Pass;
-use lay_layout::edits::CmdList;
+use lay_layout::edit_lists::CmdList;
 use lay_layout::run::ScriptList;
 use lay_layout::units::NoMemory;
 use std::alloc::Global;

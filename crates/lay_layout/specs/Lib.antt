@@ -9,7 +9,7 @@ pub use Rattle.lay_context.specs as context
 pub use Rattle.lay_context_sizes.specs as context_sizes
 pub use Rattle.lay_contexts.specs as contexts
 pub use Rattle.lay_doc.specs as doc
-pub use Rattle.lay_edits.specs as edits
+pub use Rattle.lay_edits.specs as edit_lists
 pub use Rattle.lay_face.specs as face
 pub use Rattle.lay_flow_boxes.specs as flow_boxes
 pub use Rattle.lay_frag.specs as frag

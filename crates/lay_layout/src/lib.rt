@@ -16,7 +16,7 @@ pub use lay_context as context;
 pub use lay_context_sizes as context_sizes;
 pub use lay_contexts as contexts;
 pub use lay_doc as doc;
-pub use lay_edits as edits;
+pub use lay_edits as edit_lists;
 pub use lay_face as face;
 pub use lay_flow_boxes as flow_boxes;
 pub use lay_frag as frag;

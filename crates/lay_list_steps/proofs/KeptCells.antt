@@ -1,5 +1,5 @@
 -- Cells that follow the contexts of a document through a list of edits are those of the document after it.
-use Rattle.lay_layout.specs.edits.EditLists.{after_all}
+use Rattle.lay_layout.specs.edit_lists.EditLists.{after_all}
 use Rattle.lay_layout.proofs.lay_edits.Lists.{lists_leave_documents}
 use Rattle.lay_cell_steps.specs.cell_laws.KeptInputs.{InputsAreKept}
 use Rattle.lay_cell_steps.proofs.FollowedRows.{followed}

@@ -1,78 +1,24 @@
 -- The first context of a document is of its first node, which no list of edits puts another one before or takes out. So the root's context
 -- stays the first.
-use Rattle.std.proofs.Common.{◌≡◌, ◌<◌, ℕ, Bool, true, false, IsTrue, suc, List, All, [], ◌∷◌, length, slice_index, Option, None, Some, refl, ap, sym, subst, ◌∙◌, arith}
-use Rattle.std.proofs.lemmas.List.{get_or-map}
+use Rattle.std.proofs.Common.{◌≡◌, ◌<◌, ℕ, suc, List, All, [], ◌∷◌, length, slice_index, None, refl, ap, sym, ◌∙◌, arith}
 use Rattle.lay_layout.specs.style.declared.style.Style.{Style}
 use Rattle.lay_layout.specs.doc.declared.node.NodeId.{NodeId}
 use Rattle.lay_layout.specs.doc.Document.{Document, IsDocument, ids_of}
-use Rattle.lay_layout.specs.doc.Edits.{after, fault}
+use Rattle.lay_layout.specs.doc.Edits.{after}
 use Rattle.lay_layout.specs.doc.declared.edit.Edit.{Edit}
 use Rattle.lay_layout.specs.doc.Laws.{PutsNode}
 use Rattle.lay_layout.proofs.lay_doc.EditedDocuments.{edits_leave_documents}
 use Rattle.lay_layout.proofs.lay_doc.NodeColumns.{length-parents}
-use Rattle.lay_layout.specs.box_tree.BoxColumns.{box_at as own_at}
-use Rattle.lay_layout.specs.box_tree.declared.box_tree.BoxNode.{BoxNode}
-use Rattle.lay_layout.specs.anonymous_boxes.Boxes.{Tree, Trees, tree, trees_of}
-use Rattle.lay_layout.specs.anonymous_boxes.declared.facts.Facts.{Facts}
-use Rattle.lay_layout.specs.boxgen.Contexts.{IsContextAt, box_at, is_marked}
-use Rattle.lay_layout.specs.boxgen.Laws.{inner_boxes}
-use Rattle.lay_layout.specs.boxgen.Listing.{listed_part}
-use Rattle.lay_layout.specs.boxgen.NodeTrees.{as_own, box_with, tree_at}
-use Rattle.lay_layout.specs.boxgen.Parts.{nothing, put_list}
-use Rattle.lay_layout.proofs.lay_boxgen.WholeParts.{context_is_one_box}
 use Rattle.lay_layout.specs.contexts.ContextList.{AreContextsOf}
-use Rattle.lay_layout.specs.contexts.ContextTree.{boxes_of_place}
-use Rattle.lay_layout.specs.contexts.Contexts.{Context, boxes_in}
-use Rattle.lay_layout.specs.contexts.DocumentContexts.{root_spot, spot_at}
-use Rattle.lay_layout.specs.contexts.NodeTreeLaws.{child_trees, children_places}
-use Rattle.lay_layout.specs.contexts.declared.context_spot.ContextSpot.{ContextSpot}
-use Rattle.lay_layout.proofs.lay_contexts.ChildTrees.{children_stand_in_order}
-use Rattle.lay_layout.proofs.lay_contexts.NodeFacts.{box_within, of_node}
-use Rattle.lay_shape_laws.specs.shape.Keys.{node_of}
-use Rattle.lay_shape_laws.proofs.lay_shape.OwnNodes.{box_node, contexts_are_of_own_nodes_lem}
-use Rattle.lay_shape_laws.proofs.FirstNodes.{first_id_stays}
-use Rattle.lay_layout.specs.edits.EditLists.{after_all, first}
+use Rattle.lay_layout.specs.contexts.Contexts.{Context}
+use Rattle.lay_layout.specs.edit_lists.EditLists.{after_all, first}
 use Rattle.lay_layout.proofs.lay_edits.Lists.{lists_leave_documents, none_first}
+use Rattle.lay_cell_steps.specs.shape.Keys.{node_of}
+use Rattle.lay_cell_steps.proofs.lay_shape.OwnNodes.{contexts_are_of_own_nodes_lem}
+use Rattle.lay_cell_steps.proofs.lay_shape_laws.FirstContexts.{first_node}
+use Rattle.lay_cell_steps.proofs.lay_shape_laws.FirstNodes.{first_id_stays}
 use Rattle.lay_cell_steps.proofs.FollowedRows.{RootStays}
 use Rattle.lay_list_steps.specs.EditedLists.{TakesList}
-
-is_true : (b : Bool) → IsTrue b → b ≡ true
-is_true true h = refl
-is_true false h = cc
-
-module _ (d : Document) (styles : List Style) (doc : IsDocument d) (same : length styles ≡ length d.nodes) where
-  -- the own box of a context is of its node
-  module _ (k : ℕ) (context : IsContextAt d.nodes styles k) where
-    abbrev own_id : ℕ
-    own_id = (own_at (boxes_of_place d.nodes styles k) 0).node.0
-
-    listed_first : (f : Facts) (us : Trees) → (own_at (listed_part d.nodes styles (put_list nothing (tree (as_own f) us ∷ []))) 0).node.0 ≡ f.node.0
-    listed_first f us = refl
-
-    of_box : (f : Facts) → box_at d.nodes styles k ≡ Some f → own_id ≡ slice_index (ids_of d.nodes) k
-    of_box f e =
-        let n = of_node d.nodes styles k f e in
-        let marked : f.inner ≡ true = is_true f.inner (subst (λ (o : Option Facts). IsTrue (is_marked o)) e context.establishes) in
-        let cs : List Tree = child_trees d.nodes styles (children_places d.nodes k) in
-        let mine : tree_at d.nodes styles k ≡ Some (tree f (trees_of cs)) =
-        children_stand_in_order d styles k doc same (box_within d.nodes styles k f e) ∙ ap (λ (o : Option Facts). box_with o cs) e in
-        let one = context_is_one_box d.nodes styles k f (trees_of cs) mine (n.no_inline marked) in
-        ap (λ (ts : List Tree). (own_at (listed_part d.nodes styles (put_list nothing ts)) 0).node.0) one ∙ listed_first f (inner_boxes d.nodes styles f) ∙ box_node d.nodes styles k f e
-
-    of_place : (o : Option Facts) → box_at d.nodes styles k ≡ o → own_id ≡ slice_index (ids_of d.nodes) k
-    of_place None e = absurd (let never : false ≡ true = subst (λ (o : Option Facts). IsTrue (is_marked o)) e context.establishes in cc)
-    of_place (Some f) e = of_box f e
-
-  -- the first one is that of the root
-  pub first_node : (contexts : List Context) → AreContextsOf d.nodes styles contexts → 0 < length contexts → (node_of contexts 0).0 ≡ slice_index (ids_of d.nodes) 0
-  first_node contexts of some =
-      let spots : List ContextSpot = of.spots in
-      let there : 0 < length spots = (let n = of.numbered.count in omega (arith, some, n)) in
-      let place : ℕ = (spot_at spots 0).place in
-      let boxes : boxes_in contexts 0 ≡ boxes_of_place d.nodes styles place =
-      (of.numbered.each 0 some).boxes_are ∙ get_or-map (λ (s : ContextSpot). boxes_of_place d.nodes styles s.place) spots 0 root_spot [] there in
-      let root : place ≡ 0 = ap (λ (s : ContextSpot). s.place) of.are.root in
-      ap (λ (bs : List BoxNode). (own_at bs 0).node.0) boxes ∙ of_place place (of.are.are 0 there) (box_at d.nodes styles place) refl ∙ ap (slice_index (ids_of d.nodes)) root
 
 first_ids_stay : (d : Document) (edits : List Edit) → IsDocument d → All PutsNode edits → first d edits ≡ None
     → slice_index (ids_of (after_all d edits).nodes) 0 ≡ slice_index (ids_of d.nodes) 0

@@ -14,8 +14,8 @@ use Rattle.lay_layout.specs.contexts.Contexts.{Context}
 use Rattle.lay_layout.specs.contexts.ContextList.{AreContextsOf}
 use Rattle.lay_layout.specs.contexts.FormattingContexts.{FormattingContext}
 use Rattle.lay_layout.specs.contexts.FormattingContextList.{AreFormattingContextsOf}
-use Rattle.lay_layout.specs.edits.EditLists.{after_all, first}
-use Rattle.lay_cell_steps.specs.cell_laws.cell_work.CellLocal.{IsCellLocal}
+use Rattle.lay_layout.specs.edit_lists.EditLists.{after_all, first}
+use Rattle.lay_cell_steps.specs.cell_work.CellLocal.{IsCellLocal}
 use Rattle.lay_cell_steps.specs.cell_laws.DocumentCells.{AreDocumentCells}
 use Rattle.lay_cell_steps.specs.cell_laws.SoundCells.{CellState}
 use Rattle.lay_cell_steps.specs.EditedCells.{FollowsContexts}

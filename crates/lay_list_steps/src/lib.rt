@@ -7,3 +7,7 @@
 mod laws;
 
 pub use laws::lists_keep_cells;
+pub use lay_cell_steps as cell_steps;
+pub use lay_cell_steps::{
+    cell_laws as cell_laws, cell_work as cell_work, changes as changes, shape as shape,
+};

@@ -74,8 +74,17 @@ fn push_call(text: &mut String, word: &str, editor: u32, index: u32) -> Result<(
     Ok(())
 }
 
+/// How the line of a command with so many edits ends: the reply, and the linefeed.
+pub fn answer_text(alloc: Global, count: usize, reply: Reply) -> Result<String, NoMemory>
+    ensures { IfOk result (λ text. string_bytes text ≡ reply_text count reply ++ codes "\n") }
+{
+    let mut text = String::new(alloc);
+    push_answer(&mut text, count, reply)?;
+    Ok(text)
+}
+
 /// Adds the end of the line: the reply to a command with so many edits.
-pub fn push_answer(text: &mut String, count: usize, reply: Reply) -> Result<(), NoMemory>
+fn push_answer(text: &mut String, count: usize, reply: Reply) -> Result<(), NoMemory>
     ensures { OnOk result (string_bytes text.new ≡ string_bytes text.old ++ reply_text count reply ++ codes "\n") }
 {
     push_reply(text, count, reply)?;

@@ -1,7 +1,7 @@
 -- The verdict on a core's report.
 use Rattle.std.proofs.Common.{◌≡◌, ◌∙◌, ℕ, List, refl, sym, ap, subst, Ok, Result}
 use Rattle.lay_layout.specs.doc.Document.{Document}
-use Rattle.lay_layout.specs.edits.declared.command.Cmd.{Cmd}
+use Rattle.lay_layout.specs.edit_lists.declared.command.Cmd.{Cmd}
 use Rattle.lay_layout.specs.face.FaceValue.{FaceValue}
 use Rattle.lay_layout.specs.run.Runs.{Run}
 use Rattle.lay_report.specs.Report.{run_report}

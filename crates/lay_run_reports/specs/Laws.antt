@@ -2,7 +2,7 @@
 -- core published are those that a layout from scratch makes of the documents of their versions, since a document has one.
 use Rattle.std.specs.Prelude.{ℕ, ◌≡◌, ◌<◌, ◌^◌, List, Ok, Some}
 use Rattle.lay_layout.specs.doc.Document.{IsDocument}
-use Rattle.lay_layout.specs.edits.declared.command.Cmd.{Cmd}
+use Rattle.lay_layout.specs.edit_lists.declared.command.Cmd.{Cmd}
 use Rattle.lay_layout.specs.history.Calls.{AnswersScripts}
 use Rattle.lay_layout.specs.frag.Pieces.{Context}
 use Rattle.lay_layout.specs.history.Histories.{doc_at}

@@ -58,7 +58,7 @@ module _ (d : Document) (styles : List Style) (doc : IsDocument d) (same : lengt
     of_place (Some f) e = of_box f e
 
   -- the first one is that of the root
-  first_node : (contexts : List Context) → AreContextsOf d.nodes styles contexts → 0 < length contexts → (node_of contexts 0).0 ≡ slice_index (ids_of d.nodes) 0
+  pub first_node : (contexts : List Context) → AreContextsOf d.nodes styles contexts → 0 < length contexts → (node_of contexts 0).0 ≡ slice_index (ids_of d.nodes) 0
   first_node contexts of some =
       let spots : List ContextSpot = of.spots in
       let there : 0 < length spots = (let n = of.numbered.count in omega (arith, some, n)) in

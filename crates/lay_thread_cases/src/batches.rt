@@ -3,14 +3,18 @@
 ghost use Rattle.std.specs.Prelude.{◌<◌, ◌≤◌, IfSome};
 
 use crate::shown;
-use lay_core::Core;
+use lay_drive::cell_work::Claim;
+use lay_drive::claim_lists::{ClaimList, Outcome, Outcomes};
+use lay_drive::editing_core::Core;
+use lay_drive::pool::{Hand, hands, run_batch};
 use lay_layout::units::NoMemory;
 use lay_outside::Gate;
-use lay_pool::claim_lists::{ClaimList, Outcomes};
-use lay_pool::{Hand, hands, run_batch};
 use std::alloc::Global;
 use std::thread;
 use std::thread::Threads;
+
+/// The most claims of a batch.
+const BATCH: u32 = 64;
 
 /// More batches than a document has cells.
 const BATCHES: u32 = 1_000_000;
@@ -22,23 +26,68 @@ pub(crate) enum Batch {
     None,
     /// Its claims are handed out.
     Claims(ClaimList),
-    /// They are computed.
+    /// They are computed, where memory wasn't wanting.
     Outcomes(Outcomes),
 }
 
-/// What comes of claims.
+/// A batch whose claims are computed. Where they were, those are computed once more for which memory was wanting.
 pub(crate) fn computed<R: Threads + Sync, G: Gate + Sync>(
     rt: &R,
     alloc: Global,
-    claims: ClaimList,
+    batch: Batch,
     workers: u32,
     gate: &G,
-) -> Result<Outcomes, NoMemory>
+) -> Result<Batch, NoMemory>
     requires { (0 < workers) × (workers ≤ 16) }
 {
-    match run_batch(rt, alloc, claims, workers, gate) {
-        Ok(outcomes) => Ok(outcomes),
-        Err(_) => Err(NoMemory),
+    match batch {
+        Batch::None => Ok(Batch::None),
+        Batch::Claims(claims) => match run_batch(rt, alloc, claims, workers, gate) {
+            Ok(outcomes) => Ok(Batch::Outcomes(outcomes)),
+            Err((NoMemory, claims)) => Ok(Batch::Claims(claims)),
+        },
+        Batch::Outcomes(outcomes) => completed(alloc, outcomes),
+    }
+}
+
+fn completed(alloc: Global, outcomes: Outcomes) -> Result<Batch, NoMemory> {
+    let mut all = Vec::new(alloc);
+    for outcome in outcomes.into_vec() {
+        all.push(match outcome {
+            Outcome::Done(done) => Outcome::Done(done),
+            Outcome::NoMemory(claim) => once_more(alloc, claim),
+        })?;
+    }
+    if all.len() > BATCH as usize {
+        return Ok(Batch::None);
+    }
+    Ok(Batch::Outcomes(Outcomes::new(all)))
+}
+
+fn once_more(alloc: Global, claim: Claim) -> Outcome {
+    match claim.compute(alloc) {
+        Ok(done) => Outcome::Done(done),
+        Err(claim) => Outcome::NoMemory(claim),
+    }
+}
+
+/// The claims of two lists, as far as there is room for them in one.
+pub(crate) fn joined(
+    alloc: Global,
+    first: ClaimList,
+    second: ClaimList,
+) -> Result<ClaimList, NoMemory> {
+    let mut all = ClaimList::with_room(alloc, BATCH)?;
+    add_all(&mut all, first);
+    add_all(&mut all, second);
+    Ok(all)
+}
+
+fn add_all(all: &mut ClaimList, claims: ClaimList) {
+    for claim in claims.into_vec() {
+        if all.len() < all.room() as usize {
+            all.push(claim);
+        }
     }
 }
 
@@ -92,7 +141,10 @@ pub(crate) fn lay<R: Threads + Sync, G: Gate + Sync>(
         if let Some(idle) = core.claim_some(limit, &mut list)? {
             return Ok(Some(shown::idle(alloc, &idle)?));
         }
-        let outcomes = computed(rt, alloc, list, workers, gate)?;
+        let outcomes = match run_batch(rt, alloc, list, workers, gate) {
+            Ok(outcomes) => outcomes,
+            Err(_) => return Err(NoMemory),
+        };
         let _tally = core.finish_all(outcomes);
     }
     Ok(None)

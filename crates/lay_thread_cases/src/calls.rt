@@ -2,8 +2,9 @@
 //!
 //!     hold POINT until POINT, ..     the gate of what is computed then: it holds whoever is at a point until others were reached
 //!     met                            whether that gate let a thread go since they were
-//!     claim LIMIT                    the claims that are handed out, or why there is none (`shown.rt`)
-//!     compute WORKERS                what comes of these claims, in order
+//!     claim LIMIT                    the claims that are handed out, or why there is none (`shown.rt`); they stand behind those in hand
+//!     compute WORKERS                what comes of the claims in hand, in order; where memory was wanting for some, of these once more
+//!     held                           the claims in hand, or those of which the outcomes in hand are
 //!     share WORKERS                  deals these claims to the first of so many workers that live on, and has all of them work and finish
 //!                                    what comes of them; how many of these cells are clean then
 //!     finish                         how many of these outcomes were answered which way
@@ -14,18 +15,20 @@
 //!                                    was worked out to the end of the last one; what `bench/threads` reads
 //!     laid, draws
 //!     as-scratch                     whether the tree that is published now is that of a layout from nothing
+//!
+//! Where `claim` or `compute` lacks memory the answer is `no memory`, and where another call does the program ends.
 
-use crate::batches::{Batch, computed, lay, number, shared};
+use crate::batches::{Batch, computed, joined, lay, number, shared};
 use crate::gates::{CaseGate, gate};
 use crate::shown;
 use crate::span::Span;
-use lay_core::{Core, Publish};
+use lay_drive::claim_lists::{ClaimList, Outcome};
 use lay_drive::drive;
+use lay_drive::editing_core::{Core, Publish};
 use lay_json::read_run;
 use lay_layout::context::scratch;
 use lay_layout::frag::text_of;
 use lay_layout::units::NoMemory;
-use lay_pool::claim_lists::ClaimList;
 use std::alloc::Global;
 use std::mem::replace;
 use std::sync::Wait;
@@ -67,6 +70,7 @@ impl OneCore {
             "met" => self.met(alloc),
             "claim" => self.claim(alloc, rest),
             "compute" => self.compute(rt, alloc, rest),
+            "held" => self.held(alloc),
             "share" => self.share(rt, alloc, rest),
             "finish" => self.finish(alloc),
             "lay" => self.lay(rt, alloc, rest),
@@ -101,11 +105,16 @@ impl OneCore {
             return Ok(None);
         };
         let mut list = ClaimList::with_room(alloc, limit)?;
-        if let Some(idle) = self.core.claim_some(limit, &mut list)? {
-            return Ok(Some(shown::idle(alloc, &idle)?));
+        match self.core.claim_some(limit, &mut list) {
+            Ok(None) => {}
+            Ok(Some(idle)) => return Ok(Some(shown::idle(alloc, &idle)?)),
+            Err(NoMemory) => return Ok(Some(shown::lacks(alloc)?)),
         }
         let answer = shown::claims(alloc, list.as_slice())?;
-        self.batch = Batch::Claims(list);
+        self.batch = match replace(&mut self.batch, Batch::None) {
+            Batch::Claims(held) => Batch::Claims(joined(alloc, held, list)?),
+            _ => Batch::Claims(list),
+        };
         Ok(Some(answer))
     }
 
@@ -118,14 +127,22 @@ impl OneCore {
         let Some(workers) = number(rest, 16) else {
             return Ok(None);
         };
-        match replace(&mut self.batch, Batch::None) {
-            Batch::Claims(claims) => {
-                let outcomes = computed(rt, alloc, claims, workers, &self.gate)?;
-                let answer = shown::outcomes(alloc, outcomes.as_slice())?;
-                self.batch = Batch::Outcomes(outcomes);
-                Ok(Some(answer))
+        let batch = replace(&mut self.batch, Batch::None);
+        self.batch = computed(rt, alloc, batch, workers, &self.gate)?;
+        match &self.batch {
+            Batch::Outcomes(outcomes) if !is_lacking(outcomes.as_slice()) => {
+                Ok(Some(shown::outcomes(alloc, outcomes.as_slice())?))
             }
-            _ => Ok(None),
+            Batch::None => Ok(None),
+            _ => Ok(Some(shown::lacks(alloc)?)),
+        }
+    }
+
+    fn held(&self, alloc: Global) -> Result<Option<String>, NoMemory> {
+        match &self.batch {
+            Batch::None => Ok(None),
+            Batch::Claims(claims) => Ok(Some(shown::claims(alloc, claims.as_slice())?)),
+            Batch::Outcomes(outcomes) => Ok(Some(shown::outcomes(alloc, outcomes.as_slice())?)),
         }
     }
 
@@ -195,6 +212,16 @@ impl OneCore {
             Publish::NoMemory => Err(NoMemory),
         }
     }
+}
+
+/// Whether memory was wanting for a claim.
+fn is_lacking(outcomes: &[Outcome]) -> bool {
+    for outcome in outcomes {
+        if let Outcome::NoMemory(_claim) = outcome {
+            return true;
+        }
+    }
+    false
 }
 
 fn is_as_scratch(alloc: Global, core: &Core, version: u64) -> Result<Option<String>, NoMemory> {

@@ -3,7 +3,8 @@
 //!
 //! `NAME.json` is a run document, whose editors are taken as none. `NAME.batches` beside it has cases, each over a core of that document:
 //! a line `case NAME`, and calls that are made in turn, each a line `CALL -> ANSWER`, or `CALL` where the answer is `done`. Lines that
-//! begin with `#` are remarks. Which calls there are is said in `calls.rt`.
+//! begin with `#` are remarks. Which calls there are is said in `calls.rt`, and what of a call that lacks memory in `case.rt`;
+//! `bench/refuse_calls` has each request for memory of the cases in `refusals.batches` refused.
 #![tactic(auto)]
 
 mod batches;
@@ -14,9 +15,9 @@ mod shown;
 mod span;
 
 use crate::calls::OneCore;
-use crate::case::first_difference;
+use crate::case::{Comparison, compared};
 use anyhow::{Context, Result, bail};
-use lay_core::Core;
+use lay_drive::editing_core::Core;
 use lay_json::read_run;
 use std::alloc::Global;
 use std::rt::{Env, Files};
@@ -70,9 +71,10 @@ fn go_through<R: Files + Print + AllocGlobal + Threads + Wait + Clock + Sync>(
         let bytes = document(rt, folder, name)?;
         let core = core(rt.alloc(), name, &bytes)?;
         let mut subject = OneCore::new(core, bytes);
-        match first_difference(rt, rt.alloc(), &mut subject, lines)? {
-            None => println!(rt; "{name}: {case}: ok")?,
-            Some(found) => println!(rt; "{name}: {case}: NOT SO, but {found}")?,
+        let Comparison { other, lacking } = compared(rt, rt.alloc(), &mut subject, lines)?;
+        match other {
+            None => println!(rt; "{name}: {case}: ok{lacking}")?,
+            Some(other) => println!(rt; "{name}: {case}: NOT SO, but {other}{lacking}")?,
         }
     }
     Ok(())

@@ -1,11 +1,11 @@
 //! How claims, what comes of them and what is made of that are written.
 
-use lay_core::{Idle, IdleKind, Tally};
+use lay_drive::cell_work::Claim;
+use lay_drive::claim_lists::Outcome;
+use lay_drive::editing_core::{Idle, IdleKind, Tally};
+use lay_drive::shape::CellKey;
 use lay_layout::context::Phase;
 use lay_layout::units::NoMemory;
-use lay_pool::cell_work::Claim;
-use lay_pool::claim_lists::Outcome;
-use lay_pool::shape::CellKey;
 use std::alloc::Global;
 
 pub(crate) fn key(alloc: Global, key: CellKey) -> Result<String, NoMemory> {
@@ -32,21 +32,23 @@ pub(crate) fn claims(alloc: Global, claims: &[Claim]) -> Result<String, NoMemory
     Ok(text)
 }
 
-/// Outcomes in the same form.
+/// The claims that outcomes are of, in the same form.
 pub(crate) fn outcomes(alloc: Global, outcomes: &[Outcome]) -> Result<String, NoMemory> {
     let mut text = String::new(alloc);
     for outcome in outcomes {
         let blank = if text.is_empty() { "" } else { ", " };
-        match outcome {
-            Outcome::Done(done) => {
-                write!(text, "{blank}{} {}", done.number(), key(alloc, done.key())?)?;
-            }
-            Outcome::NoMemory(claim) => {
-                write!(text, "{blank}no memory for {}", key(alloc, claim.key())?)?;
-            }
-        }
+        let (number, of) = match outcome {
+            Outcome::Done(done) => (done.number(), done.key()),
+            Outcome::NoMemory(claim) => (claim.number(), claim.key()),
+        };
+        write!(text, "{blank}{number} {}", key(alloc, of)?)?;
     }
     Ok(text)
+}
+
+/// The answer of a call that lacks memory.
+pub(crate) fn lacks(alloc: Global) -> Result<String, NoMemory> {
+    Ok(String::from_str(alloc, "no memory")?)
 }
 
 pub(crate) fn idle(alloc: Global, idle: &Idle) -> Result<String, NoMemory> {

@@ -14,11 +14,11 @@ pub invariant_of-self : goal.invariant_of-self
 invariant_of-self c =
     let some = rw (← c.self.view_is) at c.requires.calls in
     rw (c.push_reserved.ensures.items, c.push_reserved.ensures.capacity)
-    (edit_leaves _ _ _ c.self.invariant.0 c.self.invariant.1 some c.args.editor c.args.index c.args.edit c.edited-reply.result c.edited-reply.new.cells
+    (edit_leaves _ _ _ c.self.invariant.0 c.self.invariant.1 some c.args.editor c.args.index c.args.edits c.edited-reply.result c.edited-reply.new.cells
     c.edited-reply.new.accepted c.edited-reply.ensures.change c.edited-reply.ensures.draws c.sound.ensures)
 
 pub returns-clause-edits : goal.returns-clause-edits
 returns-clause-edits c =
     rw (c.push_reserved.ensures.items)
-    (edits_of _ _ _ _ c.self.view_is c.self.invariant.0 c.args.editor c.args.index c.args.edit c.edited-reply.result c.edited-reply.new.cells
+    (edits_of _ _ _ _ c.self.view_is c.self.invariant.0 c.args.editor c.args.index c.args.edits c.edited-reply.result c.edited-reply.new.cells
     c.edited-reply.new.accepted c.edited-reply.ensures.change)

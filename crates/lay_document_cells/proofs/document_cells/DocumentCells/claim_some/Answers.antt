@@ -1,6 +1,6 @@
 use Rattle.std.proofs.Common.{ap, arith, inl, length, refl, subst, sym, ◌∙◌}
 use Rattle.lay_layout.specs.cells.Sound.{IsSound}
-use Rattle.lay_cell_table.specs.cell_work.CellLocal.{IsCellLocal}
+use Rattle.lay_list_steps.specs.cell_work.CellLocal.{IsCellLocal}
 use Rattle.lay_claims.specs.ClaimLists.{ClaimList}
 use Rattle.lay_document_cells.specs.Batches.{Grants, more, start}
 use Rattle.lay_document_cells.specs.State.{State}

@@ -3,11 +3,12 @@ use Rattle.lay_layout.specs.context.Solves.{medium_of}
 use Rattle.lay_layout.specs.doc.Document.{Document, IsDocument}
 use Rattle.lay_layout.specs.doc.Laws.{PutsNode}
 use Rattle.lay_layout.specs.doc.declared.edit.Edit.{Edit}
-use Rattle.lay_layout.specs.edits.EditLists.{first}
+use Rattle.lay_layout.specs.edit_lists.EditLists.{first}
 use Rattle.lay_document_cells.specs.State.{AreStyledLists, State}
 use Rattle.lay_document_cells.proofs.Answered.{err_any, ok_none, own_nodes}
 use Rattle.lay_document_cells.proofs.KeptSteps.{state_of}
 use Rattle.lay_document_cells.proofs.EditSteps.{edit_kept, edited_to}
+use Rattle.lay_document_cells.proofs.ListFaults.{if_err_all, none_at_first}
 use Rattle.lay_document_cells.proofs.document_cells.DocumentCells.edit.Goals as goal
 
 pub follow_lists-requires-clause-apart : goal.follow_lists-requires-clause-apart
@@ -52,3 +53,18 @@ returns-in_err-follow_lists-clause-err c =
 pub become_edited-requires-clause-no_fault : goal.become_edited-requires-clause-no_fault
 become_edited-requires-clause-no_fault c =
     subst (λ (d : Document). first d c.args.edits.now ≡ None) (sym c.edited.ensures.same) (rw c.in_ok-doc.was at c.edited.ensures.answer)
+
+pub returns-in_err-later-clause-memory : goal.returns-in_err-later-clause-memory
+returns-in_err-later-clause-memory c =
+    let none = subst (λ (x : State). first x.document c.args.edits.now ≡ None) c.self.view_is (rw c.in_ok-doc.was at c.edited.ensures.answer) in
+    if_err_all c.from_residual-in_err-later.result _ (λ e ran_out. none_at_first c.args.self.now.document c.args.edits.now none)
+
+pub returns-in_err-shared-clause-memory : goal.returns-in_err-shared-clause-memory
+returns-in_err-shared-clause-memory c =
+    let none = subst (λ (x : State). first x.document c.args.edits.now ≡ None) c.self.view_is (rw c.in_ok-doc.was at c.edited.ensures.answer) in
+    if_err_all c.from_residual-in_err-shared.result _ (λ e ran_out. none_at_first c.args.self.now.document c.args.edits.now none)
+
+pub returns-in_err-follow_lists-clause-memory : goal.returns-in_err-follow_lists-clause-memory
+returns-in_err-follow_lists-clause-memory c =
+    let none = subst (λ (x : State). first x.document c.args.edits.now ≡ None) c.self.view_is (rw c.in_ok-doc.was at c.edited.ensures.answer) in
+    if_err_all c.from_residual-in_err-follow_lists.result _ (λ e ran_out. none_at_first c.args.self.now.document c.args.edits.now none)

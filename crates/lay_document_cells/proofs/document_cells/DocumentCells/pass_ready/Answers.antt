@@ -5,7 +5,7 @@ use Rattle.lay_layout.specs.cells.Looks.{Looks}
 use Rattle.lay_layout.specs.cells.Places.{AtPlace, IsClaimed}
 use Rattle.lay_layout.specs.cells.Sound.{IsSound}
 use Rattle.lay_layout.specs.cells.declared.answers.Look.TheVariants as look
-use Rattle.lay_cell_table.specs.cell_work.CellLocal.{IsCellLocal}
+use Rattle.lay_list_steps.specs.cell_work.CellLocal.{IsCellLocal}
 use Rattle.lay_document_cells.specs.State.{State}
 use Rattle.lay_document_cells.specs.Steps.{ClaimsTo}
 use Rattle.lay_document_cells.proofs.Answered.{key_same}
