@@ -1,8 +1,12 @@
--- What faults a list of edits has: one without any has none at its first edit.
+-- What faults a list of edits has: one without any has none at its first edit, and want of memory says nothing of them.
 use Rattle.std.proofs.Common.{◌≡◌, List, [], ◌∷◌, None, Result, Ok, Err, IfErr, refl}
+use Rattle.std.specs.Prelude.{IsErrAnd}
 use Rattle.lay_layout.specs.doc.declared.edit.Edit.{Edit}
 use Rattle.lay_layout.specs.doc.Document.{Document}
+use Rattle.lay_layout.specs.edit_lists.Answers.{AnswersFirst}
 use Rattle.lay_layout.specs.edit_lists.EditLists.{fault_at, first}
+use Rattle.lay_layout.specs.edit_lists.declared.batch_fault.BatchFault.{BatchFault}
+use Rattle.lay_layout.specs.edit_lists.declared.batch_fault.BatchFault.TheVariants.{At, NoMemory}
 use Rattle.lay_layout.proofs.lay_edits.Lists.{none_first}
 
 pub none_at_first : (d : Document) (edits : List Edit) → first d edits ≡ None → fault_at d edits 0 ≡ None
@@ -12,3 +16,8 @@ none_at_first d (e ∷ es) none = (none_first d e es none).0
 pub if_err_all : {A E : Type 0} (o : Result A E) (P : E → Type 0) → ((e : E) → P e) → IfErr o P
 if_err_all (Ok a) P h = tt
 if_err_all (Err e) P h = h e
+
+pub ran_out_answers : {A : Type 0} (d : Document) (edits : List Edit) (o : Result A BatchFault) → IsErrAnd o (λ e. e ≡ NoMemory) → AnswersFirst d edits o
+ran_out_answers d edits (Ok a) ran_out = absurd ran_out
+ran_out_answers d edits (Err NoMemory) ran_out = tt
+ran_out_answers d edits (Err (At place f)) ran_out = absurd cc

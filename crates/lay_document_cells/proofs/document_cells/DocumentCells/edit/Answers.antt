@@ -8,7 +8,7 @@ use Rattle.lay_document_cells.specs.State.{AreStyledLists, State}
 use Rattle.lay_document_cells.proofs.Answered.{err_any, ok_none, own_nodes}
 use Rattle.lay_document_cells.proofs.KeptSteps.{state_of}
 use Rattle.lay_document_cells.proofs.EditSteps.{edit_kept, edited_to}
-use Rattle.lay_document_cells.proofs.ListFaults.{if_err_all, none_at_first}
+use Rattle.lay_document_cells.proofs.ListFaults.{if_err_all, none_at_first, ran_out_answers}
 use Rattle.lay_document_cells.proofs.document_cells.DocumentCells.edit.Goals as goal
 
 pub follow_lists-requires-clause-apart : goal.follow_lists-requires-clause-apart
@@ -68,3 +68,7 @@ pub returns-in_err-follow_lists-clause-memory : goal.returns-in_err-follow_lists
 returns-in_err-follow_lists-clause-memory c =
     let none = subst (λ (x : State). first x.document c.args.edits.now ≡ None) c.self.view_is (rw c.in_ok-doc.was at c.edited.ensures.answer) in
     if_err_all c.from_residual-in_err-follow_lists.result _ (λ e ran_out. none_at_first c.args.self.now.document c.args.edits.now none)
+
+pub returns-in_err-follow_lists-clause-answer : goal.returns-in_err-follow_lists-clause-answer
+returns-in_err-follow_lists-clause-answer c =
+    ran_out_answers c.args.self.now.document c.args.edits.now c.from_residual-in_err-follow_lists.result c.from_residual-in_err-follow_lists.ensures.1
