@@ -1,6 +1,6 @@
 -- One step of each of the generator's walks.
-use Rattle.std.proofs.Common.{◌≡◌, ℕ, zero, suc, ◌+◌, ◌-◌, ◌*◌, ◌<◌, ◌≤◌, ◌<ℤ◌, Bool, true, false, ℤ, pos, negsuc, List, [], ◌∷◌, ◌++◌, length, map, fold, drop, slice_get, get_or, is_some, unsigned_abs, Ok, refl, sym, ap, ◌∙◌, arith, Option, Some, None, append_assoc, append-nil}
-use Rattle.std.specs.List.{filter, flat_map, range_with_len}
+use Rattle.std.proofs.Common.{◌≡◌, ℕ, zero, suc, ◌+◌, ◌-◌, ◌*◌, ◌<◌, ◌≤◌, Bool, true, false, List, [], ◌∷◌, ◌++◌, length, drop, slice_get, get_or, is_some, refl, sym, ap, ◌∙◌, arith, Option, Some, None, append_assoc}
+use Rattle.std.specs.List.{filter, range_with_len}
 use Rattle.std.proofs.lemmas.Grind.{common_steps}
 use Rattle.std.proofs.lemmas.Option.{slice_get-get_or}
 use Rattle.std.proofs.lemmas.List.Sums.{sum_by-append}
@@ -9,7 +9,7 @@ use Rattle.lay_doc.specs.declared.node.NodeId.{NodeId}
 use Rattle.lay_doc.specs.NewNodes.{NewNodeValue}
 use Rattle.lay_doc.specs.Document.{Document}
 use Rattle.lay_doc.specs.declared.edit.EditFault.{EditFault}
-use Rattle.lay_doc.specs.Edits.{after_insert, insert_fault, last_index}
+use Rattle.lay_doc.specs.Edits.{insert_fault, last_index}
 use Rattle.lay_edits.specs.declared.command.Cmd.{Cmd}
 use Rattle.lay_doc.specs.declared.edit.Edit.{Edit}
 use Rattle.lay_json.specs.Nodes.{without_fault}
@@ -17,12 +17,11 @@ use Rattle.lay_face.specs.FaceValue.{FaceValue}
 use Rattle.lay_run.specs.Runs.{IsListed, Run}
 use Rattle.lay_json.proofs.Listed.{put_listed}
 use Rattle.lay_frag.specs.declared.frag.Frag.{Frag}
-use Rattle.lay_frag.specs.Pieces.{Context, frags_of, page_pieces}
 use Rattle.lay_generator.specs.Draws.{next, state_after}
 use Rattle.lay_generator.specs.Nodes.{more_words, section_end, section_nodes, sections, sections_end, word}
 use Rattle.lay_generator.specs.Commands.{is_of, paddings, script, script_end, scripts, set_padding}
 use Rattle.lay_generator.specs.Generated.{ids, with_node, with_nodes}
-use Rattle.lay_generator.specs.Summary.{mark_from, piece_mark, residue}
+use Rattle.lay_generator.specs.Summary.{mark_from, piece_mark}
 
 pub words_step : (n state : ℕ) → 0 < n → more_words n state ≡ (32 ∷ word state) ++ more_words (n - 1) (next state)
 words_step zero state some = absurd (omega arith)

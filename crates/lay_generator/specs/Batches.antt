@@ -1,5 +1,5 @@
 -- Edits in batches of 64, while the last one is being filled.
-use Rattle.std.specs.Prelude.{ℕ, ◌≡◌, ◌≤◌, ◌<◌, List, [], ◌++◌, flat_map, length, Option, Some, None, IfSome}
+use Rattle.std.specs.Prelude.{◌≡◌, ◌≤◌, ◌<◌, List, [], ◌++◌, flat_map, length, Option, Some, None, IfSome}
 use Rattle.std.specs.List.{All}
 use Rattle.lay_doc.specs.declared.edit.Edit.{Edit}
 use Rattle.lay_edits.specs.declared.command.Cmd.{Cmd}

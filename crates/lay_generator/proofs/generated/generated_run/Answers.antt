@@ -1,6 +1,5 @@
-use Rattle.std.proofs.Common.{◌≡◌, ◌∙◌, ◌+◌, ◌-◌, ◌<◌, ◌++◌, ◌∷◌, ℕ, List, sym, ap, subst, arith, append_assoc, append-nil}
+use Rattle.std.proofs.Common.{◌≡◌, ◌∙◌, ◌+◌, ◌-◌, ◌<◌, ◌++◌, List, sym, ap, arith, append_assoc, append-nil}
 use Rattle.lay_doc.specs.declared.node.NodeId.{NodeId}
-use Rattle.lay_doc.specs.Document.{Document}
 use Rattle.lay_generator.specs.Nodes.{section_end, section_nodes, sections, sections_end}
 use Rattle.lay_generator.specs.Commands.{scripts}
 use Rattle.lay_generator.specs.Generated.{generated, ids, with_nodes}

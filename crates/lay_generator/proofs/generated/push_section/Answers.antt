@@ -1,8 +1,8 @@
-use Rattle.std.proofs.Common.{◌≡◌, ◌∙◌, ◌+◌, ◌*◌, ◌++◌, ◌∷◌, [], ℕ, List, sym, ap, append_assoc}
+use Rattle.std.proofs.Common.{◌≡◌, ◌∙◌, ◌+◌, ◌*◌, ◌++◌, ◌∷◌, [], ℕ, ap}
 use Rattle.std.proofs.lemmas.Result.{IfOk-weaker}
 use Rattle.lay_doc.specs.declared.node.NodeId.{NodeId}
 use Rattle.lay_doc.specs.NewNodes.{NewNodeValue}
-use Rattle.lay_generator.specs.Nodes.{id, more_count, section_end, section_nodes}
+use Rattle.lay_generator.specs.Nodes.{id, more_count}
 use Rattle.lay_generator.specs.Draws.{state_after, next}
 use Rattle.lay_generator.proofs.Steps.{four_more}
 use Rattle.lay_generator.proofs.generated.push_section.Goals as goal

@@ -1,4 +1,4 @@
-use Rattle.std.proofs.Common.{◌≡◌, ◌∙◌, ◌-◌, ◌<◌, ◌++◌, ◌∷◌, ℕ, List, sym, ap, arith, append_assoc, string_bytes}
+use Rattle.std.proofs.Common.{◌∙◌, ◌-◌, ◌<◌, ◌++◌, ◌∷◌, ℕ, List, sym, ap, arith, append_assoc, string_bytes}
 use Rattle.lay_generator.specs.Draws.{next, state_after}
 use Rattle.lay_generator.specs.Nodes.{more_words, word}
 use Rattle.lay_generator.proofs.Steps.{state_step, words_step}
