@@ -17,8 +17,8 @@ use Rattle.lay_core.specs.document_cells.declared.idle.IdleKind.{IdleKind}
 use Rattle.lay_core.specs.document_cells.State.{AreListsOf, State as DocumentCells}
 use Rattle.lay_core.specs.document_cells.Steps.{ClaimsTo, IsGivenNow}
 use Rattle.lay_core.specs.State.{State, document_cells}
-use Rattle.lay_core_laws.specs.Laws.{GrantedBatchesAreOneByOne}
-use Rattle.lay_outcome_laws.specs.Laws.{BatchesAreOneByOne}
+use Rattle.lay_core_laws.specs.Laws.{GrantedBatchesAreOneByOne, GrantedClaimsHaveOneWork}
+use Rattle.lay_outcome_laws.specs.Laws.{BatchesAreOneByOne, OneWork}
 use Rattle.lay_core_laws.proofs.OneLists.{in_order}
 
 -- claims leave the document
@@ -60,6 +60,10 @@ module _ (inward : PresentInputsLeadInward) where
   batch_inward s t limit claims answer is (full _ _ grants long) place c at = grants_inward s t claims is grants place c at
   batch_inward s t limit claims answer is (fewer _ last mid _ grants some short end) place c at = grants_inward s mid claims is grants place c at
   batch_inward s t limit claims answer is (no_grants first _ _ end is_answer) place c at = absurd cc
+
+pub granted_claims_have_one_work_lem : PresentInputsLeadInward → OneWork → GrantedClaimsHaveOneWork
+granted_claims_have_one_work_lem inward law s t limit claims answer place c d e core does at x y =
+    law c d e (batch_inward inward (document_cells s) (document_cells t) limit claims answer core.sound.cells.is_document does.does place c at) x y
 
 pub granted_batches_are_one_by_one_lem : PresentInputsLeadInward → BatchesAreOneByOne → GrantedBatchesAreOneByOne
 granted_batches_are_one_by_one_lem inward law s t limit claims answer outcomes place c d e core does are at done alone =

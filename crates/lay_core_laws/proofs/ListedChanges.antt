@@ -46,11 +46,13 @@ module _ (one : OneGivenInput) (init : Document) (face : FaceValue) (h : List En
   next u w g le lt given stays None e = absurd (get_some flags w (let c = are.count in omega (arith, c, lt)) e)
   next u w g le lt given stays (Some true) e = inl (let r = rise flags u w le in let m = one_more flags w true e in omega (arith, r, m))
   next u w g le lt given stays (Some false) e =
-      inr (subst (λ (v : ℕ). Given v g) (omega arith) (keeps w g given (are.each w false e (stays w le (omega arith)) (stays (w + 1) (omega (arith, le)) (omega arith)))))
+      let m : w + 1 ≡ suc w = omega arith in
+      let kept = are.each w false e (stays w le (omega arith)) (stays (w + 1) (omega (arith, le)) (omega arith)) in
+      inr (subst (λ (v : ℕ). Given v g) m (keeps w g given kept))
 
   -- from a version on, some lists of edits change it, or it is still given the same
   between : (n u w : ℕ) (g : CellInput) → w ≡ u + n → w ≤ accepted h → Given u g → StaysThere init h key u w → Rises u w ⊎ Given w g
-  between zero u w g is le given stays = inr (subst (λ (v : ℕ). Given v g) (omega (arith, is)) given)
+  between zero u w g is le given stays = let m : u ≡ w = omega (arith, is) in inr (subst (λ (v : ℕ). Given v g) m given)
   between (suc n) u w g is le given stays =
       let m : suc (u + n) ≡ w = omega (arith, is) in
       ⊎_elim

@@ -30,13 +30,13 @@ use Rattle.lay_core.specs.State.{IsCore, State, document_cells}
 use Rattle.lay_core.specs.Steps.{EditsTo, IsNewCore}
 use Rattle.lay_core_laws.specs.GivenInputs.{HasCell, IsGivenIn}
 use Rattle.lay_core_laws.specs.InputChanges.{AreChanges, changes}
-use Rattle.lay_core_laws.specs.Laws.{GrantsArePaidByChanges, OneGivenInput, OriginsStay, TurnsAreChanges, TurnsAreFew, TurnsAreOfVersions}
+use Rattle.lay_core_laws.specs.Laws.{GrantsArePaidByChanges, GrantsAreWithin, OneGivenInput, OriginsStay, TurnsAreChanges, TurnsAreFew, TurnsAreOfVersions, TurnsAreWithin}
 use Rattle.lay_core_laws.specs.ReachedCores.{CallsTo, IsReached, called, new}
 use Rattle.lay_core_laws.specs.Turns.{HasTurned, HasTurnedTo}
 use Rattle.lay_core_laws.proofs.CarriedTurns.{IsFrom, IsNewRow, IsOldRow, marks_from, rebuilt_from}
 use Rattle.lay_core_laws.proofs.LaterHistories.{Rests, one_entry}
 use Rattle.lay_core_laws.proofs.QuietCalls.{Called, IsQuiet, accepts, rests, what_called}
-use Rattle.lay_core_laws.proofs.TurnSteps.{GoesOn, StaysOn, TurnsTo, handed_in, has_turned_on, not_turned}
+use Rattle.lay_core_laws.proofs.TurnSteps.{GoesOn, StaysOn, TurnsTo, handed_in, has_turned_on, not_turned, turns_below}
 use Rattle.lay_core_laws.proofs.WorkTurns.{AreHeld, HoldsOfAll, IsHeld, works_keep}
 
 lists_are : (s : State) (sound : IsOfDocument (document_cells s)) → AreListsOf s.document sound.lists
@@ -119,7 +119,8 @@ edit_turns init face s t editor index edits v is core does =
       turning = λ r has.
           row_turns init face s.history t.history on s.cells.rows r is.turning
           (λ w above below.
-          subst (λ (n : ℕ). HasCell (doc_at init t.history n) r.key) (omega (arith, count, above, below))
+          let now : accepted t.history ≡ w = omega (arith, count, above, below) in
+          subst (λ (n : ℕ). HasCell (doc_at init t.history n) r.key) now
           (subst (λ (d : Document). HasCell d r.key) document (row_has_cell t core r has)))
           (edited_rows s t edits does.2.cells r has);
     }
@@ -189,9 +190,29 @@ turns_are_changes_lem versions few init face s r flags reached there are = by r.
     by None e = let z = turned.none e in omega (arith, z)
     by (Some input) e = let to = turned.some input e in few init face s.history r.key r.turns to.version input flags to.turned are
 
+pub turns_are_within_lem : TurnsAreOfVersions → TurnsAreWithin
+turns_are_within_lem versions init face s r reached there = by r.given refl
+  where
+    turned : HasTurned init face s.history r.key r.given r.turns
+    turned = versions init face s r reached there
+
+    by : (given : Option CellInput) → r.given ≡ given → r.turns ≤ accepted s.history
+    by None e = let z = turned.none e in omega (arith, z)
+    by (Some input) e =
+        let to = turned.some input e in
+        let few = turns_below init face s.history r.key r.turns to.version input to.turned in
+        let within = to.within in
+        omega (arith, few, within)
+
 reached_core : (init : Document) (face : FaceValue) (s : State) → IsReached init face s → IsCore s
 reached_core init face s (new calls _ is core) = core
 reached_core init face s (called before _ reached call core) = core
+
+pub grants_are_within_lem : TurnsAreWithin → GrantsAreWithin
+grants_are_within_lem few init face s r reached there =
+    let most = ((reached_core init face s reached).sound.cells.cells.sound.each r there).counted.most in
+    let turns = few init face s r reached there in
+    omega (arith, most, turns)
 
 pub grants_are_paid_by_changes_lem : TurnsAreChanges → GrantsArePaidByChanges
 grants_are_paid_by_changes_lem few init face s r flags reached there are =

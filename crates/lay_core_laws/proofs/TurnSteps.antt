@@ -36,9 +36,16 @@ module _ (init : Document) (face : FaceValue) (h : List Entry) (key : CellKey) w
   last_within _ v i (first _ _ within given) = within
   last_within _ v i (again turns u _ old _ before lt within stays given other) = within
 
+  -- each turn is of a later version
+  pub turns_below : (turns v : ℕ) (i : CellInput) → Turned init face h key turns v i → turns ≤ v
+  turns_below _ v i (first _ _ within given) = omega arith
+  turns_below _ v i (again turns u _ old _ before lt within stays given other) = let few = turns_below turns u old before in omega (arith, few, lt)
+
   -- in the present version the document has the cell
   stays_now : HasCell (doc_at init h (accepted h)) key → StaysThere init h key (accepted h) (accepted h)
-  stays_now has v from to = subst (λ (n : ℕ). HasCell (doc_at init h n) key) (omega (arith, from, to)) has
+  stays_now has v from to =
+      let same : accepted h ≡ v = omega (arith, from, to) in
+      subst (λ (n : ℕ). HasCell (doc_at init h n) key) same has
 
   module _ (one : OneGivenInput) (input : CellInput) (given_now : IsGivenIn (doc_at init h (accepted h)) face key input) where
     stays : StaysThere init h key (accepted h) (accepted h)

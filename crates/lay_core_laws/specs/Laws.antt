@@ -7,6 +7,7 @@ use Rattle.lay_layout.specs.units.declared.memory.NoMemory.{NoMemory}
 use Rattle.lay_layout.specs.doc.Document.{Document, IsDocument}
 use Rattle.lay_layout.specs.edit_lists.declared.history.Entry.{Entry}
 use Rattle.lay_layout.specs.face.FaceValue.{FaceValue}
+use Rattle.lay_layout.specs.history.Histories.{accepted}
 use Rattle.lay_layout.specs.frag.Pieces.{Context as PageContext}
 use Rattle.lay_layout.specs.cells.Shapes.{IsIn}
 use Rattle.lay_layout.specs.cells.Looks.{Looks}
@@ -39,7 +40,8 @@ use Rattle.lay_core_laws.specs.Turns.{HasTurned, Turned}
 
 -- a cell is given one input in the layout of a document
 abbrev pub OneGivenInput : Type 0
-OneGivenInput = (d : Document) (face : FaceValue) (key : CellKey) (a b : CellInput) → IsGivenIn d face key a → IsGivenIn d face key b → a ≡ b
+OneGivenInput = (d : Document) (face : FaceValue) (key : CellKey) (a b : CellInput) → IsGivenIn d face key a → IsGivenIn d face key b
+    → a ≡ b
 
 -- and that is what it is given among the values that cells keep, where a look shows that it is ready
 abbrev pub ReadyCellsAreGiven : Type 0
@@ -65,20 +67,28 @@ OneListOfChanges = (init : Document) (face : FaceValue) (history : List Entry) (
 
 -- and it has not more turns than changes
 abbrev pub TurnsAreFew : Type 0
-TurnsAreFew = (init : Document) (face : FaceValue) (history : List Entry) (key : CellKey) (turns version : ℕ) (input : CellInput) (flags : List Bool)
-    → Turned init face history key turns version input → AreChanges init face history key flags → turns ≤ changes flags
+TurnsAreFew = (init : Document) (face : FaceValue) (history : List Entry) (key : CellKey) (turns version : ℕ) (input : CellInput)
+    (flags : List Bool) → Turned init face history key turns version input → AreChanges init face history key flags → turns ≤ changes flags
 
 -- whatever calls came, the turns of each cell that is there are of versions of the document
 abbrev pub TurnsAreOfVersions : Type 0
 TurnsAreOfVersions = (init : Document) (face : FaceValue) (s : State) (r : CellRow) → IsReached init face s → IsIn s.cells.rows r
     → HasTurned init face s.history r.key r.given r.turns
 
--- so they are at most the changes of its input
+-- so they are at most the accepted lists of edits, and the changes of its input that these made
+abbrev pub TurnsAreWithin : Type 0
+TurnsAreWithin = (init : Document) (face : FaceValue) (s : State) (r : CellRow) → IsReached init face s → IsIn s.cells.rows r
+    → r.turns ≤ accepted s.history
+
 abbrev pub TurnsAreChanges : Type 0
 TurnsAreChanges = (init : Document) (face : FaceValue) (s : State) (r : CellRow) (flags : List Bool) → IsReached init face s
     → IsIn s.cells.rows r → AreChanges init face s.history r.key flags → r.turns ≤ changes flags
 
--- and its grants are at most one more than these and the claims of it that were given back
+-- and its grants are at most one more than either of these and the claims of it that were given back
+abbrev pub GrantsAreWithin : Type 0
+GrantsAreWithin = (init : Document) (face : FaceValue) (s : State) (r : CellRow) → IsReached init face s → IsIn s.cells.rows r
+    → r.laid ≤ 1 + (accepted s.history + r.backs)
+
 abbrev pub GrantsArePaidByChanges : Type 0
 GrantsArePaidByChanges = (init : Document) (face : FaceValue) (s : State) (r : CellRow) (flags : List Bool) → IsReached init face s
     → IsIn s.cells.rows r → AreChanges init face s.history r.key flags → r.laid ≤ 1 + (changes flags + r.backs)
@@ -87,7 +97,13 @@ GrantsArePaidByChanges = (init : Document) (face : FaceValue) (s : State) (r : C
 abbrev pub OriginsStay : Type 0
 OriginsStay = (init : Document) (face : FaceValue) (s : State) → IsReached init face s → (s.init ≡ init) × (s.face ≡ face)
 
--- What a batch of claims that a core granted has come to at a place is what the claim there comes to by itself.
+-- A claim that a core grants has one work, whoever does it.
+abbrev pub GrantedClaimsHaveOneWork : Type 0
+GrantedClaimsHaveOneWork = (s t : State) (limit : ℕ) (claims : List Claim) (answer : Result (Option IdleKind) NoMemory)
+    (place : ℕ) (c : Claim) (d e : Work) → IsCore s → ClaimsSome s limit claims answer t
+    → slice_get claims place ≡ Some c → IsWorkOf c d → IsWorkOf c e → d ≡ e
+
+-- So what a batch of claims that a core granted has come to at a place is what the claim there comes to by itself.
 abbrev pub GrantedBatchesAreOneByOne : Type 0
 GrantedBatchesAreOneByOne = (s t : State) (limit : ℕ) (claims : List Claim) (answer : Result (Option IdleKind) NoMemory)
     (outcomes : List Outcome) (place : ℕ) (c : Claim) (d e : Work) → IsCore s → ClaimsSome s limit claims answer t

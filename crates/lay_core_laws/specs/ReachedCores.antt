@@ -34,10 +34,12 @@ pub data CallsTo (s : State) : State → Type 0 where
   publish : (answer : Publish) (t : State) → PublishesTo s answer t → CallsTo s t
   claim : (key : CellKey) (answer : Answer) (t : State) → AnswersClaim s key answer t → CallsTo s t
   claim_next : (next : Next) (t : State) → AnswersNext s next t → CallsTo s t
-  claim_some : (limit : ℕ) (claims : List Claim) (answer : Result (Option IdleKind) NoMemory) (t : State) → ClaimsSome s limit claims answer t → CallsTo s t
+  claim_some : (limit : ℕ) (claims : List Claim) (answer : Result (Option IdleKind) NoMemory) (t : State)
+      → ClaimsSome s limit claims answer t → CallsTo s t
   finish : (done : CellDone) (answer : Finished) (t : State) → FinishesTo s done answer t → CallsTo s t
   finish_all : (outcomes : List Outcome) (tally : Tally) (t : State) → FinishesAll s outcomes tally t → CallsTo s t
-  give_back : (key : CellKey) (number : ℕ) (answer : Released) (t : State) → GivesBackTo s key number answer t → CallsTo s t
+  give_back : (key : CellKey) (number : ℕ) (answer : Released) (t : State)
+      → GivesBackTo s key number answer t → CallsTo s t
 
 -- calls lead to it from a new core of this document and face
 pub data IsReached (init : Document) (face : FaceValue) : State → Type 0 where

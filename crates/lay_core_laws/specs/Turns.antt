@@ -23,13 +23,15 @@ pub data Turned (init : Document) (face : FaceValue) (history : List Entry) (key
       → Turned init face history key (suc turns) version new
 
 -- so it was in some version, and the document has the cell since
-pub record HasTurnedTo (init : Document) (face : FaceValue) (history : List Entry) (key : CellKey) (turns : ℕ) (input : CellInput) : Type 0 where
+pub record HasTurnedTo (init : Document) (face : FaceValue) (history : List Entry) (key : CellKey) (turns : ℕ) (input : CellInput)
+    : Type 0 where
   pub version : ℕ
   pub within : version ≤ accepted history
   pub turned : Turned init face history key turns version input
   pub stays : StaysThere init history key version (accepted history)
 
 -- this input was handed in last, if there was one, after so many turns
-pub record HasTurned (init : Document) (face : FaceValue) (history : List Entry) (key : CellKey) (given : Option CellInput) (turns : ℕ) : Type 0 where
+pub record HasTurned (init : Document) (face : FaceValue) (history : List Entry) (key : CellKey) (given : Option CellInput) (turns : ℕ)
+    : Type 0 where
   pub none : given ≡ None → turns ≡ 0
   pub some : (input : CellInput) → given ≡ Some input → HasTurnedTo init face history key turns input

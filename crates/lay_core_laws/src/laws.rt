@@ -1,6 +1,6 @@
 //! The laws.
 
-ghost use Rattle.lay_core_laws.specs.Laws.{GrantedBatchesAreOneByOne, GrantsArePaidByChanges, LayoutsGiveInputs, OneGivenInput, OneListOfChanges, OriginsStay, ReadyCellsAreGiven, TurnsAreChanges, TurnsAreFew, TurnsAreOfVersions};
+ghost use Rattle.lay_core_laws.specs.Laws.{GrantedBatchesAreOneByOne, GrantedClaimsHaveOneWork, GrantsArePaidByChanges, GrantsAreWithin, LayoutsGiveInputs, OneGivenInput, OneListOfChanges, OriginsStay, ReadyCellsAreGiven, TurnsAreChanges, TurnsAreFew, TurnsAreOfVersions, TurnsAreWithin};
 
 use lay_core::document_cells::claims_work;
 use lay_layout::contexts::{
@@ -8,7 +8,7 @@ use lay_layout::contexts::{
 };
 use lay_layout::doc::one_style_column;
 use lay_list_steps::cell_laws::{inputs_are_kept, one_cell_local, present_inputs_lead_inward};
-use lay_outcome_laws::batches_are_one_by_one;
+use lay_outcome_laws::{batches_are_one_by_one, one_work};
 
 /// A cell is given one input in the layout of a document.
 pub fn one_given_input()
@@ -60,12 +60,26 @@ pub fn turns_are_of_versions()
     one_given_input();
 }
 
+/// They are at most the accepted lists of edits.
+pub fn turns_are_within()
+    ensures { TurnsAreWithin }
+{
+    turns_are_of_versions();
+}
+
 /// They are at most the changes of its input.
 pub fn turns_are_changes()
     ensures { TurnsAreChanges }
 {
     turns_are_of_versions();
     turns_are_few();
+}
+
+/// Its grants are at most one more than the accepted lists of edits and the claims of it that were given back.
+pub fn grants_are_within()
+    ensures { GrantsAreWithin }
+{
+    turns_are_within();
 }
 
 /// Its grants are at most one more than the changes and the claims of it that were given back.
@@ -80,6 +94,14 @@ pub fn origins_stay()
     ensures { OriginsStay }
 {
     claims_work();
+}
+
+/// A claim that a core grants has one work.
+pub fn granted_claims_have_one_work()
+    ensures { GrantedClaimsHaveOneWork }
+{
+    present_inputs_lead_inward();
+    one_work();
 }
 
 /// A batch of claims that a core granted comes to what they come to one after another.
