@@ -1,8 +1,9 @@
 -- No edit of a generated run has a fault, and its document comes to the same whatever order its editors take.
-use Rattle.std.proofs.Common.{◌≡◌, ℕ, zero, suc, ◌+◌, ◌*◌, ◌%◌, ◌<◌, ◌≤◌, List, [], ◌∷◌, ◌++◌, length, fold, slice_get, take, refl, sym, ap, ◌∙◌, subst, arith, Some, None, All}
+use Rattle.std.proofs.Common.{◌≡◌, ℕ, zero, suc, ◌+◌, ◌*◌, ◌%◌, ◌<◌, ◌≤◌, List, [], ◌∷◌, ◌++◌, length, fold, slice_get, take, refl, sym, ap, ◌∙◌, subst, arith, Option, Some, None, All}
 use Rattle.std.proofs.lemmas.List.{take_all}
 use Rattle.std.proofs.lemmas.List.Elements.{All-cons, All-head, All-nil, All-tail, All-take}
 use Rattle.lay_doc.specs.declared.edit.Edit.{Edit as Change}
+use Rattle.lay_doc.specs.declared.edit.EditFault.{EditFault}
 use Rattle.lay_doc.specs.Document.{Document}
 use Rattle.lay_doc.specs.Changes.{style_fault}
 use Rattle.lay_doc.specs.Edits.{after, fault}
@@ -146,6 +147,10 @@ accepted_lists size (Publish version ∷ h) all = accepted_lists size h (All-tai
 accepted_lists size (Latest editor index reply ∷ h) all = accepted_lists size h (All-tail (IsGoodEntry size) (Latest editor index reply) h all)
 accepted_lists size (Sync editor index reply ∷ h) all = accepted_lists size h (All-tail (IsGoodEntry size) (Sync editor index reply) h all)
 
+not_both : (o : Option (ℕ × EditFault)) (p : ℕ × EditFault) → o ≡ None → o ≡ Some p → ⊥
+not_both None p none some = absurd cc
+not_both (Some q) p none some = absurd cc
+
 counted : (n : ℕ) (xs : List (List Change)) → fold (λ m x. suc m) n xs ≡ n + length xs
 counted n [] = let e : n ≡ n + 0 = omega arith in e
 counted n (x ∷ xs) = let rest = counted (suc n) xs in omega (arith, rest)
@@ -176,7 +181,8 @@ module _ (size seed : ℕ) (h : List Entry) (few : size ≤ 1000) (legal : IsLeg
 
   not_refused : NoneRefused h
   not_refused k editor index place edits f at =
-      let e : None ≡ Some (place, f) = sym (no_fault k editor index edits (Refused place f) at) ∙ legal k (Edit editor index edits (Refused place f)) at in cc
+      not_both (first (doc_after ready (take k h)) edits) (place, f)
+      (no_fault k editor index edits (Refused place f) at) (legal k (Edit editor index edits (Refused place f)) at)
 
   accepted_all : NoneLacked h → AreAccepted h
   accepted_all lack k editor index edits (Accepted version) at = (version, refl)

@@ -17,7 +17,7 @@ use Rattle.lay_history.specs.Legal.{IsLegal, doc_after}
 use Rattle.lay_run.specs.Runs.{Run}
 use Rattle.lay_generator.specs.Nodes.{root, sections}
 use Rattle.lay_generator.specs.Generated.{generated, with_node}
-use Rattle.lay_generator.specs.LastDocuments.{after_lists, last_document, lists_of}
+use Rattle.lay_generator.specs.LastDocuments.{after_lists, last_document, list_count, lists_of}
 
 -- none of these nodes has a fault where it is put, one behind the other
 abbrev pub AreFaultless : Document → List (NodeId × NewNodeValue) → Type 0
@@ -54,9 +54,9 @@ NoneRefused history = (k editor index place : ℕ) (edits : List Change) (f : Ed
 pub record ComesTo (run : Run) (last : Document) (history : List Entry) : Type 0 where
   pub none_refused : NoneRefused history
   pub nodes_stay : length (doc_after run.doc history).nodes ≡ length run.doc.nodes
-  pub few : accepted history ≤ length (lists_of run.scripts)
-  pub all_accepted : NoneLacked history → accepted history ≡ length (lists_of run.scripts)
-  pub last_is : accepted history ≡ length (lists_of run.scripts) → doc_after run.doc history ≡ last
+  pub few : accepted history ≤ list_count run
+  pub all_accepted : NoneLacked history → accepted history ≡ list_count run
+  pub last_is : accepted history ≡ list_count run → doc_after run.doc history ≡ last
 
 -- in whatever order the editors of a generated run came, their run comes to its last document
 abbrev pub GeneratedRunsComeToOne : Type 0
