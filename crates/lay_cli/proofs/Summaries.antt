@@ -29,7 +29,7 @@ only_by one d f nodes count text other tree its valid solves also text_is other_
 module _ (come : GeneratedRunsComeToOne) (stay : GeneratedNodesStay) (last : LastTree) (one : OneSolution)
     (size seed : ℕ) (s : State) (text : List ℕ) (few : size ≤ 1000) (driven : IsDriven (generated size seed) s) (its : IsSummaryOf s text)
     (all : accepted s.history ≡ list_count (generated size seed)) where
-  run : Run
+  abbrev run : Run
   run = generated size seed
 
   comes : ComesTo run (last_document run) s.history
