@@ -99,5 +99,5 @@ pub styles_exchanged : (d : Document) (i j : ℕ) (x y : Declaration) → (i ≡
 styles_exchanged d i j x y other =
     twice_set d i j x y
     ∙ (both_set x y (place_of i (ids_of d.nodes)) (place_of j (ids_of d.nodes)) d
-      (λ p at_i at_j. other (sym (place_names i (ids_of d.nodes) p at_i) ∙ place_names j (ids_of d.nodes) p at_j))
+    (λ p at_i at_j. other (sym (place_names i (ids_of d.nodes) p at_i) ∙ place_names j (ids_of d.nodes) p at_j))
     ∙ sym (twice_set d j i y x))
