@@ -11,7 +11,7 @@ ghost use Rattle.lay_face.specs.declared.pairs.AdvancePair.{AdvancePair as Pair}
 
 use crate::case::Subject;
 use crate::notation::{done, shown};
-use lay_face::{AdvancePair, Face, PairList};
+use lay_face::{AdvancePair, Face, FaceMetrics, PairList};
 use lay_units::{NoMemory, Unit};
 use std::alloc::Global;
 
@@ -78,45 +78,30 @@ impl Subject for OneFace {
 
 /// The face of a call; None where the line is none.
 fn face(alloc: Global, rest: &str) -> Result<Option<Face>, NoMemory> {
-    let (measures, pairs) = rest.split_once(" with ").unwrap_or((rest, ""));
-    let Some((default, ascent, descent, x_height, line_height)) = measures_of(measures) else {
+    let (metrics, pairs) = rest.split_once(" with ").unwrap_or((rest, ""));
+    let Some(metrics) = metrics_of(metrics) else {
         return Ok(None);
     };
     let Some(pairs) = pairs_of(alloc, pairs)? else {
         return Ok(None);
     };
-    let pairs = PairList::new(pairs);
-    let face = Face::new(
-        alloc,
-        pairs,
-        default,
-        ascent,
-        descent,
-        x_height,
-        line_height,
-    )?;
+    let face = Face::new(alloc, PairList::new(pairs), metrics)?;
     Ok(Some(face))
 }
 
 /// The default advance, ascent, descent, x-height and normal line height.
-fn measures_of(text: &str) -> Option<(u32, u32, u32, u32, u32)>
-    ensures advance { IfSome result (λ m. m.0 ≤ 10000) }
-    ensures ascent { IfSome result (λ m. m.1 ≤ 10000) }
-    ensures descent { IfSome result (λ m. m.2 ≤ 10000) }
-    ensures x_height { IfSome result (λ m. m.3 ≤ 10000) }
-    ensures line_height { IfSome result (λ m. m.4 ≤ 10000) }
-{
+fn metrics_of(text: &str) -> Option<FaceMetrics> {
     let (default, rest) = text.split_once(' ')?;
     let (ascent, rest) = rest.split_once(' ')?;
     let (descent, rest) = rest.split_once(' ')?;
     let (x_height, line_height) = rest.split_once(' ')?;
-    Some((
-        thousandths(default)?,
-        thousandths(ascent)?,
-        thousandths(descent)?,
-        thousandths(x_height)?,
-        thousandths(line_height)?,
-    ))
+    Some(FaceMetrics {
+        default_advance: thousandths(default)?,
+        ascent: thousandths(ascent)?,
+        descent: thousandths(descent)?,
+        x_height: thousandths(x_height)?,
+        normal_line_height: thousandths(line_height)?,
+    })
 }
 
 /// Pairs `CODE-POINT=ADVANCE` with blanks between them.

@@ -6,6 +6,7 @@ ghost use Rattle.lay_face.specs.declared.pairs.AdvancePair.{AdvancePair as Pair}
 ghost use Rattle.lay_face.specs.Clusters.{WidthsFit};
 ghost use Rattle.lay_face.specs.Faces.{FitsAt, IsMeasure, MeasuresAreNear, face_of, entry_of, thousandths_of};
 
+use crate::metrics::FaceMetrics;
 use crate::pairs::PairList;
 use crate::table::{first_entries, is_same_table, table_entry, table_of};
 use lay_units::{NoMemory, Unit};
@@ -54,35 +55,23 @@ impl Model for Face {
 }
 
 impl Face {
-    /// The face with these advances, of which a later one of a code point wins, with the advance of all
-    /// other code points, and with the measures of a line. Each number is at most 10,000.
-    pub fn new(
-        alloc: Global,
-        pairs: PairList,
-        default_advance: u32,
-        ascent: u32,
-        descent: u32,
-        x_height: u32,
-        normal_line_height: u32,
-    ) -> Result<Face, NoMemory>
-        requires pairs { All (λ (p : Pair). p.advance ≤ 10000) pairs }
-        requires default_advance { default_advance ≤ 10000 }
-        requires ascent { ascent ≤ 10000 }
-        requires descent { descent ≤ 10000 }
-        requires x_height { x_height ≤ 10000 }
-        requires normal_line_height { normal_line_height ≤ 10000 }
-        ensures { IfOk result (λ f. f ≡ face_of pairs default_advance ascent descent x_height normal_line_height) }
+    /// The face with these advances, of which a later one of a code point wins, and with these metrics. Each advance is at
+    /// most 10,000.
+    pub fn new(alloc: Global, pairs: PairList, metrics: FaceMetrics) -> Result<Face, NoMemory>
+        requires { All (λ (p : Pair). p.advance ≤ 10000) pairs }
+        ensures { IfOk result (λ f. f ≡ face_of pairs metrics.default_advance metrics.ascent metrics.descent metrics.x_height
+            metrics.normal_line_height) }
     {
         let table = table_of(alloc, pairs.as_slice())?;
-        let first = first_entries(alloc, &table, default_advance)?;
+        let first = first_entries(alloc, &table, metrics.default_advance)?;
         Ok(Face {
             table,
             first,
-            default_advance,
-            ascent,
-            descent,
-            x_height,
-            normal_line_height,
+            default_advance: metrics.default_advance,
+            ascent: metrics.ascent,
+            descent: metrics.descent,
+            x_height: metrics.x_height,
+            normal_line_height: metrics.normal_line_height,
         })
     }
 

@@ -9,10 +9,12 @@
 mod clusters;
 mod face;
 mod laws;
+mod metrics;
 mod pairs;
 mod table;
 
 pub use clusters::{Setting, is_plain, put_width};
 pub use face::Face;
 pub use laws::last_pair_wins;
+pub use metrics::FaceMetrics;
 pub use pairs::{AdvancePair, PairList};

@@ -12,7 +12,7 @@ use crate::commands::scripts;
 use crate::draws::Draws;
 use crate::nodes::{block, container, float_box, root, text};
 use lay_doc::{Doc, NewNode, NodeId};
-use lay_face::{Face, PairList};
+use lay_face::{Face, FaceMetrics, PairList};
 use lay_run::{NodeList, RunDoc};
 use lay_units::NoMemory;
 use std::alloc::Global;
@@ -89,7 +89,14 @@ fn default_face(alloc: Global) -> Result<Arc<Face>, NoMemory>
     ensures { IfOk result (λ f. f.value ≡ default_face) }
 {
     let pairs = PairList::new(Vec::new(alloc));
-    let face = Face::new(alloc, pairs, 500, 750, 250, 500, 1250)?;
+    let metrics = FaceMetrics {
+        default_advance: 500,
+        ascent: 750,
+        descent: 250,
+        x_height: 500,
+        normal_line_height: 1250,
+    };
+    let face = Face::new(alloc, pairs, metrics)?;
     let shared = Arc::new(alloc, face)?;
     Ok(shared)
 }

@@ -10,7 +10,7 @@ use crate::fault::{Field, InputFault, Spot};
 use crate::fields::{
     Bounds, has_at_most, is_pair, list_of, number_or, object_of, pair_within, value_in,
 };
-use lay_face::{AdvancePair, Face, PairList};
+use lay_face::{AdvancePair, Face, FaceMetrics, PairList};
 use lay_units::NoMemory;
 use serde_json::Value;
 use std::alloc::Global;
@@ -124,28 +124,28 @@ fn face_in(alloc: Global, face: &Value) -> Result<Face, InputFault>
     ensures { Gives result (face_in (view face.now)) }
 {
     let pairs = advances(alloc, face)?;
-    let default_advance = thousandths(500, face, Field::Default)?;
-    let ascent = thousandths(750, face, Field::Ascent)?;
-    let descent = thousandths(250, face, Field::Descent)?;
-    let x_height = thousandths(500, face, Field::XHeight)?;
-    let normal = thousandths(1250, face, Field::Normal)?;
-    let face = Face::new(
-        alloc,
-        pairs,
-        default_advance,
-        ascent,
-        descent,
-        x_height,
-        normal,
-    )?;
-    Ok(face)
+    let metrics = FaceMetrics {
+        default_advance: thousandths(500, face, Field::Default)?,
+        ascent: thousandths(750, face, Field::Ascent)?,
+        descent: thousandths(250, face, Field::Descent)?,
+        x_height: thousandths(500, face, Field::XHeight)?,
+        normal_line_height: thousandths(1250, face, Field::Normal)?,
+    };
+    Ok(Face::new(alloc, pairs, metrics)?)
 }
 
 fn default_face(alloc: Global) -> Result<Face, NoMemory>
     ensures { IfOk result (λ f. f ≡ default_face) }
 {
     let pairs = PairList::new(Vec::new(alloc));
-    Face::new(alloc, pairs, 500, 750, 250, 500, 1250)
+    let metrics = FaceMetrics {
+        default_advance: 500,
+        ascent: 750,
+        descent: 250,
+        x_height: 500,
+        normal_line_height: 1250,
+    };
+    Face::new(alloc, pairs, metrics)
 }
 
 /// The face of a run, which is the default face where the run names none.

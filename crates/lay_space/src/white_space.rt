@@ -40,9 +40,7 @@ fn put_processed(
             text,
             mode,
             ..
-        } => {
-            return put_text(alloc, out, *node, text.as_str(), *mode, after_space);
-        }
+        } => processed_text(alloc, *node, text.as_str(), *mode, after_space)?,
         Item::Atomic(node, mode) => (Item::Atomic(*node, *mode), false),
         Item::Start(node, takes_room) => (Item::Start(*node, *takes_room), after_space),
         Item::End(node) => (Item::End(*node), after_space),
@@ -53,17 +51,16 @@ fn put_processed(
     Ok(space)
 }
 
-fn put_text(
+/// What is left of a text, and whether what follows stands after a collapsible space.
+fn processed_text(
     alloc: Global,
-    out: &mut Vec<Item>,
     node: u32,
     text: &str,
     mode: Mode,
     after_space: bool,
-) -> Result<bool, NoMemory>
-    ensures { IfOk result (λ space. (out.new.items
-        ≡ out.old.items ++ item.Text node (text_left after_space mode text.now) mode [] ∷ []) × (space
-        ≡ space_after after_space mode text.now)) }
+) -> Result<(Item, bool), NoMemory>
+    ensures item { IfOk result (λ r. r.0 ≡ item.Text node (text_left after_space mode text.now) mode []) }
+    ensures space { IfOk result (λ r. r.1 ≡ space_after after_space mode text.now) }
 {
     let left = left_of(alloc, mode, text, after_space)?;
     let item = Item::Text {
@@ -72,8 +69,7 @@ fn put_text(
         mode,
         widths: WidthList::new(Vec::new(alloc)),
     };
-    push_item(out, item)?;
-    Ok(left.after_space)
+    Ok((item, left.after_space))
 }
 
 fn left_of(alloc: Global, mode: Mode, text: &str, after_space: bool) -> Result<Left, NoMemory>
