@@ -3,21 +3,23 @@
 //
 // usage: browser/compare_hits.mjs --bridge FOLDER [--program PATH] [--points N] [--documents N] [--seed S] [--show K] FILE.jsonl[.gz] ..
 //
-// FOLDER has a `bridge.mjs` that brings a headless Chromium up and makes a page of a run document, and a `style.mjs`. Each line of a file is
-// an object with `name` and `run`, a run document; with --documents so many of each file are taken, evenly spread. All lengths and the points
-// are 64 times as great in the browser, so that what it rounds to whole px falls on single units. Half of the N points (else 20) lie in a
-// piece that `lay scratch` names, the others anywhere on the part of the viewport that has pieces.
+// FOLDER has a `bridge.mjs` that brings a headless Chromium up and makes a page of a run document, and a `style.mjs`. Each line of a file
+// is an object with `name` and `run`, a run document; with --documents so many of each file are taken, evenly spread. The browser is
+// asked with all lengths 64 times as great, so that what it rounds to whole px falls on single units, and as they are, since it has no
+// font over 10,000 px: one answer that is ours is enough. Half of the N points (else 20) lie in a piece that `lay scratch` names, the
+// others anywhere on the part of the viewport that has pieces.
 //
-// `elementFromPoint` names elements alone: for a text it names the one around it, and where no box is, the root. `visibility` isn't given to
-// the browser: what is hidden is seen by `hit`. A document that differs is printed with its first K such points (else 3), and at last how
-// many documents and points are the same. The status is 1 where one differs.
+// `elementFromPoint` names elements alone: for a text it names the one around it, and where no box is, the root. `hit` clips nothing and
+// sees what is hidden, so `visibility` isn't given to the browser, and a block with `overflow` makes a context there without it. A
+// document that differs is printed with its first K such points (else 3), and at last how many documents and points are the same. The
+// status is 1 where one differs.
 import { execFile } from 'node:child_process';
 import { readFileSync } from 'node:fs';
 import { basename, dirname, join, resolve } from 'node:path';
 import { fileURLToPath } from 'node:url';
 import { gunzipSync } from 'node:zlib';
 
-const SCALE = 64, UNITS_PER_PX = 64, AT_ONCE = 3;
+const SCALES = [64, 1], UNITS_PER_PX = 64, AT_ONCE = 20;
 const HERE = dirname(fileURLToPath(import.meta.url));
 
 function settings(words) {
@@ -67,10 +69,12 @@ function rectangles(report) {
 function pointsOf(run, found, count, draw) {
   const within = (low, length, most) => Math.max(0, Math.min(most - 1, Math.floor(low + draw() * length)));
   const [width, height] = run.viewport;
-  const right = Math.max(1, ...found.map(([x, , w]) => Math.ceil(x + w) + 2)), bottom = Math.max(1, ...found.map(([, y, , h]) => Math.ceil(y + h) + 2));
+  const right = Math.max(1, ...found.map(([x, , w]) => Math.ceil(x + w) + 2));
+  const bottom = Math.max(1, ...found.map(([, y, , h]) => Math.ceil(y + h) + 2));
+  const all = [0, 0, Math.min(width, right), Math.min(height, bottom)];
   const shown = found.filter(([x, y, w, h]) => w > 0 && h > 0 && x < width && y < height && x + w > 0 && y + h > 0);
   return Array.from({ length: count }, (_, number) => {
-    const [x, y, w, h] = number % 2 && shown.length ? shown[Math.floor(draw() * shown.length)] : [0, 0, Math.min(width, right), Math.min(height, bottom)];
+    const [x, y, w, h] = number % 2 && shown.length ? shown[Math.floor(draw() * shown.length)] : all;
     return [within(x, w, width), within(y, h, height)];
   });
 }
@@ -82,8 +86,18 @@ function elementsAt(page, points, scale) {
   return points.map(([x, y]) => numbers.get(doc.elementFromPoint(x * scale, y * scale)) ?? null);
 }
 
-function pageOf(prepare, run) {
-  const page = prepare(run, { scale: SCALE, tables: 'auto', raw: false });
+// `hit` clips nothing (11.1.1), so a block that would clip becomes one that makes a context and doesn't.
+function unclipped(run) {
+  const nodes = run.nodes.map(node => {
+    const { overflow, ...style } = node.style ?? {};
+    const clips = overflow && overflow !== 'visible' && style.display === 'block';
+    return clips ? { ...node, style: { ...style, display: 'flow-root' } } : node;
+  });
+  return { ...run, nodes };
+}
+
+function pageOf(prepare, run, scale) {
+  const page = prepare(unclipped(run), { scale, tables: 'auto', raw: false });
   const levels = new Map(run.nodes.filter(node => node.style?.['z-index'] !== undefined).map(node => [node.id, node.style['z-index']]));
   for (const node of page.nodes) if (levels.has(node.i)) node.s += ';z-index:' + levels.get(node.i);
   return page;
@@ -91,7 +105,7 @@ function pageOf(prepare, run) {
 
 // The element that an answer of `lay hit` names.
 function elementOf(run, answer) {
-  const [, kind, number] = answer.trim().split(' ');
+  const [, kind, number] = answer.split(' ');
   const node = run.nodes.find(({ id }) => id === Number(number));
   return kind === 'none' ? run.nodes[0].id : kind === 'text' ? node.parent : node.id;
 }
@@ -105,19 +119,28 @@ async function answersOf(program, run, points) {
   return answers;
 }
 
+// The elements that the browser names at each point, at each scale.
+async function namedBy(browser, prepare, run, points) {
+  const named = [];
+  for (const scale of SCALES) {
+    const page = pageOf(prepare, run, scale);
+    await browser.ready([page.faceKey], scale);
+    named.push(await browser.page.eval(`(${elementsAt})(${JSON.stringify(page)}, ${JSON.stringify(points)}, ${scale})`));
+  }
+  return points.map((_, number) => named.map(elements => elements[number] ?? run.nodes[0].id));
+}
+
 async function differences(browser, prepare, asked, run, draw) {
   const found = rectangles(await layout(asked.program, run, ['scratch']));
-  const points = pointsOf(run, found, asked.points, draw), page = pageOf(prepare, run);
-  await browser.ready([page.faceKey], SCALE);
-  const elements = await browser.page.eval(`(${elementsAt})(${JSON.stringify(page)}, ${JSON.stringify(points)}, ${SCALE})`);
-  const answers = await answersOf(asked.program, run, points);
-  return points.map((point, number) => ({ point, lay: answers[number].trim(), named: elementOf(run, answers[number]), browser: elements[number] ?? run.nodes[0].id }))
-    .filter(({ named, browser }) => named !== browser);
+  const points = pointsOf(run, found, asked.points, draw);
+  const elements = await namedBy(browser, prepare, run, points), answers = await answersOf(asked.program, run, points);
+  return points.map((point, number) => ({ point, lay: answers[number].trim(), named: elements[number] }))
+    .filter(({ lay, named }) => !named.includes(elementOf(run, lay)));
 }
 
 const asked = settings(process.argv.slice(2));
 if (!asked.bridge || !asked.files.length) {
-  console.error('usage: browser/compare_hits.mjs --bridge FOLDER [--program PATH] [--points N] [--documents N] [--seed S] [--show K] FILE.jsonl[.gz] ..');
+  console.error('usage: browser/compare_hits.mjs --bridge FOLDER [--program PATH] [..] FILE.jsonl[.gz] ..');
   process.exit(2);
 }
 const { Bridge } = await import(join(asked.bridge, 'bridge.mjs')), { prepare } = await import(join(asked.bridge, 'style.mjs'));
@@ -137,7 +160,9 @@ try {
     counts.agree += asked.points - off.length;
     if (!off.length) counts.same++;
     else console.log(`${name}: ${off.length} points differ`);
-    for (const { point, lay, browser: element } of off.slice(0, asked.show)) console.log(`    at ${point.join(', ')}: lay ${lay}, Chromium ${element}`);
+    for (const { point, lay, named } of off.slice(0, asked.show)) {
+      console.log(`    at ${point.join(', ')}: lay ${lay}, Chromium ${named.join(' and ')}`);
+    }
   }
 } finally {
   await browser.close();
