@@ -55,8 +55,8 @@ def program_tree(program):
 class Checker:
     """Goes along the lines of a report; `place` counts those that are found right."""
 
-    def __init__(self, run, lines, tree, lacks=False):
-        self.lines, self.place, self.tree, self.lacks = lines, 0, tree, lacks
+    def __init__(self, run, lines, tree, lacks=False, contexts=context_count):
+        self.lines, self.place, self.tree, self.lacks, self.contexts = lines, 0, tree, lacks, contexts
         self.scripts = run.get('editors', [])
         self.document = Document(run)
         self.accepted, self.published, self.published_tree = 0, None, []
@@ -151,16 +151,16 @@ class Checker:
 
     def laid(self):
         number, = self.fields(LAID)
-        contexts = context_count(self.document.as_run())
+        contexts = self.contexts(self.document.as_run())
         require(number >= CELLS_OF_A_CONTEXT * contexts, '%d contexts' % contexts)
         require(number < 2 ** 64, 'a number that is too great')
         self.place += 1
 
 
-def first_fault(run, text, tree=reading_tree, lacks=False):
+def first_fault(run, text, tree=reading_tree, lacks=False, contexts=context_count):
     """The number of the first line with which no legal report begins, and what is wrong, or None."""
     lines = text.split('\n')
-    checker = Checker(run, lines[:-1], tree, lacks)
+    checker = Checker(run, lines[:-1], tree, lacks, contexts)
     try:
         checker.check()
         require(lines[-1] == '', 'a line without an end')

@@ -7,6 +7,7 @@ import json
 import random
 
 from atomic_documents import atomic_document
+from batches import MOST_EDITS
 from declarations import PROPERTIES
 from documents import document, print_documents
 from hit_documents import HitDraw
@@ -24,6 +25,7 @@ WHOLE = ['0', '1', '-1', '7', '+3', '999999999', '-999999999']
 WORDS = ['a', 'word', 'w' * 40, ' ', '  ', '\n', '\t', 'a b', 'a\nb', 'a\tb\t', '\u00a0', '\u200b', 'e\u0301', '\u65e5\u672c',
          '\U0001f468\u200d\U0001f469', '-', 'x-y', '\r\n',
          '\u0000', '\u2028', '\ufeff', '\u1100\u1161', '\U0010ffff', '\u00ad', '']
+EDITS = ['set'] * 6 + ['clear', 'text', 'text', 'insert', 'insert', 'remove']
 SHAPES = ['flat', 'deep', 'tree', 'tree', 'tree', 'wide']
 ODD_VALUES = [None, True, False, 0, 1, -1, 1.5, 2 ** 32, 2 ** 63, 2 ** 64, 10 ** 30, -2 ** 63, '', 'a', '\u0000', [], [[]], {},
               {'id': 1}, [0, 0], [1, 1], [1, 2, 3], 'inherit', '1px', 4294967295, 4294967296, 65536, 65, 1000001]
@@ -94,8 +96,14 @@ class Wild:
         return nodes
 
     def command(self, count):
+        action = self.choice(EDITS + ['batch'] * 3 + ['latest', 'sync', 'sync'])
+        if action == 'batch':
+            edits = self.choice([1, 2, 3, 8, 40]) if self.rng.random() < 0.97 else self.choice([MOST_EDITS, MOST_EDITS + 1])
+            return {'do': action, 'edits': [self.edit(self.choice(EDITS), count) for _ in range(edits)]}
+        return self.edit(action, count)
+
+    def edit(self, action, count):
         node = self.rng.randrange(count + 3)
-        action = self.choice(['set'] * 6 + ['clear', 'text', 'text', 'insert', 'insert', 'remove', 'latest', 'sync', 'sync'])
         if action == 'insert':
             return {'do': action, 'id': 1000 + self.rng.randrange(20), 'parent': node, 'index': self.rng.randrange(4), **self.fields()}
         name = self.choice(self.names)

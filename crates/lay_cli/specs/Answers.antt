@@ -4,8 +4,8 @@
 -- that of one legal history which answers each editor's commands once and in order, with trees that solve the documents
 -- of their versions. `hit` names the piece that is seen at a point, of a tree as `scratch` reports it. `check` reads a run
 -- document beside a report, and judges the report. `gen` reads nothing and writes the summary of such a history of the run
--- that the generator makes.
-use Rattle.std.specs.Prelude.{ℕ, ◌≡◌, ◌≢◌, ◌⊎◌, ◌<◌, ◌^◌, List, length, map, string_bytes, String, Option, Some, None, IfSome, Ok, Err}
+-- that the generator makes: it comes of its numbers alone where each edit was accepted.
+use Rattle.std.specs.Prelude.{ℕ, ◌≡◌, ◌≢◌, ◌<◌, ◌^◌, List, length, map, string_bytes, String, Option, Some, None, IfSome, Ok, Err}
 use Rattle.std.specs.declared.alloc.Global.{Global}
 use Rattle.lay_layout.specs.frag.Pieces.{Context}
 use Rattle.lay_layout.specs.context.Solves.{Solves}
@@ -20,6 +20,7 @@ use Rattle.lay_json.specs.declared.fault.InputFault.{InputFault}
 use Rattle.lay_json.specs.declared.fault.InputFault.TheVariants.{NoMemory}
 use Rattle.lay_input.specs.StyledReading.{IsStyledReading}
 use Rattle.lay_generator.specs.Generated.{generated}
+use Rattle.lay_generator.specs.LastDocuments.{list_count}
 use Rattle.lay_generator.specs.Summary.{summary}
 use Rattle.lay_words.specs.declared.form.Form.{Form}
 use Rattle.lay_words.specs.declared.form.Form.TheVariants as form
@@ -32,6 +33,7 @@ use Rattle.lay_cli.specs.Checks.{IsCheckRefusal, IsVerdictReport}
 use Rattle.lay_cli.specs.Hits.{IsSeen, point_at}
 use Rattle.lay_cli.specs.Input.{IsDrained}
 use Rattle.lay_cli.specs.Refusals.{fault_line}
+use Rattle.lay_cli.specs.Summaries.{IsOnlySummary}
 use Rattle.lay_cli.specs.declared.run_input.Input.{Input}
 use Rattle.lay_cli.specs.declared.run_input.Input.TheVariants.{Run as a_run, Refusal as a_refusal}
 
@@ -82,9 +84,12 @@ pub record IsSummaryOf (s : State) (text : List ℕ) : Type 0 where
   pub last : tree_at (accepted s.history) s.trees ≡ Some tree
   pub text_is : text ≡ summary (length s.document.nodes) (accepted s.history) tree
 
--- the text is the summary of a core that answered the editors of the generated run
-abbrev pub IsSummary : ℕ → ℕ → State → List ℕ → Type 0
-IsSummary size seed s text = IsDriven (generated size seed) s × IsSummaryOf s text
+-- the text is the summary of a core that answered the editors of the generated run; where each of their lists of edits was accepted it
+-- comes of the size and the seed alone
+pub record IsSummary (size seed : ℕ) (s : State) (text : List ℕ) : Type 0 where
+  pub driven : IsDriven (generated size seed) s
+  pub summary_of : IsSummaryOf s text
+  pub of_numbers : accepted s.history ≡ list_count (generated size seed) → IsOnlySummary size seed text
 
 -- what holds of the run that the bytes spell
 pub record OfRun (bytes : List ℕ) (P : Run → Type 0) : Type 0 where

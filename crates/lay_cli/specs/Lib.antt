@@ -3,6 +3,7 @@ pub mod Refusals
 pub mod Input
 pub mod Hits
 pub mod Checks
+pub mod Summaries
 pub mod Answers
 pub mod Endings
 pub mod Laws

@@ -1,7 +1,10 @@
-//! The law of reports that are checked.
+//! The laws of reports that are checked, and of summaries.
 
-ghost use Rattle.lay_cli.specs.Laws.{RunReportsAreAnsweredYes};
+ghost use Rattle.lay_cli.specs.Laws.{OneSummary, RunReportsAreAnsweredYes, SummariesComeOfNumbers};
 
+use lay_drive::editing_core::last_tree;
+use lay_generator::{generated_nodes_stay, generated_runs_come_to_one};
+use lay_layout::context::one_solution;
 use lay_run_reports::run_reports_are_yes;
 
 /// Each report that `run` writes is answered `yes` by `check`.
@@ -10,3 +13,18 @@ pub fn run_reports_are_answered_yes()
 {
     run_reports_are_yes();
 }
+
+/// Where each list of edits was accepted, the summary of a generated run comes of its size and its seed alone.
+pub fn summaries_come_of_numbers()
+    ensures { SummariesComeOfNumbers }
+{
+    generated_runs_come_to_one();
+    generated_nodes_stay();
+    last_tree();
+    one_solution();
+}
+
+/// So two calls of `gen` with the same numbers write the same.
+pub fn one_summary()
+    ensures { OneSummary }
+{}

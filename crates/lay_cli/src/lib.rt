@@ -6,7 +6,7 @@
 //! contract is in the words of `specs/Answers.antt`: which text answers which words and bytes; `specs/Endings.antt` says what a status
 //! says of the sink. `scratch`, `hit` and `check` are the calls that it makes for these words: they are given no runtime, so they start
 //! no thread and wait for none, and they return. The law `run_reports_are_answered_yes` says that the reports of `run` are answered
-//! `yes` by `check`.
+//! `yes` by `check`, and `one_summary` that `gen` writes the same for the same numbers (`specs/Summaries.antt`).
 #![tactic(auto)]
 
 mod at_point;
@@ -17,6 +17,7 @@ mod drive;
 mod from_scratch;
 mod input;
 mod laws;
+mod means;
 mod refusal;
 mod run_input;
 mod status;
@@ -26,6 +27,7 @@ pub use at_point::hit;
 pub use call::top;
 pub use checking::check;
 pub use from_scratch::scratch;
-pub use laws::run_reports_are_answered_yes;
+pub use laws::{one_summary, run_reports_are_answered_yes, summaries_come_of_numbers};
 pub use lay_drive::editing_core as editing_core;
+pub use means::Means;
 pub use status::Status;

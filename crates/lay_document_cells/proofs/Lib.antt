@@ -11,6 +11,7 @@ mod OneEdits
 mod Passing
 mod Pigeonhole
 mod SettledPlaces
+mod TextStyles
 mod WalkSteps
 mod Working
 pub use Rattle.lay_list_steps.proofs.lay_cell_laws as lay_cell_laws

@@ -1,6 +1,7 @@
 //! The contexts of a document, with its styles.
 
 ghost use Rattle.std.specs.Prelude.{◌≡◌, ◌+◌, IfOk, IfSome, None, OnOk, length};
+ghost use Rattle.std.specs.Arc.{arc_value};
 ghost use Rattle.lay_layout.specs.style.ComputedStyle.{HasStyles};
 ghost use Rattle.lay_layout.specs.doc.Document.{declarations_of, parents_of};
 ghost use Rattle.lay_layout.specs.doc.Edits.{after, fault};
@@ -23,11 +24,12 @@ use lay_layout::units::NoMemory;
 use lay_list_steps::changes::MeasuredContexts;
 use std::alloc::Global;
 use std::marker::Model;
+use std::sync::Arc;
 
 /// The computed styles of a document, its contexts with the places of their cells, and of each context whether its preferred widths count.
 #[derive(Drop)]
 pub(crate) struct DocumentTable {
-    styles: Computed,
+    styles: Arc<Computed>,
     cells: CellTable,
     measured: Vec<bool>,
 }
@@ -38,7 +40,7 @@ impl Model for DocumentTable {
 
     ghost Value = { TableValue };
 
-    ghost view = { λ t. record { styles = t.styles; lists = lists_in t.cells } };
+    ghost view = { λ t. record { styles = t.styles.value; lists = lists_in t.cells } };
 
     ghost invariant = { λ t. AreContextFlags t.cells.contexts t.cells.formatting_contexts t.measured.items };
 }
@@ -48,7 +50,7 @@ impl DocumentTable {
     pub(crate) fn of(alloc: Global, doc: &Doc) -> Result<DocumentTable, NoMemory>
         ensures { IfOk result (λ t. AreStyledLists doc.now t.styles t.lists) }
     {
-        let styles = computed(alloc, doc)?;
+        let styles = Arc::new(alloc, computed(alloc, doc)?)?;
         DocumentTable::of_styles(alloc, doc, styles)
     }
 
@@ -88,7 +90,7 @@ impl DocumentTable {
         ensures lists { IfOk result (λ t. AreStyledLists later.now t.table.styles t.table.lists) }
         ensures made { IfOk result (λ t. IfSome t.made (λ v. AreRestyled self.now.lists.contexts t.table.lists.contexts v.items)) }
     {
-        let styles = restyled(alloc, doc, &self.styles, edit, later)?;
+        let styles = self.styles_after(alloc, doc, edit, later)?;
         let of = EditedDoc {
             doc,
             was: &self.styles,
@@ -101,9 +103,32 @@ impl DocumentTable {
         Ok(EditedTable { table, made })
     }
 
+    /// The computed styles of a document after an edit, where this is the one before it. They are shared where a text changes, which has
+    /// no declarations.
+    fn styles_after(
+        &self,
+        alloc: Global,
+        doc: &Doc,
+        edit: &Edit,
+        later: &Doc,
+    ) -> Result<Arc<Computed>, NoMemory>
+        requires styles { HasStyles (parents_of doc.now.nodes) (declarations_of doc.now.nodes) self.now.styles }
+        requires accepted { fault doc.now edit.now ≡ None }
+        requires later { later.now ≡ after doc.now edit.now }
+        ensures { IfOk result (λ s. HasStyles (parents_of later.now.nodes) (declarations_of later.now.nodes) (arc_value s)) }
+    {
+        if let Edit::SetText { .. } = edit {
+            let shared = self.styles.clone()?;
+            return Ok(shared);
+        }
+        let styles = restyled(alloc, doc, &self.styles, edit, later)?;
+        let shared = Arc::new(alloc, styles)?;
+        Ok(shared)
+    }
+
     /// That of a document with these computed styles.
-    fn of_styles(alloc: Global, doc: &Doc, styles: Computed) -> Result<DocumentTable, NoMemory>
-        requires { HasStyles (parents_of doc.now.nodes) (declarations_of doc.now.nodes) styles }
+    fn of_styles(alloc: Global, doc: &Doc, styles: Arc<Computed>) -> Result<DocumentTable, NoMemory>
+        requires { HasStyles (parents_of doc.now.nodes) (declarations_of doc.now.nodes) (arc_value styles) }
         ensures { IfOk result (λ t. AreStyledLists doc.now t.styles t.lists) }
     {
         let contexts = contexts_of(alloc, doc, &styles)?;
@@ -113,10 +138,10 @@ impl DocumentTable {
     /// That of these styles and contexts.
     fn of_contexts(
         alloc: Global,
-        styles: Computed,
+        styles: Arc<Computed>,
         contexts: Contexts,
     ) -> Result<DocumentTable, NoMemory>
-        ensures styles { IfOk result (λ t. t.styles ≡ styles) }
+        ensures styles { IfOk result (λ t. t.styles ≡ arc_value styles) }
         ensures contexts { IfOk result (λ t. t.lists.contexts ≡ contexts) }
         ensures formatting { IfOk result (λ t. AreFormattingContextsOf t.lists.contexts t.lists.formatting_contexts) }
     {

@@ -1,6 +1,7 @@
 -- No node of a generated run has a fault where it is put: each section is put into a document of the sections before it, whose ids are lower.
-use Rattle.std.proofs.Common.{◌≡◌, ℕ, zero, suc, ◌+◌, ◌*◌, ◌%◌, ◌<◌, ◌≤◌, List, [], ◌∷◌, ◌++◌, length, refl, ap, ◌∙◌, arith, codes}
+use Rattle.std.proofs.Common.{◌≡◌, ℕ, zero, suc, ◌+◌, ◌*◌, ◌%◌, ◌<◌, ◌≤◌, List, [], ◌∷◌, ◌++◌, length, refl, ap, ◌∙◌, subst, arith, codes, inl, inr}
 use Rattle.std.specs.List.{repeat}
+use Rattle.std.proofs.lemmas.Bool.{cases_lt}
 use Rattle.std.proofs.lemmas.Nat.{mod_below}
 use Rattle.std.proofs.lemmas.List.{length-append}
 use Rattle.std.proofs.lemmas.List.Elements.{All-weaker}
@@ -9,9 +10,10 @@ use Rattle.lay_doc.specs.NewNodes.{NewNodeValue}
 use Rattle.lay_doc.specs.Document.{Document, root_document}
 use Rattle.lay_generator.specs.Draws.{draw, next, state_after}
 use Rattle.lay_generator.specs.Nodes.{block, container, float_box, id, more_count, more_words, root, section_end, section_nodes, sections, text, word}
-use Rattle.lay_generator.specs.Generated.{with_node, with_nodes}
+use Rattle.lay_generator.specs.Generated.{generated, with_node, with_nodes}
 use Rattle.lay_generator.specs.Laws.{AreFaultless, GeneratedNodesFit}
 use Rattle.lay_generator.proofs.Placed.{Fits, IsParent, fits_more, no_fault, parent_more, parent_stays, put}
+use Rattle.lay_generator.proofs.Steps.{nodes_more}
 
 letters : (n : ℕ) → length (repeat n (codes "w")) ≡ n
 letters zero = refl
@@ -41,10 +43,11 @@ fits_as d m b t m' b' t' fits same above more = record {
   texts = omega (arith, fits.texts, more);
 }
 
--- a document of the root and so many sections
-record IsSections (s : ℕ) (d : Document) : Type 0 where
-  fits : Fits d (1 + 4 * s) (1 + 4 * s) (270 * s)
-  root : IsParent d.nodes 1 1
+-- a document of the root and so many sections, each with its block
+pub record IsSections (s : ℕ) (d : Document) : Type 0 where
+  pub fits : Fits d (1 + 4 * s) (1 + 4 * s) (270 * s)
+  pub root : IsParent d.nodes 1 1
+  pub blocks : (j : ℕ) → j < s → IsParent d.nodes (4 + 4 * j) 3
 
 record IsNext (s : ℕ) (d : Document) (nodes : List (NodeId × NewNodeValue)) : Type 0 where
   none : AreFaultless d nodes
@@ -79,6 +82,11 @@ section_fits s state d few is =
     let d3 : Document = with_node d2 (id p, c) in
     let fits-c : Fits d3 q q t = fits_as d3 (o + 1) q (t + 0) q q t (fits_more d2 o o t p 2 c fits-b put-c (omega arith)) (omega arith) (omega arith) (omega arith) in
     let root-c : IsParent d3.nodes 1 1 = parent_stays d2 p 2 1 1 c root-b put-c (λ same. omega arith) in
+    let block-c : (j : ℕ) → j < s → IsParent d3.nodes (4 + 4 * j) 3 = λ j before.
+    parent_stays d2 p 2 (4 + 4 * j) 3 c
+    (parent_stays d1 p 2 (4 + 4 * j) 3 b
+    (parent_stays d 1 1 (4 + 4 * j) 3 a (is.blocks j before) put-a (λ same. omega (arith, before, same)))
+    put-b (λ same. omega (arith, before, same))) put-c (λ same. omega (arith, before, same)) in
     let own-c : IsParent d3.nodes q 3 = parent_more d2 o o t p 2 c fits-b put-c (omega arith) refl in
     let short = short_text s (state_after 4 state) in
     let none-e = no_fault d3 q q t q 3 e fits-c own-c (omega arith) (omega arith) (omega arith) (omega (arith, short)) (omega (arith, short)) in
@@ -90,6 +98,10 @@ section_fits s state d few is =
       sections = record {
         fits = fits_as d4 (q + 1) last (t + length e.text) (1 + 4 * (s + 1)) (1 + 4 * (s + 1)) (270 * (s + 1)) fits-e (omega arith) (omega arith) (omega (arith, short));
         root = parent_stays d3 q 3 1 1 e root-c put-e (λ same. omega arith);
+        blocks = λ j within. parent_stays d3 q 3 (4 + 4 * j) 3 e (elim (cases_lt j s) [
+          | inl before ↦ block-c j before
+          | inr last-one ↦ (let same : q ≡ 4 + 4 * j = omega (arith, within, last-one) in subst (λ n. IsParent d3.nodes n 3) same own-c)
+        ]) put-e (λ same. omega (arith, within, same));
       };
     }
 
@@ -104,11 +116,26 @@ all_fit (suc n) s state d few is =
     faultless_more d (section_nodes s state) (sections n (s + 1) (section_end state)) one.none
     (all_fit n (s + 1) (section_end state) (with_nodes d (section_nodes s state)) (omega (arith, few)) one.sections)
 
+sections_put : (n s state : ℕ) (d : Document) → s + n ≤ 1000 → IsSections s d → IsSections (s + n) (with_nodes d (sections n s state))
+sections_put zero s state d few is = let same : s ≡ s + 0 = omega arith in subst (λ k. IsSections k d) same is
+sections_put (suc n) s state d few is =
+    let nodes = section_nodes s state in
+    let same : s + 1 + n ≡ s + suc n = omega arith in
+    subst (λ k. IsSections k (with_nodes d (nodes ++ sections n (s + 1) (section_end state)))) same
+    (rw (nodes_more d nodes (sections n (s + 1) (section_end state)))
+    (sections_put n (s + 1) (section_end state) (with_nodes d nodes) (omega (arith, few)) (section_fits s state d (omega (arith, few)) is).sections))
+
 root_alone : IsSections 0 (root_document 800 600 root)
 root_alone = record {
   fits = record { count = refl; low = λ k d lt. (let z : k ≡ 0 = omega (arith, lt) in rw z (omega arith)); texts = omega arith };
   root = record { place = 0; within = omega arith; named = refl; each = λ k d lt. (let z : k ≡ 0 = omega (arith, lt) in rw z (λ same. (refl, omega arith))) };
+  blocks = λ j before. absurd (omega (arith, before));
 }
+
+pub generated_sections : (size seed : ℕ) → size ≤ 1000 → IsSections size (generated size seed).doc
+generated_sections size seed few =
+    let same : 0 + size ≡ size = omega arith in
+    subst (λ k. IsSections k (generated size seed).doc) same (sections_put size 0 seed (root_document 800 600 root) (omega (arith, few)) root_alone)
 
 pub generated_nodes_fit : GeneratedNodesFit
 generated_nodes_fit size seed few = (refl, all_fit size 0 seed (root_document 800 600 root) (omega (arith, few)) root_alone)

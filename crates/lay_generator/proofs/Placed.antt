@@ -1,6 +1,6 @@
 -- A node that is put into a document as the last child of a parent: it has no fault where the parent is an element and not deep, the id is
 -- new, and nodes and texts are few. What was so of the nodes is so of them with it.
-use Rattle.std.proofs.Common.{◌≡◌, ℕ, ◌+◌, ◌-◌, ◌==◌, ◌||◌, ◌<◌, ◌≤◌, true, false, not, List, [], ◌∷◌, take, drop, length, get_or, is_some, nat_lt, nat_le, refl, sym, ap, ◌∙◌, arith, Option, Some, None, inl, inr}
+use Rattle.std.proofs.Common.{◌≡◌, ℕ, zero, suc, ◌+◌, ◌-◌, ◌==◌, ◌||◌, ◌<◌, ◌≤◌, true, false, not, List, [], ◌∷◌, take, drop, length, get_or, is_some, nat_lt, nat_le, refl, sym, ap, ◌∙◌, arith, Option, Some, None, inl, inr}
 use Rattle.std.specs.List.{All, insert}
 use Rattle.std.proofs.lemmas.Bool.{cases_eq, cases_lt, le-ltb, lt-leb, ne_eqb, not_from_true}
 use Rattle.std.proofs.lemmas.List.{length-drop}
@@ -11,9 +11,12 @@ use Rattle.lay_style.specs.Places.{place_of}
 use Rattle.lay_style.proofs.Places.{map_some, place_fresh, place_here, place_later, place_none, place_within}
 use Rattle.lay_doc.specs.declared.node.Node.{Node}
 use Rattle.lay_doc.specs.declared.node.NodeId.{NodeId}
-use Rattle.lay_doc.specs.NewNodes.{NewNodeValue, is_element}
+use Rattle.lay_doc.specs.declared.node.Kind.{Kind}
+use Rattle.lay_doc.specs.declared.node.Kind.TheVariants.{Element, Text, Replaced}
+use Rattle.lay_doc.specs.NewNodes.{NewNodeValue, is_element, is_text}
 use Rattle.lay_doc.specs.Tree.{child_count, slot_from, slot_of}
-use Rattle.lay_doc.specs.Document.{Document, becomes, depths_of, ids_of, inserted, is_element_at, moved, parents_of, text_size}
+use Rattle.lay_doc.specs.Document.{Document, becomes, depths_of, ids_of, inserted, is_element_at, is_text_at, moved, parents_of, text_size}
+use Rattle.lay_doc.specs.Changes.{style_fault}
 use Rattle.lay_doc.specs.Edits.{insert_fault, last_index}
 use Rattle.lay_doc.proofs.Inserted.{ids_inserted, text_size_inserted}
 use Rattle.lay_doc.proofs.NodeColumns.{length-column, length-ids, length-parents}
@@ -65,6 +68,22 @@ found nodes id r parent = by (place_of id (ids_of nodes)) refl
     by (Some p) e =
         let l = looked nodes id r p parent.each e in
         record { place = p; is = e; within = omega (arith, place_within id (ids_of nodes) p e, length-ids nodes); element = l.element; depth = l.depth }
+
+element_no_text : (kind : Kind) → is_element kind ≡ true → is_text kind ≡ false
+element_no_text (Element colspan rowspan) e = refl
+element_no_text Text e = absurd cc
+element_no_text (Replaced w h) e = refl
+
+no_text : (nodes : List Node) (p : ℕ) → is_element_at nodes p ≡ true → is_text_at nodes p ≡ false
+no_text [] p e = absurd cc
+no_text (n ∷ ns) zero e = element_no_text n.kind e
+no_text (n ∷ ns) (suc p) e = no_text ns p e
+
+-- a declaration may be set on it
+pub may_be_styled : (d : Document) (id r : ℕ) → IsParent d.nodes id r → style_fault d id ≡ None
+may_be_styled d id r parent =
+    let f = found d.nodes id r parent in
+    rw (f.is, no_text d.nodes f.place f.element) refl
 
 -- no node has an id that is greater than each
 unnamed : (nodes : List Node) (b id : ℕ) → All (λ n. n.id.0 ≤ b) nodes → b < id → place_of id (ids_of nodes) ≡ None

@@ -1,5 +1,5 @@
--- The scripts of the generator's four editors. Editor e changes the block of each fourth section, in batches of 64 edits, the last one
--- with what is left, and then asks for the last version.
+-- The scripts of the generator's four editors. Editor e changes the block of each fourth section, in batches of so many edits, the last
+-- one with what is left, and then asks for the last version.
 use Rattle.std.specs.Prelude.{ℕ, zero, suc, ◌+◌, ◌-◌, ◌*◌, ◌/◌, ◌%◌, ◌==◌, Bool, List, [], ◌∷◌, ◌++◌, drop, length, map, take}
 use Rattle.std.specs.List.{filter, range_with_len}
 use Rattle.lay_style.specs.declared.property.Property.TheVariants.{PaddingLeft}
@@ -12,7 +12,7 @@ use Rattle.lay_generator.specs.Nodes.{id, px}
 
 -- the left padding of a section's block is the next draw
 abbrev pub set_padding : ℕ → ℕ → Edit
-set_padding section state = (SetStyle (id (4 + 4 * section)) (record { property = PaddingLeft; value = px (draw 1 state % 30) }))
+set_padding section state = SetStyle (id (4 + 4 * section)) (record { property = PaddingLeft; value = px (draw 1 state % 30) })
 
 -- an edit for each of these sections, with a draw each
 abbrev pub paddings : List ℕ → ℕ → List Edit
@@ -27,13 +27,17 @@ is_of editor section = section % 4 == editor - 1
 abbrev pub sections_of : ℕ → ℕ → List ℕ
 sections_of size editor = filter (is_of editor) (range_with_len 0 size)
 
+-- how many edits a full batch has
+abbrev pub batch_size : ℕ
+batch_size = 64
+
 -- the list of edits that a batch has
 abbrev pub batch_at : List Edit → ℕ → List Edit
-batch_at edits k = take 64 (drop (64 * k) edits)
+batch_at edits k = take batch_size (drop (batch_size * k) edits)
 
 -- all edits in batches, in order
 abbrev pub batches : List Edit → List Cmd
-batches edits = map (λ k. Edits (batch_at edits k)) (range_with_len 0 ((length edits + 63) / 64))
+batches edits = map (λ k. Edits (batch_at edits k)) (range_with_len 0 ((length edits + (batch_size - 1)) / batch_size))
 
 abbrev pub script : ℕ → ℕ → ℕ → List Cmd
 script size editor state = batches (paddings (sections_of size editor) state) ++ Sync ∷ []

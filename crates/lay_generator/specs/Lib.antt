@@ -4,4 +4,5 @@ pub mod Commands
 pub mod Batches
 pub mod Generated
 pub mod Summary
+pub mod LastDocuments
 pub mod Laws

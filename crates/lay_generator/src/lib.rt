@@ -14,5 +14,7 @@ mod nodes;
 mod summary;
 
 pub use generated::generated_run;
-pub use laws::generated_nodes_fit;
+pub use laws::{
+    generated_edits_fit, generated_nodes_fit, generated_nodes_stay, generated_runs_come_to_one,
+};
 pub use summary::run_summary;

@@ -76,9 +76,15 @@ next_part block done rest so_far some part behind_it found all part_is behind_is
     let q = found_more done (declaration_of (part_to 0 rest)) decls ∙ ap (λ z. (done ++ with_found z []) ++ decls) d ∙ ap (λ z. z ++ decls) (sym is) in
     subst (λ z. AreDeclarations block z) q w
 
-pub block_ends : (block : List ℕ) (done : List SheetDecl) (rest : List ℕ) → ((decls : List SheetDecl) → AreDeclarations rest decls → AreDeclarations block (done ++ decls)) → length rest ≡ 0 → AreDeclarations block done
-block_ends block done [] so_far e = subst (λ z. AreDeclarations block z) (append-nil done) (so_far [] no_part)
-block_ends block done (b ∷ bs) so_far e = absurd (omega (arith, e))
+-- the last part of a block is all of it that is left
+pub last_part : (block part : List ℕ) → part ≡ part_to 0 block → behind_part 0 block ≡ [] → AreDeclarations block (with_found (declaration_of part) [])
+last_part [] part is ends = subst (λ z. AreDeclarations [] (with_found (declaration_of z) [])) (sym is) no_part
+last_part (b ∷ bs) part is ends =
+    subst (λ z. AreDeclarations (b ∷ bs) (with_found (declaration_of z) [])) (sym is) (one_part b bs [] (subst (λ z. AreDeclarations z []) (sym ends) no_part))
+
+pub block_ends : (block : List ℕ) (done : List SheetDecl) (rest : List ℕ) → ((decls : List SheetDecl) → AreDeclarations rest decls → AreDeclarations block (done ++ decls)) →
+    (part : List ℕ) (all : List SheetDecl) → part ≡ part_to 0 rest → behind_part 0 rest ≡ [] → all ≡ done ++ with_found (declaration_of part) [] → AreDeclarations block all
+block_ends block done rest so_far part all part_is ends is = subst (λ z. AreDeclarations block z) (sym is) (so_far (with_found (declaration_of part) []) (last_part rest part part_is ends))
 
 -- the rule sets of a text continue those that are done
 pub next_statement : (text : List ℕ) (done : List RuleValue) (rest behind_it : List ℕ) → ((rules : List RuleValue) → AreStatements rest rules → AreStatements text (done ++ rules)) →

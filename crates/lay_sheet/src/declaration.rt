@@ -1,11 +1,12 @@
 //! The declarations of a rule set's block.
 
-ghost use Rattle.std.specs.Prelude.{◌≡◌, [], ◌++◌, true, IfOk, OnOk, map, option_map};
+ghost use Rattle.std.specs.Prelude.{◌≡◌, ◌≤◌, length, [], ◌++◌, true, IfOk, OnOk, map, option_map};
 ghost use Rattle.std.specs.Char.{to_ascii_lowercase};
 ghost use Rattle.std.specs.Result.{result_ok};
 ghost use Rattle.lay_values.specs.Reading.{without_end, read_declaration};
 ghost use Rattle.lay_sheet.specs.Lists.{with_found};
 ghost use Rattle.lay_sheet.specs.Declarations.{before_exclamation, before_important, text_of, named_by, named, weighed, declared, declaration_of, AreDeclarations};
+ghost use Rattle.lay_sheet.specs.Pieces.{block_to, behind_block};
 
 use crate::pieces::{behind_first, split_before, split_part, trimmed};
 use lay_style::Decl;
@@ -142,17 +143,31 @@ fn push_found(decls: &mut Vec<SheetDecl>, found: Option<SheetDecl>) -> Result<()
     Ok(())
 }
 
-/// The declarations of a block, in its order.
-pub(crate) fn declarations_of(alloc: Global, block: &[u8]) -> Result<Vec<SheetDecl>, NoMemory>
-    ensures { IfOk result (λ v. AreDeclarations block.now v.items) }
+/// Adds the declaration that a part of a block is, if it is one.
+fn push_part(alloc: Global, decls: &mut Vec<SheetDecl>, part: &[u8]) -> Result<(), NoMemory>
+    ensures { OnOk result (decls.new.items ≡ decls.old.items ++ with_found (declaration_of part.now) []) }
+{
+    let found = declaration_of(alloc, part)?;
+    push_found(decls, found)
+}
+
+/// The declarations of the block that a text begins in, in its order; and what stands behind the block.
+pub(crate) fn declarations_of(
+    alloc: Global,
+    text: &[u8],
+) -> Result<(Vec<SheetDecl>, &[u8]), NoMemory>
+    ensures decls { IfOk result (λ r. AreDeclarations (block_to 0 text.now) r.0.items) }
+    ensures rest { IfOk result (λ r. r.1.now ≡ behind_block 0 text.now) }
+    ensures shorter { IfOk result (λ r. length r.1.now ≤ length text.now) }
 {
     let mut decls = Vec::new(alloc);
-    let mut rest = block;
-    while !rest.is_empty() {
-        let (part, behind) = split_part(rest);
-        let found = declaration_of(alloc, part)?;
-        push_found(&mut decls, found)?;
-        rest = behind;
+    let mut rest = text;
+    let mut open = true;
+    while open {
+        let part = split_part(rest);
+        push_part(alloc, &mut decls, part.text)?;
+        rest = part.rest;
+        open = !part.is_last;
     }
-    Ok(decls)
+    Ok((decls, rest))
 }

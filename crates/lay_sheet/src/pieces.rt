@@ -1,6 +1,6 @@
 //! Where the pieces of a sheet end.
 
-ghost use Rattle.std.specs.Prelude.{◌≡◌, ◌<◌, ◌≤◌, length, drop};
+ghost use Rattle.std.specs.Prelude.{◌≡◌, ◌<◌, ◌≤◌, [], true, false, length, drop};
 ghost use Rattle.lay_values.specs.Numbers.{leading, behind};
 ghost use Rattle.lay_values.specs.Reading.{trimmed};
 ghost use Rattle.lay_sheet.specs.Pieces.{is_other, block_to, behind_block, behind_at_rule, part_to, behind_part};
@@ -34,22 +34,21 @@ pub(crate) fn split_before(byte: u8, text: &[u8]) -> (&[u8], &[u8])
     text.split_at(text.len())
 }
 
-/// The block that a text begins in, and what stands behind it.
-pub(crate) fn split_block(text: &[u8]) -> (&[u8], &[u8])
-    ensures block { result.0.now ≡ block_to 0 text.now }
-    ensures rest { result.1.now ≡ behind_block 0 text.now }
-    ensures shorter { length result.1.now ≤ length text.now }
+/// What stands behind the block that a text begins in.
+pub(crate) fn behind_block(text: &[u8]) -> &[u8]
+    ensures rest { result.now ≡ behind_block 0 text.now }
+    ensures shorter { length result.now ≤ length text.now }
 {
     let mut depth: usize = 0;
     for (i, b) in text.iter().enumerate() {
         match *b {
             b'{' => depth += 1,
-            b'}' if depth == 0 => return (&text[..i], &text[i + 1..]),
+            b'}' if depth == 0 => return &text[i + 1..],
             b'}' => depth -= 1,
             _ => {}
         }
     }
-    text.split_at(text.len())
+    &[]
 }
 
 /// What stands behind a statement that begins with `@`.
@@ -60,27 +59,50 @@ pub(crate) fn behind_at_rule(text: &[u8]) -> &[u8]
     for (i, b) in text.iter().enumerate() {
         match *b {
             b';' => return &text[i + 1..],
-            b'{' => return split_block(&text[i + 1..]).1,
+            b'{' => return behind_block(&text[i + 1..]),
             _ => {}
         }
     }
     &[]
 }
 
-/// The part of a block up to its first `;` outside braces, and what stands behind that.
-pub(crate) fn split_part(text: &[u8]) -> (&[u8], &[u8])
-    ensures part { result.0.now ≡ part_to 0 text.now }
-    ensures rest { result.1.now ≡ behind_part 0 text.now }
-    ensures shorter { 0 < length text.now → length result.1.now < length text.now }
+/// A part of a block.
+#[derive(Clone, Copy)]
+pub(crate) struct Part<'a> {
+    pub(crate) text: &'a [u8],
+    /// What stands behind it: the rest of the block and all behind that, or what stands behind the block.
+    pub(crate) rest: &'a [u8],
+    /// Whether the block ends with this part.
+    pub(crate) is_last: bool,
+}
+
+/// The first part of the block that a text begins in, up to the first `;` outside inner braces.
+pub(crate) fn split_part(text: &[u8]) -> Part<'_>
+    ensures part { result.text.now ≡ part_to 0 (block_to 0 text.now) }
+    ensures last { result.is_last ≡ true → (behind_part 0 (block_to 0 text.now) ≡ []) × (result.rest.now ≡ behind_block 0 text.now) }
+    ensures more { result.is_last ≡ false → (behind_part 0 (block_to 0 text.now) ≡ block_to 0 result.rest.now)
+        × (behind_block 0 text.now ≡ behind_block 0 result.rest.now) × (0 < length (block_to 0 text.now)) }
+    ensures shorter { length result.rest.now ≤ length text.now }
+    ensures shorter_more { result.is_last ≡ false → length result.rest.now < length text.now }
 {
     let mut depth: usize = 0;
     for (i, b) in text.iter().enumerate() {
         match *b {
             b'{' => depth += 1,
-            b'}' => depth = depth.saturating_sub(1),
-            b';' if depth == 0 => return (&text[..i], &text[i + 1..]),
+            b'}' | b';' if depth == 0 => {
+                return Part {
+                    text: &text[..i],
+                    rest: &text[i + 1..],
+                    is_last: *b == b'}',
+                };
+            }
+            b'}' => depth -= 1,
             _ => {}
         }
     }
-    text.split_at(text.len())
+    Part {
+        text,
+        rest: &[],
+        is_last: true,
+    }
 }

@@ -83,7 +83,8 @@ fn seen_of(place: Place, byte: u8, rest: &[u8]) -> Option<u8>
 fn may_open(byte: u8) -> bool
     ensures { result ≡ (is_mark byte || (byte == 92) || (byte == 47)) }
 {
-    is_mark(byte) || byte == b'\\' || byte == b'/'
+    // Letters are told by the first comparison.
+    byte <= b'\\' && (byte == b'\\' || byte == b'/' || is_mark(byte))
 }
 
 /// What a text begins with up to the first byte that may begin anything else, all of which is seen, and what stands behind it.

@@ -1,9 +1,11 @@
 //! A rule set.
 
-ghost use Rattle.std.specs.Prelude.{◌≡◌, IfOk};
+ghost use Rattle.std.specs.Prelude.{◌≡◌, ◌≤◌, IfOk, length};
+ghost use Rattle.lay_sheet.specs.Pieces.{block_to, behind_block};
 ghost use Rattle.lay_sheet.specs.Sheets.{IsRuleSet};
 
 use crate::declaration::{SheetDecl, declarations_of};
+use crate::pieces::behind_block;
 use crate::selector::Selector;
 use crate::selector_text::selectors_of;
 use lay_units::NoMemory;
@@ -41,13 +43,19 @@ impl Rule {
     }
 }
 
-/// The rule set that a prelude and a block are; None where it is ignored.
-pub(crate) fn rule_of(alloc: Global, prelude: &[u8], block: &[u8]) -> Result<Option<Rule>, NoMemory>
-    ensures { IfOk result (λ r. IsRuleSet prelude.now block.now r) }
+/// The rule set that a prelude and the block that a text begins in are, None where it is ignored; and what stands behind the block.
+pub(crate) fn rule_of<'a>(
+    alloc: Global,
+    prelude: &[u8],
+    text: &'a [u8],
+) -> Result<(Option<Rule>, &'a [u8]), NoMemory>
+    ensures rule { IfOk result (λ r. IsRuleSet prelude.now (block_to 0 text.now) r.0) }
+    ensures rest { IfOk result (λ r. r.1.now ≡ behind_block 0 text.now) }
+    ensures shorter { IfOk result (λ r. length r.1.now ≤ length text.now) }
 {
     let Some(selectors) = selectors_of(alloc, prelude)? else {
-        return Ok(None);
+        return Ok((None, behind_block(text)));
     };
-    let decls = declarations_of(alloc, block)?;
-    Ok(Some(Rule { selectors, decls }))
+    let (decls, rest) = declarations_of(alloc, text)?;
+    Ok((Some(Rule { selectors, decls }), rest))
 }

@@ -5,7 +5,7 @@ ghost use Rattle.std.specs.Char.{is_ascii_whitespace};
 ghost use Rattle.lay_sheet.specs.Lists.{with_found};
 ghost use Rattle.lay_sheet.specs.Sheets.{RuleValue, AreStatements, IsSheet, selector_count};
 
-use crate::pieces::{behind_at_rule, behind_first, split_before, split_block};
+use crate::pieces::{behind_at_rule, behind_first, split_before};
 use crate::plain::plain_text;
 use crate::rule::{Rule, rule_of};
 use lay_units::NoMemory;
@@ -65,8 +65,7 @@ fn rule_set(alloc: Global, text: &[u8]) -> Result<(Option<Rule>, &[u8]), NoMemor
     if rest.is_empty() {
         return Ok((None, rest));
     }
-    let (block, behind) = split_block(behind_first(rest));
-    let rule = rule_of(alloc, prelude, block)?;
+    let (rule, behind) = rule_of(alloc, prelude, behind_first(rest))?;
     Ok((rule, behind))
 }
 

@@ -13,6 +13,8 @@ returns-then-is_empty-clause-grammar c =
 pub returns-clause-grammar : goal.returns-clause-grammar
 returns-clause-grammar c =
     let begun : 0 < length c.split_before.result.1.now = first_of (search rules, grind (arith, common_steps)) in
-    let rule : IsRuleSet c.split_before.result.0.now c.split_block.result.0.now c.in_ok-rule.rule = first_of (search rules, grind (arith, common_steps)) in
-    one_rule_set c.args.text.now c.requires.some c.requires.no_space c.requires.no_at_rule c.split_before.result.0.now c.split_before.result.1.now c.split_block.result.0.now c.split_block.result.1.now
-    c.split_before.ensures.before c.split_before.ensures.rest begun (c.split_block.ensures.block ∙ ap (block_to 0) c.behind_first.ensures) (c.split_block.ensures.rest ∙ ap (behind_block 0) c.behind_first.ensures) c.in_ok-rule.rule rule
+    let block = block_to 0 c.behind_first.result.now in
+    let rule : IsRuleSet c.split_before.result.0.now block c.in_ok-rule.rule = first_of (search rules, grind (arith, common_steps)) in
+    let rest : c.in_ok-rule.behind.now ≡ behind_block 0 c.behind_first.result.now = first_of (search rules, grind (arith, common_steps)) in
+    one_rule_set c.args.text.now c.requires.some c.requires.no_space c.requires.no_at_rule c.split_before.result.0.now c.split_before.result.1.now block c.in_ok-rule.behind.now
+    c.split_before.ensures.before c.split_before.ensures.rest begun (ap (block_to 0) c.behind_first.ensures) (rest ∙ ap (behind_block 0) c.behind_first.ensures) c.in_ok-rule.rule rule

@@ -1,0 +1,12 @@
+mod OneLists
+mod GivenOnce
+mod ReadyGiven
+mod WholeLayouts
+mod ListedChanges
+mod TurnSteps
+mod WorkTurns
+mod CarriedTurns
+mod LaterHistories
+mod QuietCalls
+mod ReachedTurns
+mod GrantedClaims

@@ -1,0 +1,19 @@
+use Rattle.std.proofs.Common.{◌≡◌, ◌∙◌, List, ap, subst, sym}
+use Rattle.std.specs.Arc.{arc_value}
+use Rattle.lay_layout.specs.style.declared.style.Style.{Style}
+use Rattle.lay_layout.specs.style.ComputedStyle.{HasStyles}
+use Rattle.lay_layout.specs.doc.Document.{Document, declarations_of, parents_of}
+use Rattle.lay_layout.specs.doc.declared.edit.Edit.{Edit}
+use Rattle.lay_layout.specs.doc.Edits.{after}
+use Rattle.lay_document_cells.specs.Kept.{TableValue}
+use Rattle.lay_document_cells.proofs.TextStyles.{texts-have-no-styles}
+use Rattle.lay_document_cells.proofs.document_table.DocumentTable.styles_after.Goals as goal
+
+pub returns-in-SetText : goal.returns-in-SetText
+returns-in-SetText c =
+    let was = c.args.doc.now in
+    let now = arc_value c.in_ok-shared.shared in
+    let same : c.args.self.now.styles ≡ now = sym (ap (λ (t : TableValue). t.styles) c.self.view_is) ∙ sym c.in_ok-shared.ensures.cases in
+    let kept = subst (λ (styles : List Style). HasStyles (parents_of was.nodes) (declarations_of was.nodes) styles) same c.requires.styles in
+    subst (λ (d : Document). HasStyles (parents_of d.nodes) (declarations_of d.nodes) now)
+    (sym (c.requires.later ∙ ap (after was) c.in-SetText.is)) (texts-have-no-styles was c.in-SetText.node c.in-SetText.text now kept)
