@@ -184,7 +184,8 @@ impl OneCore {
         let Batch::Claims(claims) = replace(&mut self.batch, Batch::None) else {
             return Ok(None);
         };
-        let cleaned = self.finish_each(shared(rt, alloc, claims, workers, &self.gate)?);
+        let all = shared(rt, alloc, claims, workers, &self.gate)?;
+        let cleaned = self.finish_each(all);
         Ok(Some(format!(in alloc; "cleaned {cleaned}")?))
     }
 
