@@ -1,7 +1,7 @@
 //! The program `lay`: the top call over standard input and standard output.
 #![tactic(auto)]
 
-use lay_cli::{Status, top};
+use lay_cli::{Means, Status, top};
 use lay_outside::{InputSource, OpenGate, OutputSink};
 use std::process::ExitCode;
 use std::rt::Env;
@@ -33,13 +33,10 @@ fn run<R: Threads + Wait + Sync + Input + Print + AllocGlobal>(rt: &R, words: &[
     let mut source = InputSource::new(rt.reader());
     let mut sink = OutputSink::new(io::writer(rt));
     let mut kept = None;
-    top(
+    let means = Means {
         rt,
-        rt.alloc(),
-        words,
-        &mut source,
-        &mut sink,
-        &OpenGate,
-        &mut kept,
-    )
+        alloc: rt.alloc(),
+        gate: &OpenGate,
+    };
+    top(&means, words, &mut source, &mut sink, &mut kept)
 }

@@ -1,8 +1,7 @@
 -- What stands after a command is answered.
-use Rattle.std.proofs.Common.{◌≡◌, ℕ, zero, suc, ◌+◌, ◌<◌, ◌≤◌, List, [], ◌∷◌, length, fold, Option, Some, None, refl, sym, ap, ◌∙◌, subst, arith, slice_get, slice_index_or, slice_set, inl, inr}
+use Rattle.std.proofs.Common.{◌≡◌, ℕ, suc, ◌+◌, ◌<◌, ◌≤◌, List, [], length, fold, Some, refl, sym, ap, ◌∙◌, subst, arith, slice_index_or, slice_set, inl, inr}
 use Rattle.std.proofs.lemmas.Bool.{cases_lt}
 use Rattle.lay_edits.specs.EditLists.{after_all}
-use Rattle.lay_doc.specs.declared.edit.Edit.{Edit as Change}
 use Rattle.lay_edits.specs.declared.command.Cmd.{Cmd}
 use Rattle.lay_edits.specs.declared.command.Cmd.TheVariants as command
 use Rattle.lay_edits.specs.declared.command.Reply.{Reply}

@@ -1,10 +1,8 @@
 -- Each history that is read can be completed: a list of edits that is left is refused for its first fault, or for want of memory, as is
 -- what is left to be shown; then the present version is published, where it isn't.
-use Rattle.std.proofs.Common.{◌≡◌, ℕ, ◌+◌, ◌<◌, ◌≤◌, ◌*◌, ◌^◌, ◌==◌, zero, suc, List, [], ◌∷◌, ◌++◌, length, fold, Option, Some, None, IfSome, refl, sym, ap, ◌∙◌, subst, arith, append_assoc, append-nil, slice_get, slice_index_or, slice_set, inl, inr}
-use Rattle.std.specs.List.{flat_map}
+use Rattle.std.proofs.Common.{◌≡◌, ℕ, ◌+◌, ◌<◌, ◌≤◌, ◌*◌, zero, suc, List, [], ◌∷◌, ◌++◌, length, fold, Option, Some, None, IfSome, refl, sym, ap, ◌∙◌, subst, arith, append_assoc, append-nil, slice_get, slice_index_or, slice_set, inl, inr}
 use Rattle.std.proofs.lemmas.Bool.{cases_eq, cases_lt}
 use Rattle.std.proofs.lemmas.List.{get_or-set_other, get_or-set_same}
-use Rattle.lay_doc.specs.Document.{Document}
 use Rattle.lay_edits.specs.EditLists.{IsFirst, after_all, first}
 use Rattle.lay_edits.proofs.Firsts.{first_is}
 use Rattle.lay_doc.specs.declared.edit.EditFault.{EditFault}
@@ -14,18 +12,14 @@ use Rattle.lay_edits.specs.declared.command.Cmd.TheVariants as command
 use Rattle.lay_edits.specs.declared.command.Reply.{Reply}
 use Rattle.lay_edits.specs.declared.command.Reply.TheVariants.{Refused, NoMemory}
 use Rattle.lay_edits.specs.declared.history.Entry.{Entry}
-use Rattle.lay_edits.specs.declared.history.Entry.TheVariants.{Edit, Publish, Latest, Sync}
-use Rattle.lay_face.specs.FaceValue.{FaceValue}
-use Rattle.lay_frag.specs.Lines.{tree_text}
+use Rattle.lay_edits.specs.declared.history.Entry.TheVariants.{Publish, Latest, Sync}
 use Rattle.lay_history.specs.Histories.{accepted, list_in, last_or, version_in}
 use Rattle.lay_history.specs.Trees.{PublishedTreeValue, tree_at}
 use Rattle.lay_history.proofs.Lists.{not_none, some_is, get_some}
-use Rattle.lay_report.specs.Report.{run_report}
 use Rattle.lay_context.specs.Laws.{OneSolution}
-use Rattle.lay_audit.specs.declared.step.Step.{Step}
 use Rattle.lay_audit.specs.declared.step.Step.TheVariants as step
-use Rattle.lay_audit.specs.LegalReports.{Basis, IsLegalReport, IsWholeRun}
-use Rattle.lay_audit.specs.Presents.{Answers, IsAnswer, IsPresent, IsStep, Moves, PresentValue, entry_of, next_command}
+use Rattle.lay_audit.specs.LegalReports.{Basis, IsWholeRun}
+use Rattle.lay_audit.specs.Presents.{Answers, PresentValue, entry_of, next_command}
 use Rattle.lay_audit.specs.Readings.{GoesOn, HasLayout, IsLayoutOf, IsPlayed, IsRead, IsTreeOf, LastTreeValue, ReadingValue}
 use Rattle.lay_audit.proofs.Fronts.{fronts_whole}
 use Rattle.lay_audit.proofs.PlayedTrees.{played_more, published_played, shown_same}

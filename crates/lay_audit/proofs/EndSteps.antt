@@ -1,26 +1,25 @@
 -- The end of a report: its last tree, the number of claims, and nothing behind.
-use Rattle.std.proofs.Common.{◌≡◌, ℕ, ◌+◌, ◌<◌, ◌≤◌, ◌*◌, ◌^◌, suc, List, [], ◌∷◌, ◌++◌, length, Option, Some, None, IfSome, codes, refl, sym, ap, ◌∙◌, subst, arith, append_assoc, append-nil}
+use Rattle.std.proofs.Common.{◌≡◌, ℕ, ◌+◌, ◌*◌, List, [], ◌∷◌, ◌++◌, length, Some, IfSome, codes, refl, sym, ap, ◌∙◌, subst, arith, append_assoc, append-nil}
 use Rattle.std.specs.List.{flat_map}
 use Rattle.std.specs.Fmt.{decimal}
 use Rattle.std.proofs.lemmas.List.{append_cancel_left}
 use Rattle.lay_edits.specs.declared.history.Entry.{Entry}
-use Rattle.lay_frag.specs.Pieces.{Context}
 use Rattle.lay_history.specs.Histories.{accepted, shown_version}
 use Rattle.lay_history.proofs.Lists.{some_is}
 use Rattle.lay_history.specs.Trees.{PublishedTreeValue, tree_at}
-use Rattle.lay_report.specs.Report.{entry_line, entry_text, final_line, final_text, laid_line, run_report, shown_lines}
+use Rattle.lay_report.specs.Report.{entry_line, entry_text, final_line, final_text, laid_line, shown_lines}
 use Rattle.lay_report.proofs.Joined.{decimal_lacks, lacks_append}
 use Rattle.lay_report.proofs.ReportLines.{laid_body}
 use Rattle.lay_context.specs.Laws.{OneSolution}
 use Rattle.lay_audit.specs.LegalReports.{Basis, IsLegalReport, IsWholeRun}
 use Rattle.lay_audit.specs.Lines.{behind_line, first_line}
-use Rattle.lay_audit.specs.Readings.{Ends, GoesOn, HaveTrees, IsAtEnd, IsLaidNext, IsPlayed, IsRead, IsTreeOf, MayEnd, ReadingValue}
+use Rattle.lay_audit.specs.Readings.{Ends, GoesOn, IsAtEnd, IsLaidNext, IsRead, IsTreeOf, MayEnd, ReadingValue}
 use Rattle.lay_audit.specs.WholeLines.{AreLines, LacksEnd}
 use Rattle.lay_audit.proofs.Entries.{begins_with, final_is_line, not_final}
 use Rattle.lay_audit.proofs.Fronts.{fronts_whole}
 use Rattle.lay_audit.proofs.LineFacts.{end_of_first, first_ended, more_lines, one_line}
 use Rattle.lay_audit.proofs.PlayedTrees.{shown_same}
-use Rattle.lay_audit.proofs.ReadSteps.{IsBehind, behind_of, report_behind, report_split, shown_text}
+use Rattle.lay_audit.proofs.ReadSteps.{behind_of, report_behind, report_split, shown_text}
 use Rattle.lay_audit.proofs.VerdictLaws.{CanGoOn, NoneGoesOn}
 
 -- a history that may end, as a whole run

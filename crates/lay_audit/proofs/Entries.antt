@@ -1,5 +1,5 @@
 -- The lines of entries: which entry a line tells.
-use Rattle.std.proofs.Common.{◌≡◌, ℕ, ◌+◌, ◌<◌, ◌≤◌, ◌^◌, zero, suc, List, [], ◌∷◌, ◌++◌, length, Option, Some, None, codes, refl, sym, ap, ◌∙◌, subst, arith, append_assoc, slice_index_or, slice_get}
+use Rattle.std.proofs.Common.{◌≡◌, ℕ, ◌+◌, ◌<◌, ◌^◌, suc, List, [], ◌∷◌, ◌++◌, length, Some, codes, refl, sym, ap, ◌∙◌, subst, arith, append_assoc, slice_index_or}
 use Rattle.std.specs.Fmt.{decimal}
 use Rattle.std.specs.List.{All}
 use Rattle.std.proofs.lemmas.Option.{get_or_from_slice_get}
@@ -12,17 +12,17 @@ use Rattle.lay_edits.specs.declared.command.Reply.TheVariants.{Accepted, Refused
 use Rattle.lay_edits.specs.declared.history.Entry.{Entry}
 use Rattle.lay_edits.specs.declared.history.Entry.TheVariants.{Edit, Publish, Latest, Sync}
 use Rattle.lay_history.specs.Laws.{ShowsSame}
-use Rattle.lay_history.proofs.Lists.{not_none, some_is}
+use Rattle.lay_history.proofs.Lists.{some_is}
 use Rattle.lay_report.specs.Laws.{IsEntryWithin, IsReplyWithin}
 use Rattle.lay_report.specs.Report.{entry_line, final_line}
-use Rattle.lay_report.proofs.Joined.{Lacks, decimal_lacks, lacks_append, same_front}
+use Rattle.lay_report.proofs.Joined.{decimal_lacks, lacks_append, same_front}
 use Rattle.lay_report.proofs.ReportLines.{entry_body, entry_ended, entry_lacks, final_body}
 use Rattle.lay_report.proofs.Telling.{entry_same}
 use Rattle.lay_audit.specs.declared.step.Step.{Step}
 use Rattle.lay_audit.specs.declared.step.Step.TheVariants as step
 use Rattle.lay_audit.specs.Lines.{behind_line, first_line}
-use Rattle.lay_audit.specs.Presents.{Answers, AreCommandsWithin, IsAnswer, IsCommandWithin, IsPresentWithin, IsStep, PresentValue, entry_of, next_command}
-use Rattle.lay_audit.specs.WholeLines.{AreLines, LacksEnd, ended}
+use Rattle.lay_audit.specs.Presents.{Answers, AreCommandsWithin, IsCommandWithin, IsPresentWithin, IsStep, PresentValue, entry_of, next_command}
+use Rattle.lay_audit.specs.WholeLines.{AreLines, LacksEnd}
 use Rattle.lay_audit.proofs.LineFacts.{first_ended, behind_ended, line_parts, one_line}
 use Rattle.lay_audit.proofs.NextEntries.{index_within, place_within}
 

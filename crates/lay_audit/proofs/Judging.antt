@@ -1,20 +1,18 @@
 -- What is found, step by step.
-use Rattle.std.proofs.Common.{◌≡◌, ℕ, suc, ◌+◌, ◌<◌, ◌≤◌, ◌*◌, ◌^◌, List, [], ◌∷◌, ◌++◌, length, Option, Some, None, refl, sym, ap, ◌∙◌, subst, arith, append_assoc, append-nil}
+use Rattle.std.proofs.Common.{◌≡◌, ℕ, suc, ◌+◌, List, [], ◌∷◌, ◌++◌, Some, refl, sym, ap, ◌∙◌, subst, arith, append_assoc, append-nil}
 use Rattle.lay_edits.specs.declared.command.Reply.{Reply}
 use Rattle.lay_edits.specs.declared.history.Entry.{Entry}
 use Rattle.lay_edits.specs.declared.history.Entry.TheVariants as entry
 use Rattle.lay_history.specs.Histories.{shown_version, version_in}
-use Rattle.lay_report.specs.Report.{entry_line, final_line, laid_line}
+use Rattle.lay_report.specs.Report.{entry_line, laid_line}
 use Rattle.lay_context.specs.Laws.{OneSolution}
-use Rattle.lay_audit.specs.declared.step.Step.{Step}
 use Rattle.lay_audit.specs.declared.step.Step.TheVariants as step
 use Rattle.lay_audit.specs.LegalReports.{Basis, IsLegalReport}
-use Rattle.lay_audit.specs.Lines.{behind_line, first_line}
+use Rattle.lay_audit.specs.Lines.{behind_line}
 use Rattle.lay_audit.specs.NextLines.{BeginsWith}
-use Rattle.lay_audit.specs.Presents.{IsPresentWithin, IsStep, Moves, PresentValue, shown_in}
-use Rattle.lay_audit.specs.Readings.{HasLayout, IsAtEnd, IsFinalNext, IsFrontOf, IsLaidNext, IsLayoutOf, IsPlayed, IsRead, MayEnd, NoStep, PartsFrom, ReadingValue, pending_of}
+use Rattle.lay_audit.specs.Presents.{IsPresentWithin, IsStep, Moves, shown_in}
+use Rattle.lay_audit.specs.Readings.{HasLayout, IsAtEnd, IsFinalNext, IsFrontOf, IsLaidNext, IsLayoutOf, IsPlayed, IsRead, NoStep, PartsFrom, ReadingValue, pending_of}
 use Rattle.lay_audit.specs.Verdicts.{IsFirstBad}
-use Rattle.lay_audit.specs.WholeLines.{AreLines}
 use Rattle.lay_audit.proofs.Answering.{no_version, step_shows}
 use Rattle.lay_audit.proofs.Completing.{completed}
 use Rattle.lay_audit.proofs.EndSteps.{can_end, laid_is_bad, laid_is_line, last_tree_is_bad, more_is_bad, reads_final, reads_last_tree}
@@ -22,7 +20,7 @@ use Rattle.lay_audit.proofs.Entries.{entry_behind}
 use Rattle.lay_audit.proofs.LineFacts.{more_lines}
 use Rattle.lay_audit.proofs.PlayedTrees.{played_more, published_played}
 use Rattle.lay_audit.proofs.ReadSteps.{entry_is_bad, reads_entry, reads_tree, tree_is_bad}
-use Rattle.lay_audit.proofs.VerdictLaws.{CanGoOn, NoneGoesOn, first_bad}
+use Rattle.lay_audit.proofs.VerdictLaws.{CanGoOn, first_bad}
 
 -- the line of an entry is read
 

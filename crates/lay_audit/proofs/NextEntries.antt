@@ -1,16 +1,15 @@
 -- The entries that may come next are those of steps.
-use Rattle.std.proofs.Common.{◌≡◌, ℕ, ◌+◌, ◌<◌, ◌≤◌, ◌^◌, zero, suc, List, [], ◌∷◌, ◌++◌, length, take, drop, fold, Option, Some, None, refl, sym, ap, ◌∙◌, subst, arith, append-nil, slice_get, slice_index_or, slice_set, All, inl, inr}
+use Rattle.std.proofs.Common.{◌≡◌, ℕ, ◌+◌, ◌<◌, ◌≤◌, zero, suc, List, [], ◌∷◌, ◌++◌, length, take, fold, Option, Some, None, refl, sym, ap, ◌∙◌, subst, arith, slice_get, slice_index_or, slice_set, All, inl, inr}
 use Rattle.std.proofs.lemmas.Bool.{cases_eq, cases_lt}
 use Rattle.std.proofs.lemmas.List.{get_or-set_other, get_or-set_same, length-set}
 use Rattle.lay_doc.specs.Document.{Document}
 use Rattle.lay_edits.specs.EditLists.{after_all}
-use Rattle.lay_doc.specs.declared.edit.Edit.{Edit as Change}
 use Rattle.lay_edits.specs.declared.command.Cmd.{Cmd}
 use Rattle.lay_edits.specs.declared.command.Cmd.TheVariants as command
 use Rattle.lay_edits.specs.declared.command.Reply.{Reply}
 use Rattle.lay_edits.specs.declared.history.Entry.{Entry}
 use Rattle.lay_edits.specs.declared.history.Entry.TheVariants.{Edit, Publish, Latest, Sync}
-use Rattle.lay_history.specs.Calls.{AnswersScripts, Call, call_in, calls, calls_of, script_calls, script_of}
+use Rattle.lay_history.specs.Calls.{AnswersScripts, call_in, calls, calls_of, script_calls, script_of}
 use Rattle.lay_history.specs.Histories.{accepted, list_in, last_or, last_published, published, version_in}
 use Rattle.lay_history.specs.Legal.{AnswersEdits, AnswersLatest, AnswersSync, IsLegal, MayFollow, doc_after}
 use Rattle.lay_history.proofs.Lists.{not_none, take_front, take_whole}
@@ -19,8 +18,8 @@ use Rattle.lay_history.proofs.Versions.{all_below, last_of_all}
 use Rattle.lay_audit.specs.declared.step.Step.{Step}
 use Rattle.lay_audit.specs.declared.step.Step.TheVariants as step
 use Rattle.lay_audit.specs.LegalReports.{Basis}
-use Rattle.lay_audit.specs.Presents.{Answers, IsAnswer, IsPresent, IsStep, Moves, PresentValue, answered_of, entry_of, next_after, next_command}
-use Rattle.lay_audit.proofs.Fronts.{IsNextCall, fronts_more, fronts_same, next_call}
+use Rattle.lay_audit.specs.Presents.{Answers, IsPresent, IsStep, Moves, PresentValue, answered_of, entry_of, next_after, next_command}
+use Rattle.lay_audit.proofs.Fronts.{fronts_more, fronts_same, next_call}
 
 middle : {X : Type 0} (xs : List X) (x : X) (ys : List X) → slice_get (xs ++ x ∷ ys) (length xs) ≡ Some x
 middle [] x ys = refl

@@ -1,11 +1,10 @@
 -- Which entry's line stands next.
-use Rattle.std.proofs.Common.{◌≡◌, ◌⊎◌, ℕ, suc, ◌+◌, ◌<◌, Bool, true, false, List, [], ◌∷◌, ◌++◌, length, Option, Some, None, Result, Ok, Err, IfOk, IfSome, refl, sym, ap, ◌∙◌, subst, arith, append_assoc, codes, inl, inr, slice_get, slice_index_or}
+use Rattle.std.proofs.Common.{◌≡◌, ℕ, suc, ◌+◌, ◌<◌, Bool, true, false, List, ◌++◌, length, Option, Some, None, Result, Ok, Err, IfOk, IfSome, refl, sym, ap, ◌∙◌, subst, arith, append_assoc, codes, inl, inr, slice_index_or}
 use Rattle.std.proofs.lemmas.Bool.{cases_lt}
 use Rattle.std.proofs.lemmas.List.{append_cancel_left}
 use Rattle.lay_edits.specs.declared.command.Cmd.{Cmd}
 use Rattle.lay_edits.specs.declared.command.Cmd.TheVariants as command
 use Rattle.lay_edits.specs.declared.command.Reply.{Reply}
-use Rattle.lay_edits.specs.declared.command.Reply.TheVariants.{NoMemory}
 use Rattle.lay_edits.specs.declared.history.Entry.{Entry}
 use Rattle.lay_report.specs.Report.{entry_line, reply_text}
 use Rattle.lay_history.proofs.Lists.{not_none, some_is}
@@ -13,7 +12,7 @@ use Rattle.lay_audit.specs.declared.step.Step.{Step}
 use Rattle.lay_audit.specs.declared.step.Step.TheVariants as step
 use Rattle.lay_audit.specs.NextLines.{BeginsWith, RepliesNext, StandsNext, StandsNot, command_front, edit_count, reply_end}
 use Rattle.lay_audit.proofs.NextEntries.{place_within}
-use Rattle.lay_audit.specs.Presents.{Answers, IsAnswer, IsStep, PresentValue, entry_of, next_command}
+use Rattle.lay_audit.specs.Presents.{Answers, IsAnswer, PresentValue, entry_of, next_command}
 
 -- the line of a command is its front and its end
 pub line_is : (editor index : ℕ) (c : Cmd) (r : Reply) → entry_line (entry_of editor index c r) ≡ command_front editor index c ++ reply_end (edit_count c) r

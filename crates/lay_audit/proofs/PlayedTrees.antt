@@ -1,31 +1,27 @@
 -- The trees of a history that goes on.
-use Rattle.std.proofs.Common.{◌≡◌, ◌⊎◌, ◌||◌, ℕ, ◌==◌, ◌+◌, ◌<◌, ◌≤◌, ◌*◌, ◌^◌, zero, suc, List, [], ◌∷◌, ◌++◌, length, take, find, fold, Bool, true, false, cond, Option, Some, None, IfSome, option_map, refl, sym, ap, ◌∙◌, subst, arith, inl, inr, append-nil, eq-eqb, ne_eqb, rules, All, slice_index_or}
-use Rattle.std.specs.List.{flat_map, list_any}
+use Rattle.std.proofs.Common.{◌≡◌, ◌⊎◌, ◌||◌, ℕ, ◌==◌, ◌+◌, ◌≤◌, zero, suc, List, [], ◌∷◌, ◌++◌, length, take, find, fold, Bool, true, false, cond, Option, Some, None, IfSome, option_map, refl, sym, ap, ◌∙◌, subst, arith, inl, inr, append-nil, eq-eqb, ne_eqb, rules, All, slice_index_or}
+use Rattle.std.specs.List.{list_any}
 use Rattle.std.proofs.lemmas.Bool.{cases_eq}
 use Rattle.std.proofs.lemmas.List.Concat.{flat_map-append}
 use Rattle.std.proofs.lemmas.List.Elements.{All-push}
-use Rattle.lay_doc.specs.Document.{Document, IsDocument}
+use Rattle.lay_doc.specs.Document.{Document}
 use Rattle.lay_edits.specs.EditLists.{after_all}
 use Rattle.lay_edits.specs.declared.history.Entry.{Entry}
-use Rattle.lay_edits.specs.declared.history.Entry.TheVariants.{Edit, Publish, Latest, Sync}
-use Rattle.lay_frag.specs.Pieces.{Context}
-use Rattle.lay_frag.specs.Lines.{tree_text}
-use Rattle.lay_history.specs.Histories.{accepted, doc_at, list_in, lists, last_or, last_published, published, shown_version, version_in}
-use Rattle.lay_history.specs.Legal.{IsLegal, doc_after}
+use Rattle.lay_edits.specs.declared.history.Entry.TheVariants.{Publish}
+use Rattle.lay_history.specs.Histories.{accepted, doc_at, list_in, lists, last_or, last_published, published, version_in}
+use Rattle.lay_history.specs.Legal.{IsLegal}
 use Rattle.lay_history.specs.Trees.{HasTrees, PublishedTreeValue, tree_at, versions_of}
 use Rattle.lay_history.proofs.Lists.{not_none, some_is, take_front}
 use Rattle.lay_history.proofs.OneMore.{doc_before, published_more}
-use Rattle.lay_history.proofs.ShownVersions.{shown_last}
 use Rattle.lay_history.proofs.Versions.{last_of_all, none_greater}
-use Rattle.lay_report.specs.Report.{shown_lines, tree_lines}
 use Rattle.lay_context.specs.Laws.{OneSolution}
 use Rattle.lay_context.specs.Solves.{Solves}
 use Rattle.lay_audit.specs.declared.step.Step.{Step}
 use Rattle.lay_audit.specs.declared.step.Step.TheVariants as step
 use Rattle.lay_audit.specs.LegalReports.{AreSolved, Basis, IsWholeRun}
-use Rattle.lay_audit.specs.Presents.{IsPresent, IsStep, Moves, PresentValue}
+use Rattle.lay_audit.specs.Presents.{IsStep, Moves, PresentValue}
 use Rattle.lay_audit.specs.Readings.{GoesOn, HaveTrees, IsLayoutOf, IsPlayed, IsTreeOf, LastTreeValue}
-use Rattle.lay_audit.proofs.NextEntries.{present_more, step_follows}
+use Rattle.lay_audit.proofs.NextEntries.{present_more}
 
 -- the tree of a version that is published
 

@@ -1,31 +1,27 @@
 -- Reading on: one more entry, and the lines of a tree.
-use Rattle.std.proofs.Common.{◌≡◌, ℕ, ◌+◌, ◌<◌, ◌≤◌, ◌*◌, ◌^◌, suc, List, [], ◌∷◌, ◌++◌, length, Option, Some, None, IfSome, refl, sym, ap, ◌∙◌, subst, arith, append_assoc, append-nil}
+use Rattle.std.proofs.Common.{◌≡◌, ℕ, ◌+◌, ◌<◌, ◌^◌, List, [], ◌∷◌, ◌++◌, Option, Some, None, IfSome, refl, sym, ap, ◌∙◌, subst, arith, append_assoc, append-nil}
 use Rattle.std.specs.List.{flat_map}
 use Rattle.std.proofs.lemmas.List.{append_cancel_left}
 use Rattle.std.proofs.lemmas.List.Concat.{flat_map-append}
-use Rattle.lay_edits.specs.declared.command.Cmd.{Cmd}
 use Rattle.lay_edits.specs.declared.history.Entry.{Entry}
-use Rattle.lay_frag.specs.Pieces.{Context}
-use Rattle.lay_frag.specs.Lines.{tree_text}
 use Rattle.lay_history.specs.Calls.{AnswersScripts}
 use Rattle.lay_history.specs.Histories.{accepted, last_published, shown_version}
 use Rattle.lay_history.specs.Legal.{IsLegal}
-use Rattle.lay_history.specs.Trees.{PublishedTreeValue, tree_at}
-use Rattle.lay_history.proofs.Lists.{not_none}
+use Rattle.lay_history.specs.Trees.{PublishedTreeValue}
 use Rattle.lay_history.proofs.ShownVersions.{shown_last}
 use Rattle.lay_report.specs.Report.{entry_line, entry_text, final_line, final_text, laid_line, run_report, shown_lines, tree_lines}
 use Rattle.lay_context.specs.Laws.{OneSolution}
 use Rattle.lay_audit.specs.declared.step.Step.{Step}
-use Rattle.lay_audit.specs.LegalReports.{Basis, IsLegalReport, IsWholeRun}
+use Rattle.lay_audit.specs.LegalReports.{Basis, IsWholeRun}
 use Rattle.lay_audit.specs.Lines.{behind_line, first_line}
 use Rattle.lay_audit.specs.NextLines.{BeginsWith}
-use Rattle.lay_audit.specs.Presents.{IsPresent, IsPresentWithin, IsStep, Moves, PresentValue}
+use Rattle.lay_audit.specs.Presents.{IsPresentWithin, IsStep, PresentValue}
 use Rattle.lay_audit.specs.Readings.{GoesOn, IsPlayed, IsRead, IsTreeOf, LastTreeValue, MayEnd, NoStep, ReadingValue, pending_of}
 use Rattle.lay_audit.specs.WholeLines.{AreLines}
 use Rattle.lay_audit.proofs.Entries.{begins_with, entry_first, entry_is_line, final_first, not_final, one_step}
 use Rattle.lay_audit.proofs.Fronts.{whole_fronts}
 use Rattle.lay_audit.proofs.LineFacts.{more_lines}
-use Rattle.lay_audit.proofs.NextEntries.{HasStep, next_is_step, step_follows}
+use Rattle.lay_audit.proofs.NextEntries.{next_is_step, step_follows}
 use Rattle.lay_audit.proofs.PlayedTrees.{last_not_past, shown_same}
 use Rattle.lay_audit.proofs.VerdictLaws.{NoneGoesOn}
 

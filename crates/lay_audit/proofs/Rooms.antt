@@ -1,14 +1,14 @@
 -- Numbers that are counted while a text is read.
-use Rattle.std.proofs.Common.{◌≡◌, ℕ, ◌+◌, ◌<◌, ◌≤◌, ◌^◌, suc, List, [], ◌∷◌, ◌++◌, length, Option, Some, None, refl, sym, ap, ◌∙◌, subst, arith, length-append, slice_index_or}
+use Rattle.std.proofs.Common.{◌≡◌, ℕ, ◌+◌, ◌<◌, ◌≤◌, List, [], ◌++◌, length, refl, sym, ap, ◌∙◌, subst, arith, length-append, slice_index_or}
 use Rattle.lay_edits.specs.declared.command.Cmd.{Cmd}
 use Rattle.lay_edits.specs.declared.history.Entry.{Entry}
 use Rattle.lay_edits.specs.declared.history.Entry.TheVariants as entry
 use Rattle.lay_report.specs.Report.{entry_line}
 use Rattle.lay_audit.specs.declared.step.Step.{Step}
 use Rattle.lay_audit.specs.declared.step.Step.TheVariants as step
-use Rattle.lay_audit.specs.Lines.{behind_line, first_line}
+use Rattle.lay_audit.specs.Lines.{behind_line}
 use Rattle.lay_audit.specs.NextLines.{BeginsWith}
-use Rattle.lay_audit.specs.Presents.{Moves, PresentValue, next_after}
+use Rattle.lay_audit.specs.Presents.{Moves, next_after}
 use Rattle.lay_audit.specs.Readings.{IsFrontOf, IsSteady, PartsFrom, ReadingValue}
 use Rattle.lay_audit.proofs.Answering.{one_more}
 use Rattle.lay_audit.proofs.ComparedLines.{lines_short, shorter_left}

@@ -1,5 +1,5 @@
 -- A step is taken while a text is read.
-use Rattle.std.proofs.Common.{◌≡◌, ℕ, ◌+◌, ◌<◌, List, [], ◌++◌, length, Option, Some, None, IfSome, is_some, true, Result, Ok, Err, IfOk, refl, sym, ap, ◌∙◌, subst, arith}
+use Rattle.std.proofs.Common.{◌≡◌, ℕ, ◌+◌, ◌<◌, List, [], length, Option, Some, None, IfSome, is_some, true, Result, Ok, Err, IfOk, refl, sym, subst, arith}
 use Rattle.lay_doc.specs.Document.{Document}
 use Rattle.lay_edits.specs.declared.command.Cmd.{Cmd}
 use Rattle.lay_edits.specs.declared.command.Reply.{Reply}

@@ -3,7 +3,7 @@ use Rattle.std.proofs.Common.{◌≡◌, ℕ, List, length, Some, refl, ◌∙�
 use Rattle.lay_frag.specs.Pieces.{Context}
 use Rattle.lay_frag.specs.Lines.{tree_text}
 use Rattle.lay_report.proofs.ReportLines.{tree_all_lack, tree_bodies, tree_joined}
-use Rattle.lay_audit.specs.WholeLines.{AreLines, IsOfLines, joined}
+use Rattle.lay_audit.specs.WholeLines.{IsOfLines, joined}
 use Rattle.lay_audit.proofs.LineFacts.{lack_ends}
 
 pub tree_is_of_lines : (text : List ℕ) (tree : List Context) → text ≡ tree_text tree → IsOfLines text

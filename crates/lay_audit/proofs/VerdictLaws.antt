@@ -1,11 +1,10 @@
 -- One verdict, and how one is shown.
-use Rattle.std.proofs.Common.{◌≡◌, ◌↔◌, ℕ, suc, ◌+◌, ◌<◌, ◌≤◌, List, [], ◌++◌, length, refl, sym, ap, ◌∙◌, subst, arith, inl, inr}
+use Rattle.std.proofs.Common.{◌≡◌, ℕ, suc, ◌+◌, List, ◌++◌, length, refl, sym, ap, subst, arith, inl, inr}
 use Rattle.std.proofs.lemmas.Bool.{cases_lt}
-use Rattle.lay_audit.specs.declared.verdict.Verdict.{Verdict}
 use Rattle.lay_audit.specs.declared.verdict.Verdict.TheVariants.{Yes, No}
 use Rattle.lay_audit.specs.Laws.{AlikeAreEqual, BadLineIsThere, OneVerdict, YesIsLegal}
 use Rattle.lay_audit.specs.LegalReports.{Basis, IsLegalReport}
-use Rattle.lay_audit.specs.Lines.{StartAlike, first_line}
+use Rattle.lay_audit.specs.Lines.{first_line}
 use Rattle.lay_audit.specs.WholeLines.{AreLines}
 use Rattle.lay_audit.specs.Verdicts.{CanBegin, IsFirstBad, IsVerdict}
 use Rattle.lay_audit.proofs.LineFacts.{alike_back, alike_equal, alike_front, alike_less, alike_same, begins_front}

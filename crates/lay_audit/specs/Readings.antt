@@ -1,6 +1,6 @@
 -- How far a report is read: the lines so far are the front of the report of each legal history that goes on from the one
 -- that they tell, up to lines of its last tree that are still to come.
-use Rattle.std.specs.Prelude.{ℕ, ◌≡◌, ◌+◌, ◌<◌, ◌≤◌, ◌*◌, ◌^◌, List, [], ◌∷◌, ◌++◌, length, Option, Some, None, IfSome}
+use Rattle.std.specs.Prelude.{ℕ, ◌≡◌, ◌+◌, ◌<◌, ◌≤◌, ◌*◌, ◌^◌, List, [], ◌++◌, length, Option, Some, None, IfSome}
 use Rattle.std.specs.List.{All, flat_map}
 use Rattle.lay_doc.specs.Document.{Document, IsDocument}
 use Rattle.lay_edits.specs.declared.command.Cmd.{Cmd}
@@ -9,9 +9,9 @@ use Rattle.lay_face.specs.FaceValue.{FaceValue}
 use Rattle.lay_frag.specs.Pieces.{Context}
 use Rattle.lay_frag.specs.Lines.{tree_text}
 use Rattle.lay_context.specs.Solves.{Solves}
-use Rattle.lay_history.specs.Histories.{accepted, doc_at, shown_version}
-use Rattle.lay_history.specs.Trees.{HasTrees, PublishedTreeValue, tree_at}
-use Rattle.lay_report.specs.Report.{entry_line, entry_text, final_line, final_text, laid_line, run_report}
+use Rattle.lay_history.specs.Histories.{doc_at}
+use Rattle.lay_history.specs.Trees.{HasTrees, PublishedTreeValue}
+use Rattle.lay_report.specs.Report.{entry_text, final_line, laid_line, run_report}
 use Rattle.lay_audit.specs.declared.next.Next.{Next}
 use Rattle.lay_audit.specs.declared.next.Next.TheVariants.{Entry as entry_read, Bad, NoEntry}
 use Rattle.lay_audit.specs.declared.step.Step.{Step}

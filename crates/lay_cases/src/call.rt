@@ -8,7 +8,7 @@ use crate::terms::{Steps, Terms};
 use crate::turn_gate::TurnGate;
 use anyhow::{Result, bail};
 use lay_cli::editing_core::Core;
-use lay_cli::{Status, top};
+use lay_cli::{Means, Status, top};
 use lay_generator::generated_run;
 use lay_json::read_run;
 use lay_layout::run::RunDoc;
@@ -59,14 +59,6 @@ fn status_of<R: Threads + Wait + Sync, S: Source, K: Sink, G: Gate + Sync>(
     status_text(means.alloc, terms, status, &kept)
 }
 
-/// What a call is made with.
-#[derive(Drop)]
-struct Means<'a, R, G> {
-    rt: &'a R,
-    alloc: Global,
-    gate: &'a G,
-}
-
 /// Makes the call over any streams, whose bytes the call's contract doesn't reach: over those in memory it is large, and nothing here
 /// asks for it.
 fn answered<R: Threads + Wait + Sync, S: Source, K: Sink, G: Gate + Sync>(
@@ -78,7 +70,7 @@ fn answered<R: Threads + Wait + Sync, S: Source, K: Sink, G: Gate + Sync>(
 ) -> Status
     requires nothing_kept { kept.old ≡ None }
 {
-    top(means.rt, means.alloc, words, source, sink, means.gate, kept)
+    top(means, words, source, sink, kept)
 }
 
 /// The gate of a call on these terms: where none is to be held, the editors of a run take turns.

@@ -1,5 +1,5 @@
 -- What bytes that have a fault give.
-use Rattle.std.proofs.Common.{◌≡◌, ◌≢◌, ℕ, ◌<◌, List, length, codes, refl, inl, inr, Option, Some, None, IfSome, Ok, Err, Result, IfOk}
+use Rattle.std.proofs.Common.{◌≡◌, ◌≢◌, ℕ, ◌<◌, List, length, codes, inl, inr, Option, Some, None, IfSome, Ok, Err, Result, IfOk}
 use Rattle.lay_layout.specs.units.declared.memory.NoMemory.{NoMemory}
 use Rattle.lay_json.specs.declared.fault.InputFault.{InputFault}
 use Rattle.lay_json.specs.declared.fault.InputFault.TheVariants.{TooLong, NoMemory as ran_out}

@@ -1,5 +1,5 @@
 -- How calls end.
-use Rattle.std.proofs.Common.{◌≡◌, ◌≢◌, ◌⊎◌, ℕ, List, refl, sym, ◌∙◌, inl, inr, subst, Option, Some, None, IfSome}
+use Rattle.std.proofs.Common.{◌≡◌, ◌≢◌, ◌⊎◌, ℕ, List, refl, sym, ◌∙◌, inl, inr, Option, Some, None, IfSome}
 use Rattle.lay_outside.specs.Outside.{Rose, Took, TookFront}
 use Rattle.lay_layout.specs.run.Runs.{Run}
 use Rattle.lay_drive.specs.editing_core.State.{State}

@@ -1,5 +1,5 @@
 -- The reports of `run` are answered `yes`.
-use Rattle.std.proofs.Common.{◌≡◌, ◌∙◌, ℕ, List, ap, subst, Option, Some, None}
+use Rattle.std.proofs.Common.{◌≡◌, ◌∙◌, ℕ, List, ap, subst, Some, None}
 use Rattle.lay_json.specs.Reading.{HoldsBoth}
 use Rattle.lay_drive.specs.editing_core.State.{State}
 use Rattle.lay_audit.specs.declared.verdict.Verdict.{Verdict}

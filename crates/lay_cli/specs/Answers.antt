@@ -5,7 +5,7 @@
 -- of their versions. `hit` names the piece that is seen at a point, of a tree as `scratch` reports it. `check` reads a run
 -- document beside a report, and judges the report. `gen` reads nothing and writes the summary of such a history of the run
 -- that the generator makes: it comes of its numbers alone where each edit was accepted.
-use Rattle.std.specs.Prelude.{ℕ, ◌≡◌, ◌≢◌, ◌⊎◌, ◌<◌, ◌^◌, List, length, map, string_bytes, String, Option, Some, None, IfSome, Ok, Err}
+use Rattle.std.specs.Prelude.{ℕ, ◌≡◌, ◌≢◌, ◌<◌, ◌^◌, List, length, map, string_bytes, String, Option, Some, None, IfSome, Ok, Err}
 use Rattle.std.specs.declared.alloc.Global.{Global}
 use Rattle.lay_layout.specs.frag.Pieces.{Context}
 use Rattle.lay_layout.specs.context.Solves.{Solves}

@@ -1,6 +1,6 @@
 -- How a call ends: what its status says of the sink. `Reports` are the texts that report, with the core that is kept, and
 -- `Refuses` the lines that refuse.
-use Rattle.std.specs.Prelude.{ℕ, ◌≡◌, ◌≢◌, ◌⊎◌, ◌≤◌, List, Option, None}
+use Rattle.std.specs.Prelude.{ℕ, ◌≡◌, ◌≢◌, ◌⊎◌, List, Option, None}
 use Rattle.lay_outside.specs.Outside.{Rose, Took, TookFront}
 use Rattle.lay_drive.specs.editing_core.State.{State}
 use Rattle.lay_cli.specs.declared.status.Status.{Status}

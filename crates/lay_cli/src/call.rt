@@ -11,14 +11,14 @@ ghost use Rattle.lay_cli.specs.Input.{IsReadOut};
 
 use crate::at_point::hit;
 use crate::checking::check;
-use crate::drive::{Generation, Means, generate, run};
+use crate::drive::{Generation, generate, run};
 use crate::from_scratch::scratch;
+use crate::means::Means;
 use crate::status::Status;
 use crate::telling::told;
 use lay_drive::editing_core::Core;
 use lay_outside::{Gate, Sink, Source};
 use lay_words::{Form, read_words};
-use std::alloc::Global;
 use std::sync::Wait;
 use std::thread::Threads;
 
@@ -28,12 +28,10 @@ use std::thread::Threads;
 /// into the sink, or else the line of the bytes' first fault. After `run` and `gen` with the status Ok the core that the report
 /// is of is kept. Only these two start threads, and wait.
 pub fn top<R: Threads + Wait + Sync, S: Source, K: Sink, G: Gate + Sync>(
-    rt: &R,
-    alloc: Global,
+    means: &Means<R, G>,
     words: &[String],
     source: &mut S,
     sink: &mut K,
-    gate: &G,
     kept: &mut Option<Core>,
 ) -> Status
     requires nothing_kept { kept.old ≡ None }
@@ -74,9 +72,8 @@ pub fn top<R: Threads + Wait + Sync, S: Source, K: Sink, G: Gate + Sync>(
     ensures refuses { (asked : Form) → HaveForm words.now asked → IsQuiet (S.faults source.old) (S.faults source.new) → IsQuiet (K.faults sink.old) (K.faults sink.new)
         → IfSome (S.left source.old) (λ bytes. (line : List ℕ) → IsRefused asked bytes line → (result ≡ Status.Refused) ⊎ (result ≡ Status.NoMemory)) }
 {
-    let means = Means { rt, alloc, gate };
-    match read_words(alloc, words) {
-        Ok(Some(form)) => asked(&means, form, source, sink, kept),
+    match read_words(means.alloc, words) {
+        Ok(Some(form)) => asked(means, form, source, sink, kept),
         Ok(None) => told(sink, "usage\n", Status::Usage),
         Err(_) => Status::NoMemory,
     }

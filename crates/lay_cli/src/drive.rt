@@ -9,6 +9,7 @@ ghost use Rattle.lay_cli.specs.Endings.{Ends};
 ghost use Rattle.lay_cli.specs.Input.{IsDrained, IsReadOut};
 
 use crate::laws::summaries_come_of_numbers;
+use crate::means::Means;
 use crate::run_input::{Input, Lack, run_input};
 use crate::status::Status;
 use crate::telling::{status_of, told};
@@ -22,14 +23,6 @@ use lay_report::write_run;
 use std::alloc::Global;
 use std::sync::Wait;
 use std::thread::Threads;
-
-/// What editors are driven with: a runtime whose threads may come to wait, memory, and a gate.
-#[derive(Drop)]
-pub(crate) struct Means<'a, R: Threads + Wait + Sync, G: Gate + Sync> {
-    pub(crate) rt: &'a R,
-    pub(crate) alloc: Global,
-    pub(crate) gate: &'a G,
-}
 
 /// What `gen` is asked for: the size and the seed of a run, and the number of workers.
 #[derive(Clone, Copy)]

@@ -84,7 +84,7 @@ latest_by true s t r shows = present_stays s t r shows
 latest_by false s t r shows = same_stays s t shows.1
 
 called_stays : (s : State) (e : Entry) → list_in e ≡ [] → Stays s (called s e)
-called_stays s e none = record { init = refl; face = refl; history = rests_one s.init s.history e none }
+called_stays s e no_list = record { init = refl; face = refl; history = rests_one s.init s.history e no_list }
 
 latest_stays : (editor index : ℕ) (r : Reply) (s t : State) → LatestTo s editor index r t → Stays s t
 latest_stays editor index r s t does =
@@ -104,8 +104,8 @@ pub record IsQuiet (s t : State) : Type 0 where
   pub works : Works (document_cells s) (document_cells t)
 
 pub called_quiet : (s t : State) (e : Entry) → list_in e ≡ [] → t ≡ called s e → IsQuiet s t
-called_quiet s t e none is = record {
-  stays = subst (λ (x : State). Stays s x) (sym is) (called_stays s e none);
+called_quiet s t e no_list is = record {
+  stays = subst (λ (x : State). Stays s x) (sym is) (called_stays s e no_list);
   works = subst (λ (x : State). Works (document_cells s) (document_cells x)) (sym is) none_done;
 }
   where

@@ -164,7 +164,7 @@ module _ (columns : OneStyleColumn) (contexts : OneContextList) (all : OneFormat
       none_there r has = cc (has.1)
 
       by : (r : CellRow) → IsFrom [] r → HasTurned init face s.history r.key r.given r.turns
-      by r (inl new) = new_row init face s.history r new
+      by r (inl made) = new_row init face s.history r made
       by r (inr old) = absurd (none_there old.row old.there)
 
   module _ (claims_law : ClaimsWork) (next_law : NextClaimsWork) (batches_law : BatchesWork) (outcomes_law : OutcomesWork) where

@@ -1,5 +1,5 @@
 -- Work on the cells of a document hands in for each cell what that is given in the layout of the document, and keeps the cells its cells.
-use Rattle.std.proofs.Common.{◌≡◌, ⊎_elim, inl, inr, ◌<◌, ◌+◌, ℕ, List, length, slice_set, Option, Some, refl, ap, sym, subst, ◌∙◌}
+use Rattle.std.proofs.Common.{◌≡◌, ⊎_elim, inl, inr, ◌<◌, ◌+◌, ℕ, List, length, slice_set, Option, Some, refl, ap, sym, subst, ◌∙◌, arith}
 use Rattle.lay_layout.specs.doc.Document.{Document}
 use Rattle.lay_layout.specs.doc.Laws.{OneStyleColumn}
 use Rattle.lay_layout.specs.face.FaceValue.{FaceValue}

@@ -1,6 +1,6 @@
 -- A declaration that is set on a node leaves ids, kinds and the number of nodes as they are, and so the faults of such edits; and two of
 -- different nodes come to the same whichever is first.
-use Rattle.std.proofs.Common.{◌≡◌, ℕ, zero, suc, Bool, false, true, List, [], ◌∷◌, length, get_or, refl, sym, ap, ◌∙◌, arith, inl, inr, Option, Some, None}
+use Rattle.std.proofs.Common.{◌≡◌, ℕ, zero, suc, List, [], ◌∷◌, length, get_or, refl, sym, ap, ◌∙◌, inl, inr, Option, Some, None}
 use Rattle.std.proofs.lemmas.Bool.{cases_eq}
 use Rattle.lay_style.specs.Values.{Declaration}
 use Rattle.lay_style.specs.Places.{place_of}

@@ -17,6 +17,7 @@ use std::alloc::Global;
 
 /// What waits at each node when all but the root were walked. A node stands behind the one that paints it, so the last nodes
 /// come first; most hold no piece that is seen, and are passed over.
+#[inline(never)]
 pub(crate) fn fronts(
     alloc: Global,
     q: &Question<'_>,
@@ -40,6 +41,7 @@ pub(crate) fn fronts(
 }
 
 /// Passes what waits at the node at k on to its parent, and the node itself where a piece is seen in it.
+#[inline(never)]
 fn pass(q: &Question<'_>, noted: &NodePieces, fronts: &mut Vec<Waiting>, k: usize)
     requires styles { length q.now.styles.now ≡ length q.now.doc.now.nodes }
     requires noted { AreNoted q.now (frags_of q.now.tree.now) noted.now }
@@ -68,7 +70,7 @@ fn passed_on(q: &Question<'_>, noted: &NodePieces, fronts: &[Waiting], k: usize)
     let outer = waiting_at(fronts, parent_at(nodes, k));
     let kind = kind_at(nodes, q.styles, k);
     let is_seen = is_seen(q, noted, kind, here, k);
-    let passed = all_passed(q, kind, here, is_seen, k);
+    let passed = all_passed(q, kind, here, is_seen, k as u32);
     both_waiting(q, outer, passed)
 }
 
@@ -92,7 +94,7 @@ pub(crate) fn front_at(q: &Question<'_>, fronts: &[Waiting], k: usize) -> usize
     ensures { result ≡ front_from q.now 1 k }
 {
     let kind = kind_at(q.doc.nodes(), q.styles, k);
-    front_in(q, kind, waiting_at(fronts, k))
+    front_in(q, kind, waiting_at(fronts, k)) as usize
 }
 
 /// Whether a piece is seen in the node at k, or in one that waits there.
@@ -102,7 +104,7 @@ fn is_reached(fronts: &[Waiting], noted: &NodePieces, k: usize) -> bool
     ensures { result ≡ (is_some (slice_index_or noted.now k None) || (not ((slice_index_or fronts.now k nobody).group == 0) || not ((slice_index_or fronts.now k nobody).owner == 0))) }
 {
     let here = waiting_at(fronts, k);
-    noted.has(k) || here.group != 0 || here.owner != 0
+    noted.has(k) | ((here.group != 0) | (here.owner != 0))
 }
 
 /// What waits at a node.

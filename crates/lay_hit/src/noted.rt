@@ -30,6 +30,7 @@ pub(crate) fn noted(alloc: Global, q: &Question<'_>) -> Result<NodePieces, NoMem
 }
 
 /// Notes those of a context's pieces that hold the point.
+#[inline(never)]
 fn note_context(q: &Question<'_>, placed: &Placed, noted: &mut NodePieces) -> Result<(), NoMemory>
     requires styles { length q.now.styles.now ≡ length q.now.doc.now.nodes }
     requires range { IsContextInRange placed.now }
@@ -47,6 +48,7 @@ fn note_context(q: &Question<'_>, placed: &Placed, noted: &mut NodePieces) -> Re
 }
 
 /// Notes a piece that holds the point.
+#[inline(never)]
 fn note(q: &Question<'_>, frag: Frag, noted: &mut NodePieces) -> Result<(), NoMemory>
     requires styles { length q.now.styles.now ≡ length q.now.doc.now.nodes }
     requires holds { holds q.now.at.x.0 q.now.at.y.0 frag ≡ true }

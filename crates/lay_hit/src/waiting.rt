@@ -13,12 +13,12 @@ use crate::rank::{is_behind, is_of_owner};
 /// The frontmost of the nodes that wait at a node for their group, and of those that wait there for their owner; 0 is none.
 #[derive(Clone, Copy)]
 pub(crate) struct Waiting {
-    pub group: usize,
-    pub owner: usize,
+    pub group: u32,
+    pub owner: u32,
 }
 
 /// Of the nodes that wait at a node of this kind, the frontmost that it paints.
-pub(crate) fn front_in(q: &Question<'_>, kind: PaintKind, w: Waiting) -> usize
+pub(crate) fn front_in(q: &Question<'_>, kind: PaintKind, w: Waiting) -> u32
     requires styles { length q.now.styles.now ≡ length q.now.doc.now.nodes }
     requires group { forms_group kind ≡ true → w.group < length q.now.doc.now.nodes }
     requires owner { is_stacking kind ≡ true → w.owner < length q.now.doc.now.nodes }
@@ -40,7 +40,7 @@ pub(crate) fn all_passed(
     kind: PaintKind,
     w: Waiting,
     is_seen: bool,
-    k: usize,
+    k: u32,
 ) -> Waiting
     requires styles { length q.now.styles.now ≡ length q.now.doc.now.nodes }
     requires group { w.group < length q.now.doc.now.nodes }
@@ -71,7 +71,7 @@ pub(crate) fn both_waiting(q: &Question<'_>, v: Waiting, w: Waiting) -> Waiting
 }
 
 /// The frontmost of those whose way doesn't end at the node at k, and of the node itself if it counts.
-fn passed(q: &Question<'_>, ends: bool, inner: usize, counts: bool, k: usize) -> usize
+fn passed(q: &Question<'_>, ends: bool, inner: u32, counts: bool, k: u32) -> u32
     requires styles { length q.now.styles.now ≡ length q.now.doc.now.nodes }
     requires inner { inner < length q.now.doc.now.nodes }
     requires place { k < length q.now.doc.now.nodes }
@@ -83,7 +83,7 @@ fn passed(q: &Question<'_>, ends: bool, inner: usize, counts: bool, k: usize) ->
 }
 
 /// The one of two nodes that is in front; 0 is none.
-fn in_front(q: &Question<'_>, j: usize, k: usize) -> usize
+fn in_front(q: &Question<'_>, j: u32, k: u32) -> u32
     requires styles { length q.now.styles.now ≡ length q.now.doc.now.nodes }
     requires low { j < length q.now.doc.now.nodes }
     requires high { k < length q.now.doc.now.nodes }
@@ -92,5 +92,9 @@ fn in_front(q: &Question<'_>, j: usize, k: usize) -> usize
     if j == 0 {
         return k;
     }
-    if k == 0 || !is_behind(q, j, k) { j } else { k }
+    if k == 0 || !is_behind(q, j as usize, k as usize) {
+        j
+    } else {
+        k
+    }
 }

@@ -2,11 +2,12 @@
 
 ghost use Rattle.std.specs.Prelude.{◌<◌, ◌≤◌, IfSome};
 
+use crate::core_calls::{batch, claim_some, finish_all};
 use crate::shown;
 use lay_drive::cell_work::Claim;
 use lay_drive::claim_lists::{ClaimList, Outcome, Outcomes};
-use lay_drive::editing_core::Core;
-use lay_drive::pool::{Hand, hands, run_batch};
+use lay_drive::editing_core::{Core, Idle};
+use lay_drive::pool::{Hand, hands};
 use lay_layout::units::NoMemory;
 use lay_outside::Gate;
 use std::alloc::Global;
@@ -34,17 +35,17 @@ pub(crate) enum Batch {
 pub(crate) fn computed<R: Threads + Sync, G: Gate + Sync>(
     rt: &R,
     alloc: Global,
-    batch: Batch,
+    held: Batch,
     workers: u32,
     gate: &G,
 ) -> Result<Batch, NoMemory>
     requires { (0 < workers) × (workers ≤ 16) }
 {
-    match batch {
+    match held {
         Batch::None => Ok(Batch::None),
-        Batch::Claims(claims) => match run_batch(rt, alloc, claims, workers, gate) {
+        Batch::Claims(claims) => match batch(rt, alloc, claims, workers, gate) {
             Ok(outcomes) => Ok(Batch::Outcomes(outcomes)),
-            Err((NoMemory, claims)) => Ok(Batch::Claims(claims)),
+            Err(claims) => Ok(Batch::Claims(claims)),
         },
         Batch::Outcomes(outcomes) => completed(alloc, outcomes),
     }
@@ -53,15 +54,19 @@ pub(crate) fn computed<R: Threads + Sync, G: Gate + Sync>(
 fn completed(alloc: Global, outcomes: Outcomes) -> Result<Batch, NoMemory> {
     let mut all = Vec::new(alloc);
     for outcome in outcomes.into_vec() {
-        all.push(match outcome {
-            Outcome::Done(done) => Outcome::Done(done),
-            Outcome::NoMemory(claim) => once_more(alloc, claim),
-        })?;
+        all.push(completed_one(alloc, outcome))?;
     }
     if all.len() > BATCH as usize {
         return Ok(Batch::None);
     }
     Ok(Batch::Outcomes(Outcomes::new(all)))
+}
+
+fn completed_one(alloc: Global, outcome: Outcome) -> Outcome {
+    match outcome {
+        Outcome::Done(done) => Outcome::Done(done),
+        Outcome::NoMemory(claim) => once_more(alloc, claim),
+    }
 }
 
 fn once_more(alloc: Global, claim: Claim) -> Outcome {
@@ -101,15 +106,39 @@ pub(crate) fn shared<R: Threads + Sync, G: Gate + Sync>(
 ) -> Result<Vec<Outcomes>, NoMemory> {
     let mut hands = hands(alloc, workers)?;
     let mut all = Vec::new(alloc);
-    let room = Vec::with_capacity(alloc, claims.len())?;
-    if let Some(first) = hands.first_mut() {
-        all.push(first.deal(claims, room))?;
+    if let Some(refused) = dealt(alloc, hands.as_mut_slice(), claims)? {
+        all.push(refused)?;
     }
+    add_works(rt, alloc, hands, gate, &mut all)?;
+    Ok(all)
+}
+
+/// Deals claims to the first of these workers; those that there is no memory for are outcomes at once.
+fn dealt(
+    alloc: Global,
+    hands: &mut [Hand],
+    claims: ClaimList,
+) -> Result<Option<Outcomes>, NoMemory> {
+    let room = Vec::with_capacity(alloc, claims.len())?;
+    match hands.first_mut() {
+        Some(first) => Ok(Some(first.deal(claims, room))),
+        None => Ok(None),
+    }
+}
+
+/// Has each of these work, on a thread of its own, and adds what comes of that.
+fn add_works<R: Threads + Sync, G: Gate + Sync>(
+    rt: &R,
+    alloc: Global,
+    hands: Vec<Hand>,
+    gate: &G,
+    all: &mut Vec<Outcomes>,
+) -> Result<(), NoMemory> {
     let work = |mut hand: Hand| -> Result<Outcomes, NoMemory> { hand.work(alloc, gate) };
     for outcomes in thread::map_vec(rt, hands, &work)? {
         all.push(outcomes?)?;
     }
-    Ok(all)
+    Ok(())
 }
 
 /// The number of a text, from 1 to the greatest one; None where it is none.
@@ -137,15 +166,29 @@ pub(crate) fn lay<R: Threads + Sync, G: Gate + Sync>(
         return Ok(None);
     };
     for _batch in 0..BATCHES {
-        let mut list = ClaimList::with_room(alloc, limit)?;
-        if let Some(idle) = core.claim_some(limit, &mut list)? {
-            return Ok(Some(shown::idle(alloc, &idle)?));
-        }
-        let outcomes = match run_batch(rt, alloc, list, workers, gate) {
-            Ok(outcomes) => outcomes,
-            Err(_) => return Err(NoMemory),
+        let claims = match next_claims(alloc, core, limit)? {
+            Ok(claims) => claims,
+            Err(idle) => return Ok(Some(shown::idle(alloc, &idle)?)),
         };
-        let _tally = core.finish_all(outcomes);
+        let Ok(outcomes) = batch(rt, alloc, claims, workers, gate) else {
+            return Err(NoMemory);
+        };
+        let _tally = finish_all(core, outcomes);
     }
     Ok(None)
+}
+
+/// At most so many claims, or why there is none.
+fn next_claims(
+    alloc: Global,
+    core: &mut Core,
+    limit: u32,
+) -> Result<Result<ClaimList, Idle>, NoMemory>
+    requires { (0 < limit) × (limit ≤ 64) }
+{
+    let mut list = ClaimList::with_room(alloc, limit)?;
+    match claim_some(core, limit, &mut list)? {
+        Some(idle) => Ok(Err(idle)),
+        None => Ok(Ok(list)),
+    }
 }

@@ -19,15 +19,16 @@
 //! Where `claim` or `compute` lacks memory the answer is `no memory`, and where another call does the program ends.
 
 use crate::batches::{Batch, computed, joined, lay, number, shared};
+use crate::core_calls::{claim_some, driven, finish_all, publish};
 use crate::gates::{CaseGate, gate};
 use crate::shown;
 use crate::span::Span;
-use lay_drive::claim_lists::{ClaimList, Outcome};
-use lay_drive::drive;
+use lay_drive::claim_lists::{ClaimList, Outcome, Outcomes};
 use lay_drive::editing_core::{Core, Publish};
 use lay_json::read_run;
 use lay_layout::context::scratch;
 use lay_layout::frag::text_of;
+use lay_layout::run::RunDoc;
 use lay_layout::units::NoMemory;
 use std::alloc::Global;
 use std::mem::replace;
@@ -105,17 +106,21 @@ impl OneCore {
             return Ok(None);
         };
         let mut list = ClaimList::with_room(alloc, limit)?;
-        match self.core.claim_some(limit, &mut list) {
-            Ok(None) => {}
-            Ok(Some(idle)) => return Ok(Some(shown::idle(alloc, &idle)?)),
-            Err(NoMemory) => return Ok(Some(shown::lacks(alloc)?)),
+        match claim_some(&mut self.core, limit, &mut list) {
+            Ok(None) => Ok(Some(self.take(alloc, list)?)),
+            Ok(Some(idle)) => Ok(Some(shown::idle(alloc, &idle)?)),
+            Err(NoMemory) => Ok(Some(shown::lacks(alloc)?)),
         }
+    }
+
+    /// Takes claims in hand, behind those that are, and shows them.
+    fn take(&mut self, alloc: Global, list: ClaimList) -> Result<String, NoMemory> {
         let answer = shown::claims(alloc, list.as_slice())?;
         self.batch = match replace(&mut self.batch, Batch::None) {
             Batch::Claims(held) => Batch::Claims(joined(alloc, held, list)?),
             _ => Batch::Claims(list),
         };
-        Ok(Some(answer))
+        Ok(answer)
     }
 
     fn compute<R: Threads + Sync>(
@@ -129,13 +134,7 @@ impl OneCore {
         };
         let batch = replace(&mut self.batch, Batch::None);
         self.batch = computed(rt, alloc, batch, workers, &self.gate)?;
-        match &self.batch {
-            Batch::Outcomes(outcomes) if !is_lacking(outcomes.as_slice()) => {
-                Ok(Some(shown::outcomes(alloc, outcomes.as_slice())?))
-            }
-            Batch::None => Ok(None),
-            _ => Ok(Some(shown::lacks(alloc)?)),
-        }
+        shown_computed(alloc, &self.batch)
     }
 
     fn held(&self, alloc: Global) -> Result<Option<String>, NoMemory> {
@@ -164,11 +163,11 @@ impl OneCore {
         alloc: Global,
         rest: &str,
     ) -> Result<Option<String>, NoMemory> {
-        let (Some(workers), Ok(run)) = (number(rest, 16), read_run(alloc, &self.bytes)) else {
+        let (Some(workers), Some(run)) = (number(rest, 16), run_of(alloc, &self.bytes)) else {
             return Ok(None);
         };
         let span = Span::new(rt);
-        self.core = drive(rt, alloc, run, workers, &span)?;
+        self.core = driven(rt, alloc, run, workers, &span)?;
         self.span = span.micros();
         Ok(Some(String::from_str(alloc, "driven")?))
     }
@@ -182,36 +181,54 @@ impl OneCore {
         let Some(workers) = number(rest, 16) else {
             return Ok(None);
         };
-        match replace(&mut self.batch, Batch::None) {
-            Batch::Claims(claims) => {
-                let mut cleaned = 0u64;
-                for outcomes in shared(rt, alloc, claims, workers, &self.gate)? {
-                    let tally = self.core.finish_all(outcomes);
-                    cleaned = cleaned.saturating_add(tally.cleaned() as u64);
-                }
-                Ok(Some(format!(in alloc; "cleaned {cleaned}")?))
-            }
-            _ => Ok(None),
+        let Batch::Claims(claims) = replace(&mut self.batch, Batch::None) else {
+            return Ok(None);
+        };
+        let cleaned = self.finish_each(shared(rt, alloc, claims, workers, &self.gate)?);
+        Ok(Some(format!(in alloc; "cleaned {cleaned}")?))
+    }
+
+    /// Finishes each of these in turn, and says how many cells are clean then.
+    fn finish_each(&mut self, all: Vec<Outcomes>) -> u64 {
+        let mut cleaned = 0u64;
+        for outcomes in all {
+            let tally = finish_all(&mut self.core, outcomes);
+            cleaned = cleaned.saturating_add(tally.cleaned() as u64);
         }
+        cleaned
     }
 
     fn finish(&mut self, alloc: Global) -> Result<Option<String>, NoMemory> {
-        match replace(&mut self.batch, Batch::None) {
-            Batch::Outcomes(outcomes) => {
-                let tally = self.core.finish_all(outcomes);
-                Ok(Some(shown::tally(alloc, &tally)?))
-            }
-            _ => Ok(None),
-        }
+        let Batch::Outcomes(outcomes) = replace(&mut self.batch, Batch::None) else {
+            return Ok(None);
+        };
+        let tally = finish_all(&mut self.core, outcomes);
+        Ok(Some(shown::tally(alloc, &tally)?))
     }
 
     fn as_scratch(&mut self, alloc: Global) -> Result<Option<String>, NoMemory> {
-        match self.core.publish() {
+        match publish(&mut self.core) {
             Publish::Published(version) => is_as_scratch(alloc, &self.core, version),
             Publish::Unsettled(_) => Ok(Some(String::from_str(alloc, "unsettled")?)),
             Publish::NoMemory => Err(NoMemory),
         }
     }
+}
+
+/// What came of the claims in hand.
+fn shown_computed(alloc: Global, batch: &Batch) -> Result<Option<String>, NoMemory> {
+    match batch {
+        Batch::Outcomes(outcomes) if !is_lacking(outcomes.as_slice()) => {
+            Ok(Some(shown::outcomes(alloc, outcomes.as_slice())?))
+        }
+        Batch::None => Ok(None),
+        _ => Ok(Some(shown::lacks(alloc)?)),
+    }
+}
+
+/// The run document of these bytes.
+fn run_of(alloc: Global, bytes: &[u8]) -> Option<RunDoc> {
+    read_run(alloc, bytes).ok()
 }
 
 /// Whether memory was wanting for a claim.

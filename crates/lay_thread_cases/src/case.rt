@@ -4,7 +4,7 @@
 use crate::calls::OneCore;
 use anyhow::{Result, bail};
 use lay_layout::units::NoMemory;
-use std::alloc::Global;
+use std::alloc::{AllocError, Global};
 use std::sync::Wait;
 use std::thread::Threads;
 use std::time::Clock;
@@ -27,12 +27,7 @@ pub(crate) fn compared<R: Threads + Wait + Clock + Sync>(
 ) -> Result<Comparison> {
     let mut lacking = String::new(alloc);
     for line in lines.lines() {
-        let (line, between) = line.split_once(" | ").unwrap_or((line, ""));
-        let mut other = other_answer(rt, alloc, core, line)?;
-        if lacks(&other) {
-            write!(lacking, ", {} lacked memory", call_and_answer(line).0)?;
-            other = answer_again(rt, alloc, core, line, between)?;
-        }
+        let other = other_at_last(rt, alloc, core, line, &mut lacking)?;
         if other.is_some() {
             return Ok(Comparison { other, lacking });
         }
@@ -41,6 +36,23 @@ pub(crate) fn compared<R: Threads + Wait + Clock + Sync>(
         other: None,
         lacking,
     })
+}
+
+/// Makes the call of a line, once more where it lacks memory, and answers what is other than the line says.
+fn other_at_last<R: Threads + Wait + Clock + Sync>(
+    rt: &R,
+    alloc: Global,
+    core: &mut OneCore,
+    line: &str,
+    lacking: &mut String,
+) -> Result<Option<String>> {
+    let (line, between) = line.split_once(" | ").unwrap_or((line, ""));
+    let other = other_answer(rt, alloc, core, line)?;
+    if !lacks(&other) {
+        return Ok(other);
+    }
+    write!(lacking, ", {} lacked memory", call_and_answer(line).0)?;
+    answer_again(rt, alloc, core, line, between)
 }
 
 /// A call, and its answer.
@@ -85,9 +97,21 @@ fn other_answer<R: Threads + Wait + Clock + Sync>(
     }
     let (call, wanted) = call_and_answer(line);
     match core.answer(rt, alloc, call) {
-        Ok(Some(answer)) if answer.as_str() == wanted => Ok(None),
-        Ok(Some(answer)) => Ok(Some(format!(in alloc; "{call} -> {answer}")?)),
+        Ok(Some(answer)) => Ok(told(alloc, call, answer.as_str(), wanted)?),
         Ok(None) => bail!("no call: {call}"),
         Err(NoMemory) => bail!("out of memory"),
     }
+}
+
+/// A call with its answer, where that is another than the wanted one.
+fn told(
+    alloc: Global,
+    call: &str,
+    answer: &str,
+    wanted: &str,
+) -> Result<Option<String>, AllocError> {
+    if answer == wanted {
+        return Ok(None);
+    }
+    Ok(Some(format!(in alloc; "{call} -> {answer}")?))
 }

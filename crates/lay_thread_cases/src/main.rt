@@ -10,6 +10,7 @@
 mod batches;
 mod calls;
 mod case;
+mod core_calls;
 mod gates;
 mod shown;
 mod span;
@@ -19,6 +20,8 @@ use crate::case::{Comparison, compared};
 use anyhow::{Context, Result, bail};
 use lay_drive::editing_core::Core;
 use lay_json::read_run;
+use lay_layout::run::RunDoc;
+use lay_layout::units::NoMemory;
 use std::alloc::Global;
 use std::rt::{Env, Files};
 use std::sync::Wait;
@@ -69,13 +72,35 @@ fn go_through<R: Files + Print + AllocGlobal + Threads + Wait + Clock + Sync>(
     for case in text.as_str().split("\ncase ").skip(1) {
         let (case, lines) = case.split_once('\n').unwrap_or((case, ""));
         let bytes = document(rt, folder, name)?;
-        let core = core(rt.alloc(), name, &bytes)?;
-        let mut subject = OneCore::new(core, bytes);
-        let Comparison { other, lacking } = compared(rt, rt.alloc(), &mut subject, lines)?;
-        match other {
-            None => println!(rt; "{name}: {case}: ok{lacking}")?,
-            Some(other) => println!(rt; "{name}: {case}: NOT SO, but {other}{lacking}")?,
-        }
+        let comparison = compared_on(rt, name, bytes, lines)?;
+        print(rt, name, case, &comparison)?;
+    }
+    Ok(())
+}
+
+/// What comes of a case on a core of the document of these bytes.
+fn compared_on<R: AllocGlobal + Threads + Wait + Clock + Sync>(
+    rt: &R,
+    name: &str,
+    bytes: Vec<u8>,
+    lines: &str,
+) -> Result<Comparison> {
+    let core = core(rt.alloc(), name, &bytes)?;
+    let mut subject = OneCore::new(core, bytes);
+    compared(rt, rt.alloc(), &mut subject, lines)
+}
+
+/// Prints what came of a case.
+fn print(
+    rt: &(impl Print + AllocGlobal),
+    name: &str,
+    case: &str,
+    comparison: &Comparison,
+) -> Result<()> {
+    let lacking = comparison.lacking.as_str();
+    match &comparison.other {
+        None => println!(rt; "{name}: {case}: ok{lacking}")?,
+        Some(other) => println!(rt; "{name}: {case}: NOT SO, but {other}{lacking}")?,
     }
     Ok(())
 }
@@ -88,12 +113,22 @@ fn document(rt: &(impl Files + AllocGlobal), folder: &str, name: &str) -> Result
 
 /// A core of the document of these bytes.
 fn core(alloc: Global, name: &str, bytes: &[u8]) -> Result<Core> {
-    let Ok(run) = read_run(alloc, bytes) else {
-        bail!("{name}.json has a fault");
-    };
-    let (doc, face, _scripts, _listed) = run.into_parts();
-    match Core::new(alloc, doc, face, CALLS) {
+    match new_core(alloc, run(alloc, name, bytes)?) {
         Ok(core) => Ok(core),
-        Err(_) => bail!("out of memory"),
+        Err(NoMemory) => bail!("out of memory"),
     }
+}
+
+/// The run document of these bytes.
+fn run(alloc: Global, name: &str, bytes: &[u8]) -> Result<RunDoc> {
+    match read_run(alloc, bytes) {
+        Ok(run) => Ok(run),
+        Err(_) => bail!("{name}.json has a fault"),
+    }
+}
+
+/// A core of the document of a run.
+fn new_core(alloc: Global, run: RunDoc) -> Result<Core, NoMemory> {
+    let (doc, face, _scripts, _listed) = run.into_parts();
+    Core::new(alloc, doc, face, CALLS)
 }

@@ -1,4 +1,4 @@
-use Rattle.std.proofs.Common.{◌≡◌, ◌<◌, ◌+◌, ◌++◌, length, sym, ap, ◌∙◌, subst, arith}
+use Rattle.std.proofs.Common.{◌≡◌, ◌<◌, ◌+◌, ◌++◌, length, sym, subst, arith}
 use Rattle.lay_audit.specs.NextLines.{BeginsWith}
 use Rattle.lay_audit.proofs.ComparedLines.{Compares, compares_more, more_room, not_empty, parts_from, shorter_left}
 use Rattle.lay_audit.proofs.comparing.compare.Goals as goal

@@ -1,10 +1,9 @@
-use Rattle.std.proofs.Common.{◌≡◌, ◌++◌, List, sym, ap, ◌∙◌, arith}
+use Rattle.std.proofs.Common.{◌≡◌, ◌++◌, sym, ap, ◌∙◌, arith}
 use Rattle.std.proofs.lemmas.Bool.Decides.{Decides-eqb}
 use Rattle.std.proofs.lemmas.Slice.Eq.{slice_eq-Decides}
 use Rattle.lay_history.proofs.Lists.{not_none, some_is}
 use Rattle.lay_report.specs.Report.{laid_line}
 use Rattle.lay_audit.specs.Lines.{behind_line, first_line}
-use Rattle.lay_audit.specs.Readings.{IsLaidNext}
 use Rattle.lay_audit.proofs.EndSteps.{laid_first}
 use Rattle.lay_audit.proofs.LineFacts.{line_parts}
 use Rattle.lay_audit.proofs.NextReplies.{not_both}

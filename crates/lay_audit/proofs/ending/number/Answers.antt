@@ -1,4 +1,4 @@
-use Rattle.std.proofs.Common.{◌≡◌, ℕ, ◌<◌, ◌^◌, Ok, Err, sym, subst}
+use Rattle.std.proofs.Common.{Err, sym, subst}
 use Rattle.std.specs.Str.{IsUtf8}
 use Rattle.lay_audit.proofs.Numbers.{decimal_utf8, read_back, read_ok}
 use Rattle.lay_audit.proofs.ending.number.Goals as goal

@@ -1,7 +1,7 @@
-use Rattle.std.proofs.Common.{◌≡◌, ℕ, ◌<◌, ◌+◌, sym, ap, ◌∙◌, subst, arith, inl, inr}
+use Rattle.std.proofs.Common.{sym, subst, arith, inl, inr}
 use Rattle.std.proofs.lemmas.Bool.{cases_eq}
 use Rattle.lay_audit.specs.declared.step.Step.TheVariants as step
-use Rattle.lay_audit.specs.NextLines.{StandsNext, StandsNot}
+use Rattle.lay_audit.specs.NextLines.{StandsNot}
 use Rattle.lay_audit.proofs.NextReplies.{less_of, no_step, not_both}
 use Rattle.lay_audit.proofs.finding.find_step.Goals as goal
 

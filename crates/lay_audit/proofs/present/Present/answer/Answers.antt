@@ -1,5 +1,4 @@
-use Rattle.std.proofs.Common.{◌≡◌, ◌<◌, sym, subst, arith, OnOk}
-use Rattle.lay_edits.specs.declared.command.Reply.{Reply}
+use Rattle.std.proofs.Common.{sym, subst, arith, OnOk}
 use Rattle.lay_edits.specs.declared.history.Entry.{Entry}
 use Rattle.lay_audit.specs.declared.step.Step.TheVariants as step
 use Rattle.lay_audit.specs.Presents.{IsStep, Moves}

@@ -1,4 +1,4 @@
-use Rattle.std.proofs.Common.{◌≡◌, ◌++◌, List, sym, ap, ◌∙◌}
+use Rattle.std.proofs.Common.{◌≡◌, ◌++◌, sym, ap, ◌∙◌}
 use Rattle.lay_report.specs.Report.{final_line}
 use Rattle.lay_audit.specs.Readings.{ReadingValue}
 use Rattle.lay_audit.proofs.reading.Reading.behind_final.Goals as goal

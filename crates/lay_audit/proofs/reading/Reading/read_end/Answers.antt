@@ -1,4 +1,4 @@
-use Rattle.std.proofs.Common.{◌≡◌, ◌+◌, List, ℕ, [], Some, IfSome, sym, ap, ◌∙◌, subst}
+use Rattle.std.proofs.Common.{◌≡◌, ◌+◌, List, ℕ, [], Some, IfSome, sym, subst}
 use Rattle.lay_doc.specs.Document.{Document}
 use Rattle.lay_audit.specs.LegalReports.{Basis}
 use Rattle.lay_audit.specs.Readings.{HasLayout, IsAtEnd, IsFinalNext, IsRead, NoStep, ReadingValue, basis_of}

@@ -1,4 +1,4 @@
-use Rattle.std.proofs.Common.{◌≡◌, ◌+◌, List, ℕ, [], Some, IfSome, sym, ap, ◌∙◌, subst}
+use Rattle.std.proofs.Common.{◌+◌, IfSome, sym, subst}
 use Rattle.lay_audit.specs.Readings.{IsLaidNext, ReadingValue}
 use Rattle.lay_audit.specs.Verdicts.{IsFirstBad}
 use Rattle.lay_audit.proofs.ComparedLines.{not_empty}

@@ -1,9 +1,8 @@
-use Rattle.std.proofs.Common.{◌≡◌, ◌+◌, ◌<◌, ◌≤◌, List, ℕ, [], length, Some, IfSome, OnOk, IfOk, sym, ap, ◌∙◌, subst, arith}
+use Rattle.std.proofs.Common.{◌≡◌, ◌+◌, List, ℕ, [], length, sym, ap, subst, arith}
 use Rattle.lay_audit.specs.LegalReports.{Basis}
 use Rattle.lay_audit.specs.Verdicts.{IsFirstBad, IsVerdict}
 use Rattle.lay_audit.proofs.Rooms.{front_room, parts_room}
 use Rattle.lay_audit.specs.Readings.{IsAtEnd, IsFrontOf, PartsFrom, ReadingValue}
-use Rattle.lay_audit.specs.declared.verdict.Verdict.{Verdict}
 use Rattle.lay_audit.proofs.Judging.{bad_last, reads_last}
 use Rattle.lay_audit.proofs.Taking.{if_verdict}
 use Rattle.lay_audit.proofs.reading.Reading.read_last_tree.Goals as goal

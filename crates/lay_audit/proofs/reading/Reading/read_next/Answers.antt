@@ -1,4 +1,4 @@
-use Rattle.std.proofs.Common.{◌≡◌, List, ℕ, [], sym, ◌∙◌, subst}
+use Rattle.std.proofs.Common.{List, ℕ, [], sym, ◌∙◌, subst}
 use Rattle.lay_doc.specs.Document.{Document}
 use Rattle.lay_edits.specs.declared.command.Cmd.{Cmd}
 use Rattle.lay_audit.specs.Presents.{shown_in}

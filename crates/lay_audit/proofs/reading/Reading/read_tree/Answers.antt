@@ -1,6 +1,5 @@
-use Rattle.std.proofs.Common.{◌≡◌, ◌+◌, ◌<◌, ◌≤◌, List, ℕ, [], length, Some, IfSome, OnOk, IfOk, sym, ap, ◌∙◌, subst, arith}
-use Rattle.lay_audit.specs.LegalReports.{Basis}
-use Rattle.lay_audit.specs.Verdicts.{IsFirstBad, IsVerdict}
+use Rattle.std.proofs.Common.{◌≡◌, ◌+◌, length, Some, sym, ap, subst, arith}
+use Rattle.lay_audit.specs.Verdicts.{IsFirstBad}
 use Rattle.lay_audit.proofs.Rooms.{front_room, parts_room}
 use Rattle.lay_audit.specs.Readings.{HasLayout, IsFrontOf, PartsFrom, ReadingValue, basis_of}
 use Rattle.lay_audit.proofs.Judging.{bad_shown, reads_shown}

@@ -1,9 +1,9 @@
-use Rattle.std.proofs.Common.{◌≡◌, ◌+◌, ◌<◌, List, [], length, sym, ap, ◌∙◌, subst, arith}
+use Rattle.std.proofs.Common.{◌+◌, sym, ap, ◌∙◌, subst}
 use Rattle.lay_audit.specs.declared.step.Step.TheVariants as step
 use Rattle.lay_audit.specs.Lines.{behind_line}
 use Rattle.lay_audit.specs.Presents.{IsPresentWithin}
 use Rattle.lay_audit.specs.Readings.{IsLayoutOf, ReadingValue}
-use Rattle.lay_audit.proofs.Taking.{Passes, gets_shorter, moves_as, stays_steady, takes_answer, takes_publication}
+use Rattle.lay_audit.proofs.Taking.{gets_shorter, moves_as, stays_steady, takes_publication}
 use Rattle.lay_audit.proofs.reading.Reading.take_publication.Goals as goal
 
 pub returns-clause-reads : goal.returns-clause-reads

@@ -72,3 +72,15 @@ returns-in_err-follow_lists-clause-memory c =
 pub returns-in_err-follow_lists-clause-answer : goal.returns-in_err-follow_lists-clause-answer
 returns-in_err-follow_lists-clause-answer c =
     ran_out_answers c.args.self.now.document c.args.edits.now c.from_residual-in_err-follow_lists.result c.from_residual-in_err-follow_lists.ensures.1
+
+pub returns-in_err-shared-clause-answer : goal.returns-in_err-shared-clause-answer
+returns-in_err-shared-clause-answer c =
+    ran_out_answers c.args.self.now.document c.args.edits.now c.from_residual-in_err-shared.result c.from_residual-in_err-shared.ensures.1
+
+pub returns-in_err-shared-clause-ok : goal.returns-in_err-shared-clause-ok
+returns-in_err-shared-clause-ok c = ok_none c.from_residual-in_err-shared.result _ c.from_residual-in_err-shared.ensures.0
+
+pub returns-in_err-shared-clause-err : goal.returns-in_err-shared-clause-err
+returns-in_err-shared-clause-err c =
+    err_any c.from_residual-in_err-shared.result _
+    (ap (λ (d : Document). state_of d c.self.inside.face.value c.self.inside.cells c.self.inside.laid) c.edited.ensures.same ∙ c.self.view_is)
