@@ -52,7 +52,8 @@ class Great:
         return {'do': 'remove', 'node': self.rng.randrange(2, self.count)}
 
     def set(self):
-        return {'do': 'set', 'node': self.rng.randrange(1, self.count), 'property': 'padding-left', 'value': self.choice(['0', '2px', '-1px'])}
+        node, width = self.rng.randrange(1, self.count), self.choice(['0', '2px', '-1px'])
+        return {'do': 'set', 'node': node, 'property': 'padding-left', 'value': width}
 
     def edits(self):
         """A batch: as many edits as there may be, or some that put nodes in where there is room, or where there is none."""
