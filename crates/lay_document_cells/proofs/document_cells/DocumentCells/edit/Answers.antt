@@ -13,7 +13,7 @@ use Rattle.lay_document_cells.proofs.document_cells.DocumentCells.edit.Goals as 
 
 pub follow_lists-requires-clause-apart : goal.follow_lists-requires-clause-apart
 follow_lists-requires-clause-apart c =
-    own_nodes c.contexts_are_of_own_nodes.ensures c.self.inside.doc c.self.inside.table (subst IsDocument c.doc.ensures c.nodes.ensures.valid) c.self.invariant.lists_are
+    own_nodes c.contexts_are_of_own_nodes.ensures c.self.inside.doc c.self.inside.table (subst IsDocument c.doc.ensures c.nodes.ensures.valid) c.self.invariant.kept.lists_are
 
 pub follow_lists-requires-clause-later_apart : goal.follow_lists-requires-clause-later_apart
 follow_lists-requires-clause-later_apart c =
@@ -22,7 +22,7 @@ follow_lists-requires-clause-later_apart c =
 pub invariant_of-self-2 : goal.invariant_of-self-2
 invariant_of-self-2 c =
     let lists = subst (λ (x : Document). AreStyledLists x c.in_ok-later.later.table.styles c.in_ok-later.later.table.lists) (sym c.become_edited.ensures) c.in_ok-later.ensures.lists in
-    edit_kept c.self.inside.doc c.self.inside.face.value c.self.inside.cells c.self.inside.laid c.self.inside.medium c.self.inside.table c.self.invariant
+    edit_kept c.self.inside.doc c.self.inside.face.value c.self.inside.cells c.self.inside.laid c.self.inside.medium c.self.inside.table c.self.invariant.kept
     c.args.edits.now c.become_edited.new.self (c.become_edited.ensures ∙ c.in_ok-doc.ensures.edited)
     c.in_ok-later.later.table lists c.follow_lists.new.cells c.in_ok-follow_lists.ensures.ok
     c.lists_keep_cells.ensures c.touched_contexts_are_listed.ensures
@@ -36,7 +36,7 @@ invariant_of-self-2 c =
 pub returns-clause-ok : goal.returns-clause-ok
 returns-clause-ok c =
     let lists = subst (λ (x : Document). AreStyledLists x c.in_ok-later.later.table.styles c.in_ok-later.later.table.lists) (sym c.become_edited.ensures) c.in_ok-later.ensures.lists in
-    edited_to c.self.inside.doc c.self.inside.face.value c.self.inside.cells c.self.inside.laid c.self.inside.medium c.self.inside.table c.self.invariant
+    edited_to c.self.inside.doc c.self.inside.face.value c.self.inside.cells c.self.inside.laid c.self.inside.medium c.self.inside.table c.self.invariant.kept
     c.args.edits.now c.become_edited.new.self (c.become_edited.ensures ∙ c.in_ok-doc.ensures.edited)
     c.in_ok-later.later.table lists c.follow_lists.new.cells c.in_ok-follow_lists.ensures.ok
     c.args.self.now c.self.view_is

@@ -1,0 +1,4 @@
+pub mod KeptRows
+pub mod RestyledTwice
+pub mod SinceSteps
+pub mod UnchangedInputs
