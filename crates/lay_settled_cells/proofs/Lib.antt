@@ -1,3 +1,4 @@
+pub mod EitherFlags
 pub mod KeptRows
 pub mod RestyledTwice
 pub mod SinceSteps

@@ -4,17 +4,17 @@ use Rattle.lay_layout.specs.contexts.Contexts.{Context, boxes_in, context_at}
 use Rattle.lay_later_contexts.specs.Links.{AreRestyled, HasLinks, is_made}
 use Rattle.lay_settled_cells.specs.Since.{either}
 
-pub either_count : (as bs : List Bool) → length (either as bs) ≡ length as
-either_count [] bs = refl
-either_count (a ∷ as) [] = refl
-either_count (a ∷ as) (b ∷ bs) = ap suc (either_count as bs)
+pub either_count : (xs ys : List Bool) → length (either xs ys) ≡ length xs
+either_count [] ys = refl
+either_count (x ∷ xs) [] = refl
+either_count (x ∷ xs) (y ∷ ys) = ap suc (either_count xs ys)
 
-either_made : (as bs : List Bool) → length bs ≡ length as → (i : ℕ) → is_made (either as bs) i ≡ (is_made as i || is_made bs i)
+either_made : (xs ys : List Bool) → length ys ≡ length xs → (i : ℕ) → is_made (either xs ys) i ≡ (is_made xs i || is_made ys i)
 either_made [] [] e i = refl
-either_made [] (b ∷ bs) e i = absurd (omega (arith, e))
-either_made (a ∷ as) [] e i = absurd (omega (arith, e))
-either_made (a ∷ as) (b ∷ bs) e zero = refl
-either_made (a ∷ as) (b ∷ bs) e (suc i) = either_made as bs (omega (arith, e)) i
+either_made [] (y ∷ ys) e i = absurd (omega (arith, e))
+either_made (x ∷ xs) [] e i = absurd (omega (arith, e))
+either_made (x ∷ xs) (y ∷ ys) e zero = refl
+either_made (x ∷ xs) (y ∷ ys) e (suc i) = either_made xs ys (omega (arith, e)) i
 
 neither : (a b : Bool) → (a || b) ≡ false → (a ≡ false) × (b ≡ false)
 neither true b e = absurd cc

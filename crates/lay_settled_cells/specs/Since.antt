@@ -27,9 +27,9 @@ pub record Since : Type 0 where
   pub changed : List Bool
 
 abbrev pub either : List Bool → List Bool → List Bool
-either [] bs = []
-either (a ∷ as) [] = a ∷ as
-either (a ∷ as) (b ∷ bs) = (a || b) ∷ either as bs
+either [] ys = []
+either (x ∷ xs) [] = x ∷ xs
+either (x ∷ xs) (y ∷ ys) = (x || y) ∷ either xs ys
 
 -- A pair with a number up to this one is kept where it was kept then, and a claim that is open has a greater number: none was open then.
 pub record KeepSince (number : ℕ) (settled rows : List CellRow) : Type 0 where
