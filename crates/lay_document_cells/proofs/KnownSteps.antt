@@ -1,5 +1,5 @@
 -- What is known of the cells since all of them were clean, through work on a cell and through an edit.
-use Rattle.std.proofs.Common.{◌≡◌, ◌∙◌, ℕ, ◌<◌, Bool, true, false, List, [], length, map, Option, None, Some, IfSome, IsTrue, refl, arith, ap, sym, subst}
+use Rattle.std.proofs.Common.{◌≡◌, ◌∙◌, ℕ, ◌<◌, Bool, true, false, List, [], length, map, Option, None, Some, IfSome, IsTrue, option_map, refl, arith, ap, sym, subst}
 use Rattle.std.specs.Prelude.{◌↔◌}
 use Rattle.std.proofs.lemmas.Option.{IfSome_then}
 use Rattle.lay_layout.specs.doc.Document.{Document}
@@ -65,6 +65,10 @@ module _ (before later : ContextLists) (s t : CellState) (made : List Bool) (res
 
   pub none_drawn : t.draws ≡ s.draws
   none_drawn = follows.draws ∙ ap (λ (z : CellState). z.draws) reshaped
+
+pub some_map : {X Y : Type 0} (f : X → Y) (o : Option X) (P : Y → Type 0) → IfSome o (λ x. P (f x)) → IfSome (option_map f o) P
+some_map f None P h = tt
+some_map f (Some x) P h = h
 
 -- of as many contexts
 pub counts_fit : (medium : Medium) (contexts later : List Context) (cells : CellState) (was : Option Since) (made : Option (List Bool))

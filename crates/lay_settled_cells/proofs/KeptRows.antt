@@ -53,9 +53,9 @@ module _ (number : ℕ) (r q : CellRow) (later : (n : ℕ) → IsOpen r n → nu
   closed kept none = record { kept = λ d is le. sym kept ∙ is; opened = λ n is. absurd (open_none q.claim n none is) }
 
   opened_as : q.kept ≡ r.kept → (m : ℕ) → number < m → IsOpen q m → IsStill number r q
-  opened_as kept m lt open = record {
+  opened_as kept m lt opened = record {
     kept = λ d is le. sym kept ∙ is;
-    opened = λ n is. (let e = some_inj m n (sym open ∙ is) in omega (arith, lt, e));
+    opened = λ n is. (let e = some_inj m n (sym opened ∙ is) in omega (arith, lt, e));
   }
 
   completed : (d : Done) → number < d.number → q.kept ≡ Some d → q.claim ≡ None → IsStill number r q

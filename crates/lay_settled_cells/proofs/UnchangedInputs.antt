@@ -1,5 +1,5 @@
 -- An unchanged cell is given what it was when all cells were clean, of which its kept pair is.
-use Rattle.std.proofs.Common.{◌≡◌, ◌<◌, ℕ, List, length, map, slice_get, Option, Some, option_map, arith, ap, sym, subst, ◌∙◌}
+use Rattle.std.proofs.Common.{◌≡◌, ◌<◌, ℕ, false, List, length, map, slice_get, Option, Some, option_map, arith, ap, sym, subst, ◌∙◌}
 use Rattle.lay_layout.specs.doc.Document.{Document}
 use Rattle.lay_layout.specs.face.FaceValue.{FaceValue}
 use Rattle.lay_layout.specs.cells.Places.{AtPlace}

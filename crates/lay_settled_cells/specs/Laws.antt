@@ -1,6 +1,6 @@
 -- What is known of cells since all of them were clean is kept by claims, by what comes of them, and by edits that leave the contexts but
 -- for the styles and texts of their boxes; and what it is good for: an unchanged cell keeps what it would be given now (CSS 2.2, 9.4.1).
-use Rattle.std.specs.Prelude.{ℕ, ◌≡◌, ◌<◌, List, length}
+use Rattle.std.specs.Prelude.{ℕ, ◌≡◌, ◌<◌, Bool, List, length}
 use Rattle.lay_layout.specs.doc.Document.{Document}
 use Rattle.lay_layout.specs.face.FaceValue.{FaceValue}
 use Rattle.lay_layout.specs.cells.Marks.{Marks}

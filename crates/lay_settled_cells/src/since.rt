@@ -97,6 +97,7 @@ impl Since {
         requires within { place < length cells.now.rows }
         ensures { IsTrue result ↔ IsUnchanged table.now.contexts cells.now.rows self.now place }
     {
+        cells.sound();
         if is_measure(table.cell_at(place).phase) {
             return false;
         }
