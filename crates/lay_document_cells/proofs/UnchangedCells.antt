@@ -1,16 +1,11 @@
 -- A cell that is known to be unchanged keeps what it is given now.
-use Rattle.std.proofs.Common.{◌≡◌, ◌<◌, ℕ, List, length, map, Option, Some, IfSome, refl, ap, sym, subst, ◌∙◌}
-use Rattle.std.proofs.lemmas.List.{length-map}
+use Rattle.std.proofs.Common.{◌≡◌, ℕ, List, refl, subst}
 use Rattle.lay_layout.specs.doc.Document.{Document}
 use Rattle.lay_layout.specs.face.FaceValue.{FaceValue}
 use Rattle.lay_layout.specs.cells.Places.{AtPlace}
-use Rattle.lay_layout.specs.cells.Rows.{entry_of}
-use Rattle.lay_layout.specs.cells.Shapes.{Entry}
 use Rattle.lay_layout.specs.context.Medium.{Medium}
 use Rattle.lay_layout.specs.context.Solves.{medium_of}
 use Rattle.lay_layout.specs.contexts.Contexts.{Context}
-use Rattle.lay_list_steps.specs.shape.declared.cell_key.CellKey.{CellKey}
-use Rattle.lay_list_steps.specs.shape.Shapes.{cells_of, entry_of as entry_of_cell}
 use Rattle.lay_list_steps.specs.cell_laws.SoundCells.{CellState, input_now}
 use Rattle.lay_settled_cells.specs.Laws.{UnchangedCellsKeepInputs}
 use Rattle.lay_settled_cells.specs.Since.{IsSince, IsUnchanged, Since}
@@ -21,14 +16,6 @@ use Rattle.lay_document_cells.proofs.KeptSteps.{state_of}
 
 module _ (d : Document) (face : FaceValue) (cells : CellState) (laid : ℕ) (medium : Medium) (table : TableValue)
     (kept : IsKept (state_of d face cells laid) medium table) (contexts : List Context) (same : contexts ≡ table.lists.contexts) where
-  pub flags_fit : (since : Since) → IsSince medium table.lists.contexts cells since → length since.changed ≡ length contexts
-  flags_fit since known = known.restyled.flags ∙ sym known.restyled.count ∙ ap (λ (cs : List Context). length cs) (sym same)
-
-  pub rows_fit : length cells.rows ≡ length (cells_of contexts)
-  rows_fit =
-      sym (length-map cells.rows entry_of) ∙ ap (λ (es : List (Entry CellKey)). length es) kept.cells.shaped
-      ∙ length-map (cells_of table.lists.contexts) (entry_of_cell table.lists.contexts) ∙ ap (λ (cs : List Context). length (cells_of cs)) (sym same)
-
   pub keeps_given : UnchangedCellsKeepInputs → (s : State) → state_of d face cells laid ≡ s → (since : Since) → IsSince medium table.lists.contexts cells since
       → (place : ℕ) → IsUnchanged contexts cells.rows since place → AtPlace s.cells.rows place (λ r. KeepsGiven s r)
   keeps_given law s is since known place un =
