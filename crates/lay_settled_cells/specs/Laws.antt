@@ -33,25 +33,30 @@ EditsBeginSince = (d : Document) (face : FaceValue) (contexts later : List Conte
     → IsSince (medium_of d face) later t (record { number = s.draws; changed = made })
 
 abbrev pub ClaimsKeepSince : Type 0
-ClaimsKeepSince = (medium : Medium) (contexts : List Context) (s t : CellState) (since : Since) (key : CellKey) (input : CellInput) (answer : Claimed)
+ClaimsKeepSince = (medium : Medium) (contexts : List Context) (s t : CellState) (since : Since)
+    (key : CellKey) (input : CellInput) (answer : Claimed)
     → IsSince medium contexts s since → ClaimsIn s key input answer t → IsSince medium contexts t since
 
 abbrev pub FinishesKeepSince : Type 0
-FinishesKeepSince = (medium : Medium) (contexts : List Context) (s t : CellState) (since : Since) (done : Solved CellKey CellInput CellValue) (answer : Finished)
+FinishesKeepSince = (medium : Medium) (contexts : List Context) (s t : CellState) (since : Since)
+    (done : Solved CellKey CellInput CellValue) (answer : Finished)
     → IsSince medium contexts s since → FinishesIn s done answer t → IsSince medium contexts t since
 
 abbrev pub GiveBacksKeepSince : Type 0
-GiveBacksKeepSince = (medium : Medium) (contexts : List Context) (s t : CellState) (since : Since) (key : CellKey) (number : ℕ) (answer : Released)
+GiveBacksKeepSince = (medium : Medium) (contexts : List Context) (s t : CellState) (since : Since)
+    (key : CellKey) (number : ℕ) (answer : Released)
     → IsSince medium contexts s since → GivesBackIn s key number answer t → IsSince medium contexts t since
 
 -- and by another edit
 abbrev pub EditsKeepSince : Type 0
-EditsKeepSince = (medium : Medium) (contexts later : List Context) (s t : CellState) (since : Since) (made : List Bool) (keys : List CellKey)
+EditsKeepSince = (medium : Medium) (contexts later : List Context) (s t : CellState) (since : Since)
+    (made : List Bool) (keys : List CellKey)
     → IsSince medium contexts s since → AreRestyled contexts later made → Marks s.rows keys t.rows → t.draws ≡ s.draws
     → IsSince medium later t (record { number = since.number; changed = either since.changed made })
 
 -- the row is of the cell of a context, and keeps what this would be given now
-pub record KeepsPresent (medium : Medium) (contexts : List Context) (all : List FormattingContext) (rows : List CellRow) (r : CellRow) : Type 0 where
+pub record KeepsPresent (medium : Medium) (contexts : List Context) (all : List FormattingContext) (rows : List CellRow)
+    (r : CellRow) : Type 0 where
   pub context : ℕ
   pub phase : Phase
   pub within : context < length contexts

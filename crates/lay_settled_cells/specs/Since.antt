@@ -1,5 +1,5 @@
--- What is known of the cells of a document since all of them were clean: then each kept what it was given (CSS 2.2, 9.4.1). Edits since then
--- left the contexts but for the styles and texts of their boxes, and of some it is noted that these were made anew.
+-- What is known of the cells of a document since all of them were clean: then each kept what it was given (CSS 2.2, 9.4.1). Edits since
+-- then left the contexts but for the styles and texts of their boxes, and of some it is noted that these were made anew.
 use Rattle.std.specs.Prelude.{ℕ, ◌≡◌, ◌≢◌, ◌≤◌, ◌<◌, ◌||◌, Bool, false, List, [], ◌∷◌, slice_get, Some}
 use Rattle.lay_layout.specs.doc.Document.{Document}
 use Rattle.lay_layout.specs.face.FaceValue.{FaceValue}
@@ -33,8 +33,8 @@ either (x ∷ xs) (y ∷ ys) = (x || y) ∷ either xs ys
 
 -- A pair with a number up to this one is kept where it was kept then, and a claim that is open has a greater number: none was open then.
 pub record KeepSince (number : ℕ) (settled rows : List CellRow) : Type 0 where
-  pub kept : (place : ℕ) (r : CellRow) (d : Solved CellKey CellInput CellValue) → slice_get rows place ≡ Some r → r.kept ≡ Some d → d.number ≤ number
-      → AtPlace settled place (λ q. q.kept ≡ Some d)
+  pub kept : (place : ℕ) (r : CellRow) (d : Solved CellKey CellInput CellValue) → slice_get rows place ≡ Some r → r.kept ≡ Some d
+      → d.number ≤ number → AtPlace settled place (λ q. q.kept ≡ Some d)
   pub opened : (place : ℕ) (r : CellRow) (n : ℕ) → slice_get rows place ≡ Some r → IsOpen r n → number < n
 
 -- this is known of the cells of these contexts, which are laid out on this

@@ -15,13 +15,13 @@ loop-i-preserved c =
     let onward = ap (λ (n : ℕ). either c.args.self.now.changed (take n c.args.made.now)) more in
     elim c.if-made-i.branch [
       | then-made-i w ↦ (
-          ap (λ s. s.changed.items) w.self-inside-is ∙ ap (λ (bs : List Bool). slice_set bs c.loop-i.i true) c.loop-i.invariant.0
-              ∙ either_set c.args.self.now.changed c.args.made.now c.loop-i.i c.requires (at ∙ ap Some w.if-made-i.true) ∙ onward,
-          ap (λ s. s.number) w.self-inside-is ∙ c.loop-i.invariant.1,
-        )
+        ap (λ s. s.changed.items) w.self-inside-is ∙ ap (λ (bs : List Bool). slice_set bs c.loop-i.i true) c.loop-i.invariant.0
+            ∙ either_set c.args.self.now.changed c.args.made.now c.loop-i.i c.requires (at ∙ ap Some w.if-made-i.true) ∙ onward,
+        ap (λ s. s.number) w.self-inside-is ∙ c.loop-i.invariant.1,
+      )
       | else-made-i w ↦ (
-          ap (λ s. s.changed.items) w.self-inside-is ∙ c.loop-i.invariant.0
-              ∙ either_skip c.args.self.now.changed c.args.made.now c.loop-i.i c.requires (at ∙ ap Some w.if-made-i.false) ∙ onward,
-          ap (λ s. s.number) w.self-inside-is ∙ c.loop-i.invariant.1,
-        )
+        ap (λ s. s.changed.items) w.self-inside-is ∙ c.loop-i.invariant.0
+            ∙ either_skip c.args.self.now.changed c.args.made.now c.loop-i.i c.requires (at ∙ ap Some w.if-made-i.false) ∙ onward,
+        ap (λ s. s.number) w.self-inside-is ∙ c.loop-i.invariant.1,
+      )
     ]
