@@ -3,12 +3,14 @@ use Rattle.std.proofs.Common.{◌≡◌, ⊎_elim, ℕ, zero, suc, List, [], ◌
 use Rattle.std.specs.BTreeMap.{BTreeMap, get}
 use Rattle.std.specs.declared.cmp.Ordering.{Ordering}
 use Rattle.std.proofs.lemmas.Bool.{false≢true, cases_lt}
+use Rattle.std.proofs.lemmas.List.{length-map}
 use Rattle.lay_cells.specs.Shapes.{IsShape}
 use Rattle.lay_cells.specs.Rows.{Held, Row, State, entry_of, row_of}
 use Rattle.lay_cells.specs.Looks.{IsAt, Looks}
 use Rattle.lay_cells.specs.Kept.{IsLowest, IsWired, wire_of}
 use Rattle.lay_cells.specs.Laws.{OneDirtyFrom, OneNeed}
 use Rattle.lay_cells.specs.Places.{AreCleanFrom, AtPlace, HasNoNeedAt, IsFirstDirtyFrom, IsNeedAt}
+use Rattle.lay_cells.specs.Reuses.{AreNeedsAt}
 use Rattle.lay_cells.specs.declared.cell.Cell.{Cell}
 use Rattle.lay_cells.specs.Steps.{ClaimsIn}
 use Rattle.lay_cells.specs.declared.answers.Claimed.{Claimed}
@@ -64,6 +66,20 @@ module _ {K I V : Type 0} where
   need_none cmp index cells wired place c at n None is =
       (row_of c, map_at row_of cells place c at, none_needed (get cmp index) c.places.items c.needs.items (wired.places (wire_of c) (place, map_at wire_of cells place c at)) n is)
   need_none cmp index cells wired place c at n (Some p) is = tt
+
+  -- the places of all of them
+  pub needs_at : (cmp : K → K → Ordering) (index : BTreeMap K ℕ) (cells : List (Cell K (Held K I V))) → IsWired cmp index (map wire_of cells)
+      → (place : ℕ) (c : Cell K (Held K I V)) → slice_get cells place ≡ Some c → (places : List ℕ) → places ≡ c.places.items → AreNeedsAt (map row_of cells) place places
+  needs_at cmp index cells wired place c at places is =
+      let here = map_at row_of cells place c at in
+      record {
+        row = row_of c;
+        there = here;
+        count = ap length is ∙ sym (length-map c.places.items Some) ∙ ap length (wired.places (wire_of c) (place, map_at wire_of cells place c at)) ∙ length-map c.needs.items (get cmp index);
+        each = λ j need got.
+            let n = need_some cmp index cells wired place c at j (Some need) (sym (ap (λ (ps : List ℕ). slice_get ps j) (sym is) ∙ got)) in
+            subst (λ (r : Row K I V). AtPlace (map row_of cells) need (λ q. slice_get r.needs j ≡ Some q.key)) (one_at (map row_of cells) place n.0 (row_of c) n.1 here) n.2;
+      }
 
   -- the first dirty cell of all is the first one behind the cells before it
   pub lowest_from : (rows : List (Row K I V)) (n place : ℕ) → IsLowest rows n → place ≤ n → (r : Row K I V) → slice_get rows n ≡ Some r → IsFirstDirtyFrom rows place n

@@ -16,6 +16,7 @@ pub mod OneAnswer
 pub mod OneRead
 pub mod OneState
 pub mod Reaching
+pub mod ReusedRows
 pub mod Rebuilt
 pub mod Settled
 pub mod Shaping

@@ -7,6 +7,7 @@ pub mod Places
 pub mod Plans
 pub mod Reads
 pub mod Reshapes
+pub mod Reuses
 pub mod Rows
 pub mod Settling
 pub mod Shapes

@@ -7,6 +7,7 @@ ghost use Rattle.lay_cells.specs.Marks.{Marks};
 ghost use Rattle.lay_cells.specs.Places.{AreCleanFrom, AtPlace, HasNoNeedAt, IsClaimed, IsFirstDirtyFrom, IsNeedAt};
 ghost use Rattle.lay_cells.specs.Reads.{AllClean, IsFirstDirtyKey, IsLaid, IsPaid, KeepsNone, KeepsValue};
 ghost use Rattle.lay_cells.specs.Reshapes.{Reshapes};
+ghost use Rattle.lay_cells.specs.Reuses.{AreNeedsAt, CanReuse, ReusesIn};
 ghost use Rattle.lay_cells.specs.Rows.{Row, entry_of};
 ghost use Rattle.lay_cells.specs.Sound.{IsSound};
 ghost use Rattle.lay_cells.specs.Steps.{ClaimsIn, FinishesIn, GivesBackIn, IsStale};
@@ -21,9 +22,10 @@ use crate::fresh::key_set;
 use crate::index::{find, index_of};
 use crate::marking::{mark_dependents, mark_listed};
 use crate::needs::{first_dirty_key, next_dirty};
-use crate::places::{claimed_in, dirty_from, kept_in, key_in, need_in};
+use crate::places::{claimed_in, dirty_from, kept_in, key_in, need_in, needs_in};
 use crate::reading::{laid_in, look_at, look_in, value_in};
 use crate::reshaping::settle_all;
+use crate::reusing::{can_reuse_in, reuse_in};
 use crate::shape::Shape;
 use crate::work::Work;
 use lay_units::NoMemory;
@@ -227,6 +229,14 @@ impl<W: Work> Cells<W> {
         need_in::<W>(self.cells.as_slice(), place, number)
     }
 
+    /// The places of the dependencies of the cell at a place.
+    pub fn needs_at(&self, place: usize) -> &[usize]
+        requires { place < length self.now.rows }
+        ensures { AreNeedsAt self.now.rows place result.now }
+    {
+        needs_in::<W>(self.cells.as_slice(), place)
+    }
+
     /// What a look at the cell at a place shows.
     pub fn look_at(&self, place: usize) -> Look<W::Key>
         requires { place < length self.now.rows }
@@ -245,6 +255,27 @@ impl<W: Work> Cells<W> {
         self.draws = drawn(answer, self.draws);
         self.lowest = next_dirty::<W>(self.cells.as_slice(), self.lowest);
         answer
+    }
+
+    /// Whether the cell at a place keeps a pair, and no open claim has the input of this.
+    pub fn can_reuse_at(&self, place: usize) -> bool
+        requires { place < length self.now.rows }
+        ensures { IsTrue result ↔ AtPlace self.now.rows place CanReuse }
+    {
+        can_reuse_in::<W>(self.cells.as_slice(), place)
+    }
+
+    /// A claim of the cell at a place for the input of its kept pair, as `claim_at_place`, which is Reused.
+    /// Nothing is compared.
+    pub fn reuse_at(&mut self, place: usize)
+        requires draws { self.old.draws ≤ 2 ^ 64 - 2 ^ 20 }
+        requires ready { AtPlace self.old.rows place (λ r. Looks self.old.rows r.key Look.Ready) }
+        requires can { AtPlace self.old.rows place CanReuse }
+        ensures { AtPlace self.old.rows place (λ r. ReusesIn self.old r.key self.new) }
+    {
+        reuse_in::<W>(&mut self.cells, place, self.draws + 1);
+        self.draws += 1;
+        self.lowest = next_dirty::<W>(self.cells.as_slice(), self.lowest);
     }
 
     /// The pair that is kept of the cell at a place.

@@ -21,6 +21,7 @@ mod needs;
 mod places;
 mod reading;
 mod reshaping;
+mod reusing;
 mod shape;
 mod work;
 

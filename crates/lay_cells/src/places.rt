@@ -3,6 +3,7 @@
 ghost use Rattle.std.specs.Prelude.{◌≡◌, ◌<◌, ◌≤◌, ℕ, None, Some, false, IfNone, IfSome, length, map, option_map, slice_get};
 ghost use Rattle.lay_cells.specs.Kept.{HasIndex, IsLowest, wire_of};
 ghost use Rattle.lay_cells.specs.Places.{AreCleanFrom, AtPlace, HasNoNeedAt, IsClaimed, IsFirstDirtyFrom, IsNeedAt};
+ghost use Rattle.lay_cells.specs.Reuses.{AreNeedsAt};
 ghost use Rattle.lay_cells.specs.Rows.{Row, row_of};
 ghost use Rattle.lay_cells.specs.Steps.{IsStale};
 
@@ -40,6 +41,15 @@ pub fn need_in<W: Work>(cells: &[CellOf<W>], place: usize, number: usize) -> Opt
     ensures none { IfNone result (HasNoNeedAt (map row_of cells.now) place number) }
 {
     need_of::<W>(cell_at::<W>(cells, place), number)
+}
+
+/// The places of the dependencies of the cell at a place.
+pub fn needs_in<W: Work>(cells: &[CellOf<W>], place: usize) -> &[usize]
+    requires wired { HasIndex W.Key.cmp (map wire_of cells.now) }
+    requires within { place < length cells.now }
+    ensures { AreNeedsAt (map row_of cells.now) place result.now }
+{
+    cell_at::<W>(cells, place).places.as_slice()
 }
 
 /// The pair that is kept of the cell at a place.

@@ -1,5 +1,5 @@
 -- What a document with its cells keeps beside what contracts see: what it is laid out on, its computed styles, and its contexts.
-use Rattle.std.specs.Prelude.{◌≡◌, ◌≤◌, List}
+use Rattle.std.specs.Prelude.{ℕ, ◌≡◌, ◌≤◌, Bool, true, false, IfSome, List, length, Option, None, Some}
 use Rattle.lay_layout.specs.style.declared.style.Style.{Style}
 use Rattle.lay_layout.specs.cell_progress.Grants.{laid_of_all}
 use Rattle.lay_list_steps.specs.cell_laws.DocumentCells.{AreDocumentCells}
@@ -7,6 +7,7 @@ use Rattle.lay_cell_table.specs.CellTables.{CellTable}
 use Rattle.lay_list_steps.specs.changes.ContextFlags.{ContextLists}
 use Rattle.lay_layout.specs.context.Medium.{Medium}
 use Rattle.lay_layout.specs.context.Solves.{medium_of}
+use Rattle.lay_settled_cells.specs.Since.{IsSince, Since, either}
 use Rattle.lay_document_cells.specs.State.{AreStyledLists, State}
 
 -- the styles of a document and its contexts
@@ -24,3 +25,20 @@ pub record IsKept (s : State) (medium : Medium) (table : TableValue) : Type 0 wh
   pub cells : AreDocumentCells s.document s.face table.lists.contexts table.lists.formatting_contexts s.cells
   pub counted : laid_of_all s.cells.rows ≤ s.laid
   pub drawn : s.laid ≤ s.cells.draws
+
+-- and what may be known of the cells since all of them were clean
+pub record IsKeptWith (s : State) (medium : Medium) (table : TableValue) (since : Option Since) : Type 0 where
+  pub kept : IsKept s medium table
+  pub known : IfSome since (IsSince medium table.lists.contexts s.cells)
+
+-- what is known after an edit, where this was known before it, all cells were clean then or not, so many numbers were drawn, and the boxes
+-- of these contexts were made anew, if the contexts keep their links
+abbrev pub since_edit : Option Since → Bool → ℕ → Option (List Bool) → Option Since
+since_edit was clean draws None = None
+since_edit was true draws (Some made) = Some record { number = draws; changed = made }
+since_edit None false draws (Some made) = None
+since_edit (Some since) false draws (Some made) = Some record { number = since.number; changed = either since.changed made }
+
+-- the flags are of as many contexts
+abbrev pub HaveCount : Option Since → Option (List Bool) → Type 0
+HaveCount was made = IfSome was (λ since. IfSome made (λ flags. length flags ≡ length since.changed))

@@ -7,6 +7,7 @@ pub mod Walks
 pub mod Batches
 pub mod Outcomes
 pub mod Kept
+pub mod Unchanged
 pub mod TreeLengths
 pub mod Laws
 pub use Rattle.lay_list_steps.specs.cell_laws as cell_laws

@@ -48,6 +48,10 @@ impl DocumentCells {
         ensures answers { AtPlace self.old.cells.rows place (λ r. AnswersClaim self.old r.key result self.new) }
     {
         if self.cells.draws() < CLAIM_NUMBERS {
+            if self.can_reuse(place) {
+                self.reuse_given(place);
+                return Answer::Reused;
+            }
             let key = self.cells.key_at(place);
             match self.claim_present(place) {
                 Ok((Claimed::Granted(number), input)) => {

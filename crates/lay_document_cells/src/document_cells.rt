@@ -20,6 +20,7 @@ use crate::document_table::DocumentTable;
 use crate::following::follow_lists;
 use crate::laws::{clean_cells_are_counted, trees_list_contexts};
 use crate::medium::medium_of;
+use crate::since_edits::since_after;
 use lay_cell_table::tree_of;
 use lay_layout::cell_progress::{first_shapes_draw, reshapes_count, reshapes_draw};
 use lay_layout::cells::Cells;
@@ -34,6 +35,7 @@ use lay_list_steps::cell_work::Layout;
 use lay_list_steps::changes::touched_contexts_are_listed;
 use lay_list_steps::lists_keep_cells;
 use lay_list_steps::shape::{CellKey, contexts_are_of_own_nodes};
+use lay_settled_cells::{Since, edits_begin_since, edits_keep_since};
 use std::alloc::Global;
 use std::marker::Model;
 use std::sync::Arc;
@@ -48,18 +50,19 @@ pub struct DocumentCells {
     pub(crate) medium: Medium,
     pub(crate) table: DocumentTable,
     pub(crate) cells: Cells<Layout>,
+    pub(crate) since: Option<Since>,
     pub(crate) laid: u64,
 }
 
 impl Model for DocumentCells {
-    ghost use Rattle.lay_document_cells.specs.Kept.{IsKept};
+    ghost use Rattle.lay_document_cells.specs.Kept.{IsKeptWith};
     ghost use Rattle.lay_document_cells.specs.State.{State};
 
     ghost Value = { State };
 
     ghost view = { λ d. record { document = d.doc; face = d.face.value; cells = d.cells; laid = d.laid } };
 
-    ghost invariant = { λ d. IsKept (record { document = d.doc; face = d.face.value; cells = d.cells; laid = d.laid }) d.medium d.table };
+    ghost invariant = { λ d. IsKeptWith (record { document = d.doc; face = d.face.value; cells = d.cells; laid = d.laid }) d.medium d.table d.since };
 }
 
 impl DocumentCells {
@@ -83,6 +86,7 @@ impl DocumentCells {
             medium,
             table,
             cells,
+            since: None,
             laid: 0,
         })
     }
@@ -101,7 +105,11 @@ impl DocumentCells {
         lists_keep_cells();
         contexts_are_of_own_nodes();
         touched_contexts_are_listed();
+        edits_begin_since();
+        edits_keep_since();
         put_nodes(edits.as_slice());
+        let clean = self.is_settled();
+        let draws = self.draws();
         let _ = self.doc.doc().nodes();
         let doc = self.doc.edited(self.alloc, edits)?;
         let later = self.table.edited(self.alloc, self.doc.doc(), edits, &doc)?;
@@ -110,6 +118,7 @@ impl DocumentCells {
         follow_lists(self.alloc, &mut self.cells, &self.table, &later)?;
         self.cells.sound();
         self.doc.become_edited(self.alloc, edits, doc);
+        self.since = since_after(self.since.take(), clean, draws, later.made);
         self.table = later.table;
         self.medium = medium;
         Ok(())

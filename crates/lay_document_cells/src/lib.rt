@@ -17,8 +17,10 @@ mod idle;
 mod laws;
 mod medium;
 mod settling;
+mod since_edits;
 mod steps;
 mod tally;
+mod unchanged;
 mod walking;
 
 pub use answers::{Answer, Next};

@@ -67,6 +67,10 @@ impl DocumentCells {
         finished_cells_are_clean::<Layout>();
         granted_claims_are_released::<Layout>();
         self.cells.sound();
+        if self.can_reuse(place) {
+            self.reuse_given(place);
+            return Ok(());
+        }
         let key = self.cells.key_at(place);
         let input = self.input_at(place)?;
         let shared = input.clone()?;

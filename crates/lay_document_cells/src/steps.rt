@@ -19,6 +19,7 @@ use lay_layout::units::NoMemory;
 use lay_list_steps::cell_steps::{claims_keep_cells, finishes_keep_cells, give_backs_keep_cells};
 use lay_list_steps::cell_work::{CellInput, Layout};
 use lay_list_steps::shape::CellKey;
+use lay_settled_cells::{claims_keep_since, finishes_keep_since, give_backs_keep_since};
 use std::sync::Arc;
 
 impl DocumentCells {
@@ -27,6 +28,7 @@ impl DocumentCells {
         ensures { FinishesTo self.old done result self.new }
     {
         finishes_keep_cells();
+        finishes_keep_since();
         finishes_count::<Layout>();
         finishes_keep_rows::<Layout>();
         let _value = done.value();
@@ -40,6 +42,7 @@ impl DocumentCells {
         ensures { GivesBackTo self.old key number result self.new }
     {
         give_backs_keep_cells();
+        give_backs_keep_since();
         give_backs_count::<Layout>();
         give_backs_keep_rows::<Layout>();
         let answer = self.cells.give_back(key, number);
@@ -69,6 +72,7 @@ impl DocumentCells {
         ensures { AtPlace self.old.cells.rows place (λ r. ClaimsTo self.old r.key (arc_value input) result self.new) }
     {
         claims_keep_cells();
+        claims_keep_since();
         claims_count::<Layout>();
         one_style_column();
         one_context_list();

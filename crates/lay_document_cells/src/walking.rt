@@ -88,6 +88,10 @@ impl DocumentCells {
         if let Some(number) = self.cells.claimed_at(place) {
             return Ok(Passed::Claimed(number));
         }
+        if self.can_reuse(place) {
+            self.reuse_given(place);
+            return Ok(Passed::Nothing);
+        }
         let key = self.cells.key_at(place);
         let (answer, input) = self.claim_present(place)?;
         match answer {

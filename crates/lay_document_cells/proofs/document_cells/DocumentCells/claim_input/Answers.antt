@@ -7,6 +7,7 @@ use Rattle.lay_document_cells.specs.State.{State}
 use Rattle.std.proofs.Common.{ap, arith, ◌+◌}
 use Rattle.lay_layout.specs.cells.declared.answers.Claimed.{Claimed}
 use Rattle.lay_layout.specs.cell_progress.Grants.{grants}
+use Rattle.lay_document_cells.proofs.KnownSteps.{claim_known}
 use Rattle.lay_document_cells.proofs.KeptSteps.{claim_kept, claimed_to, no_grant}
 use Rattle.lay_document_cells.proofs.document_cells.DocumentCells.claim_input.Goals as goal
 
@@ -17,17 +18,24 @@ claim_at_place-answer-requires-clause-ready c _ =
 pub invariant_of-self : goal.invariant_of-self
 invariant_of-self c =
     let one = ap grants c.in-Granted.is in
-    claim_kept c.self.inside.doc c.self.inside.face.value c.self.inside.cells c.self.inside.laid c.claims_keep_cells.ensures c.claims_count.ensures
-    c.one_style_column.ensures c.one_context_list.ensures c.one_formatting_context_list.ensures c.args.self.now c.self.view_is c.self.inside.medium c.self.inside.table
-    c.self.invariant c.args.place (arc_value c.args.input) c.claim_at_place-answer.result c.claim_at_place-answer.new.self (c.self.inside.laid + 1)
-    c.requires.given c.claim_at_place-answer.ensures c.sound.ensures (omega (arith, one))
+    record {
+      kept = claim_kept c.self.inside.doc c.self.inside.face.value c.self.inside.cells c.self.inside.laid c.claims_keep_cells.ensures c.claims_count.ensures
+          c.one_style_column.ensures c.one_context_list.ensures c.one_formatting_context_list.ensures c.args.self.now c.self.view_is c.self.inside.medium c.self.inside.table
+          c.self.invariant.kept c.args.place (arc_value c.args.input) c.claim_at_place-answer.result c.claim_at_place-answer.new.self (c.self.inside.laid + 1)
+          c.requires.given c.claim_at_place-answer.ensures c.sound.ensures (omega (arith, one));
+      known = claim_known c.self.inside.medium c.self.inside.table.lists.contexts c.self.inside.cells c.claim_at_place-answer.new.self c.self.inside.since
+          c.self.invariant.known c.claims_keep_since.ensures c.args.place (arc_value c.args.input) c.claim_at_place-answer.result c.claim_at_place-answer.ensures;
+    }
 
 pub invariant_of-self-in_default : goal.invariant_of-self-in_default
-invariant_of-self-in_default c =
-    claim_kept c.self.inside.doc c.self.inside.face.value c.self.inside.cells c.self.inside.laid c.claims_keep_cells.ensures c.claims_count.ensures
-    c.one_style_column.ensures c.one_context_list.ensures c.one_formatting_context_list.ensures c.args.self.now c.self.view_is c.self.inside.medium c.self.inside.table
-    c.self.invariant c.args.place (arc_value c.args.input) c.claim_at_place-answer.result c.claim_at_place-answer.new.self c.self.inside.laid
-    c.requires.given c.claim_at_place-answer.ensures c.sound.ensures (no_grant c.self.inside.laid c.claim_at_place-answer.result c.in_default.not-Granted)
+invariant_of-self-in_default c = record {
+  kept = claim_kept c.self.inside.doc c.self.inside.face.value c.self.inside.cells c.self.inside.laid c.claims_keep_cells.ensures c.claims_count.ensures
+      c.one_style_column.ensures c.one_context_list.ensures c.one_formatting_context_list.ensures c.args.self.now c.self.view_is c.self.inside.medium c.self.inside.table
+      c.self.invariant.kept c.args.place (arc_value c.args.input) c.claim_at_place-answer.result c.claim_at_place-answer.new.self c.self.inside.laid
+      c.requires.given c.claim_at_place-answer.ensures c.sound.ensures (no_grant c.self.inside.laid c.claim_at_place-answer.result c.in_default.not-Granted);
+  known = claim_known c.self.inside.medium c.self.inside.table.lists.contexts c.self.inside.cells c.claim_at_place-answer.new.self c.self.inside.since
+      c.self.invariant.known c.claims_keep_since.ensures c.args.place (arc_value c.args.input) c.claim_at_place-answer.result c.claim_at_place-answer.ensures;
+}
 
 pub returns-in-Granted : goal.returns-in-Granted
 returns-in-Granted c =

@@ -1,10 +1,16 @@
-use Rattle.std.proofs.Common.{◌≡◌, ◌∙◌, All, List, None, ap, subst, sym}
+use Rattle.std.proofs.Common.{◌≡◌, ◌∙◌, ℕ, All, IfSome, List, Option, None, option_map, ap, subst, sym}
 use Rattle.lay_layout.specs.context.Solves.{medium_of}
 use Rattle.lay_layout.specs.doc.Document.{Document, IsDocument}
 use Rattle.lay_layout.specs.doc.Laws.{PutsNode}
 use Rattle.lay_layout.specs.doc.declared.edit.Edit.{Edit}
 use Rattle.lay_layout.specs.edit_lists.EditLists.{first}
+use Rattle.lay_layout.specs.cells.Reads.{AllClean}
+use Rattle.lay_list_steps.proofs.Viewports.{one_medium_of_all}
+use Rattle.lay_later_contexts.specs.Links.{AreRestyled}
+use Rattle.lay_settled_cells.specs.Since.{IsSince, Since}
+use Rattle.lay_document_cells.specs.Kept.{since_edit}
 use Rattle.lay_document_cells.specs.State.{AreStyledLists, State}
+use Rattle.lay_document_cells.proofs.KnownSteps.{counts_fit, edit_known, some_map}
 use Rattle.lay_document_cells.proofs.Answered.{err_any, ok_none, own_nodes}
 use Rattle.lay_document_cells.proofs.KeptSteps.{state_of}
 use Rattle.lay_document_cells.proofs.EditSteps.{edit_kept, edited_to}
@@ -13,30 +19,52 @@ use Rattle.lay_document_cells.proofs.document_cells.DocumentCells.edit.Goals as 
 
 pub follow_lists-requires-clause-apart : goal.follow_lists-requires-clause-apart
 follow_lists-requires-clause-apart c =
-    own_nodes c.contexts_are_of_own_nodes.ensures c.self.inside.doc c.self.inside.table (subst IsDocument c.doc.ensures c.nodes.ensures.valid) c.self.invariant.lists_are
+    own_nodes c.contexts_are_of_own_nodes.ensures c.self.inside.doc c.self.inside.table (subst IsDocument c.doc.ensures c.nodes.ensures.valid) c.self.invariant.kept.lists_are
 
 pub follow_lists-requires-clause-later_apart : goal.follow_lists-requires-clause-later_apart
 follow_lists-requires-clause-later_apart c =
     own_nodes c.contexts_are_of_own_nodes.ensures c.in_ok-doc.doc c.in_ok-later.later.table c.nodes-2.ensures.valid c.in_ok-later.ensures.lists
 
+pub since_after-requires : goal.since_after-requires
+since_after-requires c =
+    counts_fit c.self.inside.medium c.self.inside.table.lists.contexts c.in_ok-later.later.table.lists.contexts c.self.inside.cells c.take.result
+    (option_map (λ v. v.items) c.in_ok-later.later.made)
+    (subst (λ (o : Option Since). IfSome o (IsSince c.self.inside.medium c.self.inside.table.lists.contexts c.self.inside.cells)) (sym c.take.ensures) c.self.invariant.known)
+    (some_map (λ v. v.items) c.in_ok-later.later.made (AreRestyled c.self.inside.table.lists.contexts c.in_ok-later.later.table.lists.contexts) c.in_ok-later.ensures.made)
+
 pub invariant_of-self-2 : goal.invariant_of-self-2
 invariant_of-self-2 c =
     let lists = subst (λ (x : Document). AreStyledLists x c.in_ok-later.later.table.styles c.in_ok-later.later.table.lists) (sym c.become_edited.ensures) c.in_ok-later.ensures.lists in
-    edit_kept c.self.inside.doc c.self.inside.face.value c.self.inside.cells c.self.inside.laid c.self.inside.medium c.self.inside.table c.self.invariant
-    c.args.edits.now c.become_edited.new.self (c.become_edited.ensures ∙ c.in_ok-doc.ensures.edited)
-    c.in_ok-later.later.table lists c.follow_lists.new.cells c.in_ok-follow_lists.ensures.ok
-    c.lists_keep_cells.ensures c.touched_contexts_are_listed.ensures
-    (subst (λ (es : List Edit). All PutsNode es) c.as_slice.ensures.edits c.put_nodes.ensures)
-    (rw c.in_ok-doc.was at c.edited.ensures.answer) c.sound.ensures
-    c.medium_of-medium.result
-    (c.medium_of-medium.ensures
-    ∙ (ap (medium_of c.in_ok-doc.doc) c.in_ok-shared.ensures ∙ ap (λ (x : Document). medium_of x c.self.inside.face.value) (sym c.become_edited.ensures)))
-    c.in_ok-follow_lists.ensures.counted c.in_ok-follow_lists.ensures.drawn
+    let medium =
+    c.medium_of-medium.ensures
+    ∙ (ap (medium_of c.in_ok-doc.doc) c.in_ok-shared.ensures ∙ ap (λ (x : Document). medium_of x c.self.inside.face.value) (sym c.become_edited.ensures)) in
+    let after = c.become_edited.ensures ∙ c.in_ok-doc.ensures.edited in
+    record {
+      kept = edit_kept c.self.inside.doc c.self.inside.face.value c.self.inside.cells c.self.inside.laid c.self.inside.medium c.self.inside.table c.self.invariant.kept
+          c.args.edits.now c.become_edited.new.self after
+          c.in_ok-later.later.table lists c.follow_lists.new.cells c.in_ok-follow_lists.ensures.ok
+          c.lists_keep_cells.ensures c.touched_contexts_are_listed.ensures
+          (subst (λ (es : List Edit). All PutsNode es) c.as_slice.ensures.edits c.put_nodes.ensures)
+          (rw c.in_ok-doc.was at c.edited.ensures.answer) c.sound.ensures
+          c.medium_of-medium.result medium
+          c.in_ok-follow_lists.ensures.counted c.in_ok-follow_lists.ensures.drawn;
+      known = edit_known c.edits_begin_since.ensures c.edits_keep_since.ensures c.self.inside.doc c.become_edited.new.self c.self.inside.face.value c.self.inside.medium
+          c.self.inside.table.lists c.in_ok-later.later.table.lists c.self.inside.cells c.follow_lists.new.cells c.self.invariant.kept.cells
+          c.in_ok-follow_lists.ensures.ok c.self.invariant.kept.medium_is
+          (one_medium_of_all c.self.inside.doc c.args.edits.now c.self.inside.face.value ∙ ap (λ (x : Document). medium_of x c.self.inside.face.value) (sym after))
+          c.self.inside.since c.is_settled-clean.result (option_map (λ v. v.items) c.in_ok-later.later.made) c.self.invariant.known
+          (λ t. subst (λ (x : State). AllClean x.cells.rows) (sym c.self.view_is) (c.is_settled-clean.ensures.0 t))
+          (some_map (λ v. v.items) c.in_ok-later.later.made (AreRestyled c.self.inside.table.lists.contexts c.in_ok-later.later.table.lists.contexts) c.in_ok-later.ensures.made)
+          c.medium_of-medium.result medium c.since_after.result
+          (c.since_after.ensures ∙ ap (λ (o : Option Since). since_edit o c.is_settled-clean.result c.draws-draws.result (option_map (λ v. v.items) c.in_ok-later.later.made)) c.take.ensures
+          ∙ ap (λ (n : ℕ). since_edit c.self.inside.since c.is_settled-clean.result n (option_map (λ v. v.items) c.in_ok-later.later.made))
+          (c.draws-draws.ensures ∙ ap (λ (x : State). x.cells.draws) (sym c.self.view_is)));
+    }
 
 pub returns-clause-ok : goal.returns-clause-ok
 returns-clause-ok c =
     let lists = subst (λ (x : Document). AreStyledLists x c.in_ok-later.later.table.styles c.in_ok-later.later.table.lists) (sym c.become_edited.ensures) c.in_ok-later.ensures.lists in
-    edited_to c.self.inside.doc c.self.inside.face.value c.self.inside.cells c.self.inside.laid c.self.inside.medium c.self.inside.table c.self.invariant
+    edited_to c.self.inside.doc c.self.inside.face.value c.self.inside.cells c.self.inside.laid c.self.inside.medium c.self.inside.table c.self.invariant.kept
     c.args.edits.now c.become_edited.new.self (c.become_edited.ensures ∙ c.in_ok-doc.ensures.edited)
     c.in_ok-later.later.table lists c.follow_lists.new.cells c.in_ok-follow_lists.ensures.ok
     c.args.self.now c.self.view_is

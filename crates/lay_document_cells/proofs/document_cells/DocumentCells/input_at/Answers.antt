@@ -14,5 +14,5 @@ input_at-requires-clause-ready c =
 pub returns : goal.returns
 returns c =
     ok_then c.input_at.result _ _ c.input_at.ensures.of
-    (λ i given. given_here c.self.inside.doc c.self.inside.face.value c.self.inside.cells c.self.inside.laid c.self.inside.medium c.self.inside.table c.self.invariant c.args.self.now c.self.view_is
+    (λ i given. given_here c.self.inside.doc c.self.inside.face.value c.self.inside.cells c.self.inside.laid c.self.inside.medium c.self.inside.table c.self.invariant.kept c.args.self.now c.self.view_is
     c.cells.result.now c.cells.ensures.contexts c.cells.ensures.formatting c.args.place (arc_value i) given)

@@ -19,6 +19,12 @@ returns-in-Some-clause-ok c =
     let q = subst (λ (x : State). AtPlace x.cells.rows c.args.place (λ r. IsClaimed r c.in-Some.number)) c.self.view_is c.in-Some.ensures.some in
     claimed_passes c.args.self.now sound.shaped c.args.place h.0 h.1 c.in-Some.number (ready_row _ sound.shaped c.args.place h.0 h.1 h.2) q.0 q.1 q.2
 
+pub returns-then-can_reuse-clause-ok : goal.returns-then-can_reuse-clause-ok
+returns-then-can_reuse-clause-ok c =
+    let sound = subst (λ (x : State). IsSound IsCellLocal x.cells) c.self.view_is c.sound.ensures in
+    let h = c.reuse_given.ensures in
+    reused_passes c.claims_keep_rows.ensures c.args.self.now sound.shaped c.args.place h.0 h.1 c.reuse_given.new.self h.2.input h.2.claims
+
 pub key_at-key-requires-after_bounds : goal.key_at-key-requires-after_bounds
 key_at-key-requires-after_bounds c κs =
     let h = subst (λ (x : State). AtPlace x.cells.rows c.args.place (λ r. Looks x.cells.rows r.key look.Ready)) (sym c.self.view_is) c.requires.ready in

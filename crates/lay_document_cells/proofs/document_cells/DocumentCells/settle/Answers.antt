@@ -39,7 +39,7 @@ returns-clause-ok c =
 pub returns-clause-few : goal.returns-clause-few
 returns-clause-few c =
     let draws = c.loop-place.invariant.draws in
-    let few = few_rows c.self.inside.cells.rows c.self.invariant.cells.cells.sound.shaped in
+    let few = few_rows c.self.inside.cells.rows c.self.invariant.kept.cells.cells.sound.shaped in
     let first = first_within c.self.inside.cells.rows c.in-Some.first c.in-Some.ensures.some in
     let le = c.loop-place.auto.place-end (omega (arith, first, c.len-place-end.ensures)) in
     omega (arith, draws, few, le, c.len-place-end.ensures)

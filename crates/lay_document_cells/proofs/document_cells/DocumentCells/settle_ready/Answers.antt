@@ -8,6 +8,12 @@ use Rattle.lay_document_cells.proofs.Answered.{back_as, err_any, key_same, on_er
 use Rattle.lay_document_cells.proofs.SettledPlaces.{computed_at, granted_up, nothing_claimed, reused_at, taken_up}
 use Rattle.lay_document_cells.proofs.document_cells.DocumentCells.settle_ready.Goals as goal
 
+pub returns-then-can_reuse-clause-ok : goal.returns-then-can_reuse-clause-ok
+returns-then-can_reuse-clause-ok c =
+    let h = c.reuse_given.ensures in
+    reused_at c.args.self.now (subst (λ (x : State). IsSound IsCellLocal x.cells) c.self.view_is c.sound.ensures) c.args.place h.0 h.1 c.requires.clean
+    c.claims_keep_rows.ensures c.reused_cells_are_clean.ensures c.reuse_given.new.self h.2.input h.2.claims
+
 pub returns-in_err-input-clause-err : goal.returns-in_err-input-clause-err
 returns-in_err-input-clause-err c = err_any c.from_residual.result _ (nothing_claimed c.args.self.now)
 

@@ -1,0 +1,103 @@
+-- What is known of the cells since all of them were clean, through work on a cell and through an edit.
+use Rattle.std.proofs.Common.{◌≡◌, ◌∙◌, ℕ, ◌<◌, Bool, true, false, List, [], length, map, Option, None, Some, IfSome, IsTrue, option_map, refl, arith, ap, sym, subst}
+use Rattle.std.specs.Prelude.{◌↔◌}
+use Rattle.std.proofs.lemmas.Option.{IfSome_then}
+use Rattle.lay_layout.specs.doc.Document.{Document}
+use Rattle.lay_layout.specs.face.FaceValue.{FaceValue}
+use Rattle.lay_layout.specs.cells.Marks.{Marks}
+use Rattle.lay_layout.specs.cells.Places.{AtPlace}
+use Rattle.lay_layout.specs.cells.Reads.{AllClean}
+use Rattle.lay_layout.specs.cells.Reshapes.{Reshapes}
+use Rattle.lay_layout.specs.cells.Rows.{entry_of}
+use Rattle.lay_layout.specs.cells.Shapes.{Entry, IsShape}
+use Rattle.lay_layout.specs.cells.Sound.{IsSound}
+use Rattle.lay_layout.specs.cells.Steps.{ClaimsIn, FinishesIn, GivesBackIn}
+use Rattle.lay_layout.specs.cells.declared.answers.Claimed.{Claimed}
+use Rattle.lay_layout.specs.cells.declared.answers.Finished.{Finished}
+use Rattle.lay_layout.specs.cells.declared.answers.Released.{Released}
+use Rattle.lay_layout.proofs.lay_cells.OneState.{one_reshape_lem}
+use Rattle.lay_layout.proofs.lay_cells.Unchanged.{reshapes_to_itself}
+use Rattle.lay_layout.specs.context.Medium.{Medium}
+use Rattle.lay_layout.specs.context.Solves.{medium_of}
+use Rattle.lay_layout.specs.contexts.Contexts.{Context}
+use Rattle.lay_list_steps.specs.shape.declared.cell_key.CellKey.{CellKey}
+use Rattle.lay_list_steps.specs.shape.Shapes.{shape_of}
+use Rattle.lay_list_steps.specs.cell_work.CellInputs.{CellInput}
+use Rattle.lay_list_steps.specs.cell_work.CellLocal.{IsCellLocal}
+use Rattle.lay_list_steps.specs.cell_laws.DocumentCells.{AreDocumentCells}
+use Rattle.lay_list_steps.specs.cell_laws.SoundCells.{CellState}
+use Rattle.lay_list_steps.specs.changes.ContextFlags.{ContextLists}
+use Rattle.lay_later_cells.proofs.SameShape.{shapes_stay}
+use Rattle.lay_later_contexts.specs.Links.{AreRestyled}
+use Rattle.lay_settled_cells.specs.Laws.{ClaimsKeepSince, EditsBeginSince, EditsKeepSince, FinishesKeepSince, GiveBacksKeepSince}
+use Rattle.lay_settled_cells.specs.Since.{IsSince, Since}
+use Rattle.lay_document_cells.specs.Edits.{FollowsLists}
+use Rattle.lay_document_cells.specs.Kept.{HaveCount, since_edit}
+use Rattle.lay_document_cells.specs.Steps.{CellDone}
+
+module _ (medium : Medium) (contexts : List Context) (cells t : CellState) (since : Option Since) (known : IfSome since (IsSince medium contexts cells)) where
+  pub claim_known : ClaimsKeepSince → (place : ℕ) (input : CellInput) (a : Claimed) → AtPlace cells.rows place (λ r. ClaimsIn cells r.key input a t)
+      → IfSome since (IsSince medium contexts t)
+  claim_known law place input a h = IfSome_then since known (λ x is. law medium contexts cells t x h.0.key input a is h.2)
+
+  pub finish_known : FinishesKeepSince → (done : CellDone) (a : Finished) → FinishesIn cells done a t → IfSome since (IsSince medium contexts t)
+  finish_known law done a h = IfSome_then since known (λ x is. law medium contexts cells t x done a is h)
+
+  pub back_known : GiveBacksKeepSince → (key : CellKey) (number : ℕ) (a : Released) → GivesBackIn cells key number a t → IfSome since (IsSince medium contexts t)
+  back_known law key number a h = IfSome_then since known (λ x is. law medium contexts cells t x key number a is h)
+
+-- where the contexts keep their links, cells that follow them are marked, and keep their shape
+module _ (before later : ContextLists) (s t : CellState) (made : List Bool) (restyled : AreRestyled before.contexts later.contexts made)
+    (shaped : map entry_of s.rows ≡ shape_of before.contexts) (sound : IsSound IsCellLocal s) (follows : FollowsLists before later s t) where
+  shape_stays : map entry_of s.rows ≡ shape_of later.contexts
+  shape_stays = shaped ∙ sym (shapes_stay before.contexts later.contexts made restyled)
+
+  shape_is : IsShape (shape_of later.contexts)
+  shape_is = subst (λ (es : List (Entry CellKey)). IsShape es) shape_stays sound.shaped
+
+  reshaped : follows.shaped ≡ s
+  reshaped =
+      one_reshape_lem s follows.shaped s (shape_of later.contexts) [] sound.shaped shape_is follows.reshapes
+      (subst (λ (es : List (Entry CellKey)). Reshapes s es [] s) shape_stays (reshapes_to_itself IsCellLocal s sound))
+
+  pub only_marked : Marks s.rows follows.keys t.rows
+  only_marked = subst (λ (z : CellState). Marks z.rows follows.keys t.rows) reshaped follows.marks
+
+  pub none_drawn : t.draws ≡ s.draws
+  none_drawn = follows.draws ∙ ap (λ (z : CellState). z.draws) reshaped
+
+pub some_map : {X Y : Type 0} (f : X → Y) (o : Option X) (P : Y → Type 0) → IfSome o (λ x. P (f x)) → IfSome (option_map f o) P
+some_map f None P h = tt
+some_map f (Some x) P h = h
+
+-- of as many contexts
+pub counts_fit : (medium : Medium) (contexts later : List Context) (cells : CellState) (was : Option Since) (made : Option (List Bool))
+    → IfSome was (IsSince medium contexts cells) → IfSome made (AreRestyled contexts later) → HaveCount was made
+counts_fit medium contexts later cells was made known flags =
+    IfSome_then was known (λ x is. IfSome_then made flags (λ v are. (let e = is.restyled.flags in let n = is.restyled.count in let m = are.flags in omega (arith, e, n, m))))
+
+-- what is known after an edit
+module _ (begins : EditsBeginSince) (keeps : EditsKeepSince) (d e : Document) (face : FaceValue) (medium : Medium) (before later : ContextLists)
+    (s t : CellState) (cells : AreDocumentCells d face before.contexts before.formatting_contexts s) (follows : FollowsLists before later s t)
+    (is : medium ≡ medium_of d face) (same : medium_of d face ≡ medium_of e face) where
+  step : (was : Option Since) (clean : Bool) (made : Option (List Bool)) → IfSome was (IsSince medium before.contexts s) → (IsTrue clean → AllClean s.rows)
+      → IfSome made (AreRestyled before.contexts later.contexts) → IfSome (since_edit was clean s.draws made) (IsSince (medium_of d face) later.contexts t)
+  step None clean None known settled flags = tt
+  step (Some x) clean None known settled flags = tt
+  step None true (Some made) known settled flags =
+      begins d face before.contexts later.contexts before.formatting_contexts s t made follows.keys cells (settled refl) flags
+      (only_marked before later s t made flags cells.shaped cells.cells.sound follows) (none_drawn before later s t made flags cells.shaped cells.cells.sound follows)
+  step (Some x) true (Some made) known settled flags =
+      begins d face before.contexts later.contexts before.formatting_contexts s t made follows.keys cells (settled refl) flags
+      (only_marked before later s t made flags cells.shaped cells.cells.sound follows) (none_drawn before later s t made flags cells.shaped cells.cells.sound follows)
+  step None false (Some made) known settled flags = tt
+  step (Some x) false (Some made) known settled flags =
+      keeps (medium_of d face) before.contexts later.contexts s t x made follows.keys (subst (λ (m : Medium). IsSince m before.contexts s x) is known) flags
+      (only_marked before later s t made flags cells.shaped cells.cells.sound follows) (none_drawn before later s t made flags cells.shaped cells.cells.sound follows)
+
+  pub edit_known : (was : Option Since) (clean : Bool) (made : Option (List Bool)) → IfSome was (IsSince medium before.contexts s) → (IsTrue clean → AllClean s.rows)
+      → IfSome made (AreRestyled before.contexts later.contexts) → (m : Medium) → m ≡ medium_of e face → (since : Option Since) → since ≡ since_edit was clean s.draws made
+      → IfSome since (IsSince m later.contexts t)
+  edit_known was clean made known settled flags m m_is since since_is =
+      subst (λ (o : Option Since). IfSome o (IsSince m later.contexts t)) (sym since_is)
+      (subst (λ (x : Medium). IfSome (since_edit was clean s.draws made) (IsSince x later.contexts t)) (same ∙ sym m_is) (step was clean made known settled flags))

@@ -1,0 +1,52 @@
+-- A claim of a cell for the input of its kept pair, which is what it is given now.
+use Rattle.std.proofs.Common.{◌≡◌, ◌+◌, ℕ, List, Option, Some, option_map, refl, arith, ap, sym, subst, ◌∙◌}
+use Rattle.lay_layout.specs.doc.Document.{Document}
+use Rattle.lay_layout.specs.face.FaceValue.{FaceValue}
+use Rattle.lay_layout.specs.cells.Looks.{Looks}
+use Rattle.lay_layout.specs.cells.Places.{AtPlace}
+use Rattle.lay_layout.specs.cells.Reuses.{ReusesIn}
+use Rattle.lay_layout.specs.cells.Rows.{Solved}
+use Rattle.lay_layout.specs.cells.Sound.{IsSound}
+use Rattle.lay_layout.specs.cells.Steps.{ClaimsIn}
+use Rattle.lay_layout.specs.cells.declared.answers.Claimed.TheVariants.{Reused}
+use Rattle.lay_layout.specs.cells.declared.answers.Look.TheVariants as look
+use Rattle.lay_layout.proofs.lay_cells.Lists.{one_at, some_inj}
+use Rattle.lay_layout.proofs.lay_cells.OneAnswer.{one_row}
+use Rattle.lay_list_steps.specs.shape.declared.cell_key.CellKey.{CellKey}
+use Rattle.lay_list_steps.specs.cell_work.CellInputs.{CellInput}
+use Rattle.lay_list_steps.specs.cell_work.CellLocal.{IsCellLocal}
+use Rattle.lay_list_steps.specs.cell_work.CellValues.{CellValue}
+use Rattle.lay_list_steps.specs.cell_laws.SoundCells.{CellRow, CellState}
+use Rattle.lay_document_cells.specs.State.{State}
+use Rattle.lay_document_cells.specs.Steps.{IsGivenNow}
+use Rattle.lay_document_cells.specs.Unchanged.{CanReuseGiven, ReusesGiven}
+use Rattle.lay_document_cells.proofs.KeptSteps.{claimed_to, state_of}
+
+module _ (d : Document) (face : FaceValue) (cells : CellState) (laid : ℕ) (s : State) (is : state_of d face cells laid ≡ s) (sound : IsSound IsCellLocal cells)
+    (place : ℕ) (can : AtPlace s.cells.rows place (λ r. CanReuseGiven s r)) (t : CellState) (h : AtPlace cells.rows place (λ r. ReusesIn cells r.key t)) where
+  pub reused_claims : AtPlace cells.rows place (λ r. ClaimsIn cells r.key h.2.input Reused t)
+  reused_claims = (h.0, h.1, h.2.claims)
+
+  here : AtPlace cells.rows place (λ r. CanReuseGiven (state_of d face cells laid) r)
+  here = subst (λ (x : State). AtPlace x.cells.rows place (λ r. CanReuseGiven x r)) (sym is) can
+
+  row : h.2.claims.1 ≡ here.0
+  row =
+      one_row cells.rows sound.shaped h.0.key h.2.claims.1 here.0 (h.2.claims.0, h.2.claims.3.0) h.2.claims.3.1 (place, here.1)
+      (ap (λ (z : CellRow). z.key) (one_at cells.rows place here.0 h.0 here.1 h.1))
+
+  -- the input of the claim is that of the kept pair
+  same : here.2.keeps.input ≡ h.2.input
+  same =
+      some_inj here.2.keeps.input h.2.input
+      (sym here.2.keeps.kept ∙ ap (λ (z : CellRow). option_map (λ (x : Solved CellKey CellInput CellValue). x.input) z.kept) (sym row) ∙ h.2.claims.4.1)
+
+  pub reused_given : AtPlace s.cells.rows place (λ r. IsGivenNow s r.key h.2.input)
+  reused_given =
+      subst (λ (x : State). AtPlace x.cells.rows place (λ r. IsGivenNow x r.key h.2.input)) is
+      (here.0, here.1, subst (λ (i : CellInput). IsGivenNow (state_of d face cells laid) here.0.key i) same here.2.keeps.given)
+
+  pub reused_to : AtPlace s.cells.rows place (λ r. Looks s.cells.rows r.key look.Ready) → AtPlace s.cells.rows place (λ r. ReusesGiven s r.key (state_of d face t laid))
+  reused_to ready =
+      let c = claimed_to d face cells laid s is place h.2.input Reused t laid ready reused_given reused_claims (omega arith) in
+      (c.0, c.1, record { input = h.2.input; claims = c.2 })

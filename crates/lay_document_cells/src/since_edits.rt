@@ -1,0 +1,30 @@
+//! What is known of the cells since all of them were clean, after an edit.
+
+ghost use Rattle.std.specs.Prelude.{◌≡◌, option_map};
+ghost use Rattle.lay_document_cells.specs.Kept.{HaveCount, since_edit};
+
+use lay_settled_cells::Since;
+
+/// It is known from the edit on, where all cells were clean before it, and else since it was. Where the contexts don't keep their links
+/// nothing is known.
+pub(crate) fn since_after(
+    was: Option<Since>,
+    clean: bool,
+    draws: u64,
+    made: Option<Vec<bool>>,
+) -> Option<Since>
+    requires { HaveCount was (option_map (λ v. v.items) made) }
+    ensures { result ≡ since_edit was clean draws (option_map (λ v. v.items) made) }
+{
+    let Some(made) = made else {
+        return None;
+    };
+    if clean {
+        return Some(Since::new(draws, made));
+    }
+    let Some(mut since) = was else {
+        return None;
+    };
+    since.also(made.as_slice());
+    Some(since)
+}
