@@ -27,10 +27,10 @@ use Rattle.lay_own_nodes.proofs.SameTrees.{SameNode}
 use Rattle.lay_later_contexts.specs.Reach.{AreTextsAlike, IsAlike, IsSeen}
 
 -- what is read of a list at a place
-pub read-there : {X : Type 0} (xs : List X) (k : ℕ) (x y : X) → k < length xs → x ≡ slice_index_or xs k x → slice_get xs k ≡ Some y → x ≡ y
-read-there [] k x y lt e g = absurd (omega (arith, lt))
-read-there (z ∷ zs) zero x y lt e g = (let s : Some z ≡ Some y = g in let t : z ≡ y = cc in e ∙ t)
-read-there (z ∷ zs) (suc k) x y lt e g = read-there zs k x y (omega (arith, lt)) e g
+pub read-there : {X : Type 0} (xs : List X) (k : ℕ) (d y : X) → k < length xs → slice_get xs k ≡ Some y → slice_index_or xs k d ≡ y
+read-there [] k d y lt g = absurd (omega (arith, lt))
+read-there (z ∷ zs) zero d y lt g = (let s : Some z ≡ Some y = g in let t : z ≡ y = cc in t)
+read-there (z ∷ zs) (suc k) d y lt g = read-there zs k d y (omega (arith, lt)) g
 
 abbrev flow_by : Position → Float → Flow
 flow_by p f = if is_out_of_flow_position p then Absolute else (if is_floated f then Floating else InFlow)

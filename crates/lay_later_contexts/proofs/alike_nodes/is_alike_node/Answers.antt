@@ -1,4 +1,4 @@
-use Rattle.std.proofs.Common.{◌≡◌, ◌∙◌, ◌<◌, ℕ, List, ap, arith, length, slice_get, subst}
+use Rattle.std.proofs.Common.{◌≡◌, ◌∙◌, ◌<◌, ℕ, List, ap, arith, length, slice_get, slice_index_or, subst}
 use Rattle.lay_style.specs.declared.style.Style.{Style}
 use Rattle.lay_style.specs.ComputedStyle.{style_at}
 use Rattle.lay_doc.specs.declared.node.Node.{Node}
@@ -15,11 +15,12 @@ returns-then-is_alike c = λ alike.
       style = subst (λ (s : Style). IsAlike s (style_at c.args.of.now.styles.now k)) c.at.ensures
           (subst (λ (s : Style). IsAlike c.at.result.now s) c.at-2.ensures (c.is_alike.ensures c.if-is_alike.true));
       text = λ n o one other.
-          (let a : c.index-nodes-k.result ≡ n =
-          read-there c.nodes.result.now k c.index-nodes-k.result n here c.index-nodes-k.is (ap (λ (ns : List Node). slice_get ns k) c.nodes.ensures.nodes ∙ one) in
-          let b : c.index-nodes-k-then-is_alike.result ≡ o =
-          read-there c.nodes-then-is_alike.result.now k c.index-nodes-k-then-is_alike.result o there c.index-nodes-k-then-is_alike.is
-          (ap (λ (ns : List Node). slice_get ns k) c.nodes-then-is_alike.ensures.nodes ∙ other) in
-          subst (λ (t : List ℕ). AreTextsAlike t o.text) (ap (λ (m : Node). m.text) a)
-          (subst (λ (t : List ℕ). AreTextsAlike c.index-nodes-k.result.text t) (ap (λ (m : Node). m.text) b) (c.are_texts_alike.ensures alike)));
+          (let read = c.nodes.result.now in
+          let other-read = c.nodes-then-is_alike.result.now in
+          let a : slice_index_or read k c.index-nodes-k.result ≡ n =
+          read-there read k c.index-nodes-k.result n here (ap (λ (ns : List Node). slice_get ns k) c.nodes.ensures.nodes ∙ one) in
+          let b : slice_index_or other-read k c.index-nodes-k-then-is_alike.result ≡ o =
+          read-there other-read k c.index-nodes-k-then-is_alike.result o there (ap (λ (ns : List Node). slice_get ns k) c.nodes-then-is_alike.ensures.nodes ∙ other) in
+          subst (λ (m : Node). AreTextsAlike m.text o.text) a
+          (subst (λ (m : Node). AreTextsAlike (slice_index_or read k c.index-nodes-k.result).text m.text) b (c.are_texts_alike.ensures alike)));
     })
