@@ -1,4 +1,4 @@
-use Rattle.std.proofs.Common.{◌≡◌, List, ℕ, sym, subst}
+use Rattle.std.proofs.Common.{List, ℕ, sym, subst}
 use Rattle.lay_contexts.specs.ListedContexts.{AreContextPlaces}
 use Rattle.lay_later_contexts.specs.Near.{AreReached}
 use Rattle.lay_later_contexts.specs.Rebuilt.{AreRebuilt}

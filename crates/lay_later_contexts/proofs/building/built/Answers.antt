@@ -1,4 +1,4 @@
-use Rattle.std.proofs.Common.{rules, ◌≡◌, ◌∙◌, ◌<◌, ◌++◌, ◌∷◌, [], Bool, false, List, Option, IfSome, ap, arith, length, slice_index, subst, sym}
+use Rattle.std.proofs.Common.{◌≡◌, ◌∙◌, ◌<◌, ◌++◌, ◌∷◌, [], false, List, Option, IfSome, ap, arith, length, slice_index, subst, sym}
 use Rattle.std.proofs.lemmas.List.{get_or_default}
 use Rattle.lay_box_tree.specs.declared.box_tree.BoxNode.{BoxNode}
 use Rattle.lay_contexts.specs.ContextList.{AreContextsOf}
