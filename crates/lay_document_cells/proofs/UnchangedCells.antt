@@ -1,21 +1,41 @@
 -- A cell that is known to be unchanged keeps what it is given now.
-use Rattle.std.proofs.Common.{◌≡◌, ℕ, List, refl, subst}
+use Rattle.std.proofs.Common.{◌≡◌, ◌<◌, ◌∙◌, ℕ, List, length, refl, ap, subst, sym}
+use Rattle.std.proofs.lemmas.List.{length-map}
+use Rattle.std.proofs.lemmas.Option.{slice_get_within}
 use Rattle.lay_layout.specs.doc.Document.{Document}
 use Rattle.lay_layout.specs.face.FaceValue.{FaceValue}
 use Rattle.lay_layout.specs.cells.Places.{AtPlace}
+use Rattle.lay_layout.specs.cells.Reuses.{CanReuse}
+use Rattle.lay_layout.specs.cells.Rows.{entry_of}
+use Rattle.lay_layout.specs.cells.Shapes.{Entry}
+use Rattle.lay_layout.proofs.lay_cells.Lists.{one_at}
 use Rattle.lay_layout.specs.context.Medium.{Medium}
 use Rattle.lay_layout.specs.context.Solves.{medium_of}
 use Rattle.lay_layout.specs.contexts.Contexts.{Context}
-use Rattle.lay_list_steps.specs.cell_laws.SoundCells.{CellState, input_now}
+use Rattle.lay_list_steps.specs.cell_laws.SoundCells.{CellRow, CellState, input_now}
+use Rattle.lay_list_steps.specs.shape.declared.cell_key.CellKey.{CellKey}
+use Rattle.lay_list_steps.specs.shape.Shapes.{cells_of, entry_of as entry_of_cell}
 use Rattle.lay_settled_cells.specs.Laws.{UnchangedCellsKeepInputs}
 use Rattle.lay_settled_cells.specs.Since.{IsSince, IsUnchanged, Since}
 use Rattle.lay_document_cells.specs.Kept.{IsKept, TableValue}
 use Rattle.lay_document_cells.specs.State.{State}
-use Rattle.lay_document_cells.specs.Unchanged.{KeepsGiven}
+use Rattle.lay_document_cells.specs.Unchanged.{CanReuseGiven, KeepsGiven}
 use Rattle.lay_document_cells.proofs.KeptSteps.{state_of}
 
 module _ (d : Document) (face : FaceValue) (cells : CellState) (laid : ℕ) (medium : Medium) (table : TableValue)
     (kept : IsKept (state_of d face cells laid) medium table) (contexts : List Context) (same : contexts ≡ table.lists.contexts) where
+  -- there are as many flags as contexts
+  pub flags_fit : (since : Since) → IsSince medium table.lists.contexts cells since → length since.changed ≡ length contexts
+  flags_fit since is = is.restyled.flags ∙ sym is.restyled.count ∙ ap length (sym same)
+
+  -- and as many rows as cells
+  pub rows_fit : length cells.rows ≡ length (cells_of contexts)
+  rows_fit =
+      sym (length-map cells.rows entry_of)
+      ∙ ap (λ (es : List (Entry CellKey)). length es) kept.cells.shaped
+      ∙ length-map (cells_of table.lists.contexts) (entry_of_cell table.lists.contexts)
+      ∙ ap (λ (cs : List Context). length (cells_of cs)) (sym same)
+
   pub keeps_given : UnchangedCellsKeepInputs → (s : State) → state_of d face cells laid ≡ s → (since : Since) → IsSince medium table.lists.contexts cells since
       → (place : ℕ) → IsUnchanged contexts cells.rows since place → AtPlace s.cells.rows place (λ r. KeepsGiven s r)
   keeps_given law s is since known place un =
@@ -40,3 +60,14 @@ module _ (d : Document) (face : FaceValue) (cells : CellState) (laid : ℕ) (med
           kept = p.2.kept;
         },
       )
+
+-- a row at a place is within
+pub at_within : (v s : State) → v ≡ s → (P : CellRow → Type 0) (place : ℕ) → AtPlace s.cells.rows place P → place < length v.cells.rows
+at_within v s is P place at = let h = subst (λ (x : State). AtPlace x.cells.rows place P) (sym is) at in slice_get_within v.cells.rows place h.0 h.1
+
+-- it keeps what it is given, and has no open claim of that
+pub reusable : (v s : State) → v ≡ s → (place : ℕ) → AtPlace s.cells.rows place (λ r. KeepsGiven s r) → AtPlace v.cells.rows place (λ r. CanReuse r)
+    → AtPlace s.cells.rows place (λ r. CanReuseGiven s r)
+reusable v s is place keeps can =
+    let q = subst (λ (x : State). AtPlace x.cells.rows place (λ r. CanReuse r)) is can in
+    (keeps.0, keeps.1, record { keeps = keeps.2; can = subst (λ (z : CellRow). CanReuse z) (one_at s.cells.rows place q.0 keeps.0 q.1 keeps.1) q.2 })

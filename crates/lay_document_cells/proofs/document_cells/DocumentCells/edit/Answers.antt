@@ -29,7 +29,7 @@ pub since_after-requires : goal.since_after-requires
 since_after-requires c =
     counts_fit c.self.inside.medium c.self.inside.table.lists.contexts c.in_ok-later.later.table.lists.contexts c.self.inside.cells c.take.result
     (option_map (λ v. v.items) c.in_ok-later.later.made)
-    (subst (λ (o : Option Since). IfSome o (IsSince c.self.inside.medium c.self.inside.table.lists.contexts c.self.inside.cells)) (sym c.take.ensures) c.self.invariant.known)
+    (subst (λ (o : Option Since). IfSome o (IsSince c.self.inside.medium c.self.inside.table.lists.contexts c.self.inside.cells)) (sym c.take.ensures.value) c.self.invariant.known)
     (some_map (λ v. v.items) c.in_ok-later.later.made (AreRestyled c.self.inside.table.lists.contexts c.in_ok-later.later.table.lists.contexts) c.in_ok-later.ensures.made)
 
 pub invariant_of-self-2 : goal.invariant_of-self-2
@@ -56,7 +56,7 @@ invariant_of-self-2 c =
           (λ t. subst (λ (x : State). AllClean x.cells.rows) (sym c.self.view_is) (c.is_settled-clean.ensures.0 t))
           (some_map (λ v. v.items) c.in_ok-later.later.made (AreRestyled c.self.inside.table.lists.contexts c.in_ok-later.later.table.lists.contexts) c.in_ok-later.ensures.made)
           c.medium_of-medium.result medium c.since_after.result
-          (c.since_after.ensures ∙ ap (λ (o : Option Since). since_edit o c.is_settled-clean.result c.draws-draws.result (option_map (λ v. v.items) c.in_ok-later.later.made)) c.take.ensures
+          (c.since_after.ensures ∙ ap (λ (o : Option Since). since_edit o c.is_settled-clean.result c.draws-draws.result (option_map (λ v. v.items) c.in_ok-later.later.made)) c.take.ensures.value
           ∙ ap (λ (n : ℕ). since_edit c.self.inside.since c.is_settled-clean.result n (option_map (λ v. v.items) c.in_ok-later.later.made))
           (c.draws-draws.ensures ∙ ap (λ (x : State). x.cells.draws) (sym c.self.view_is)));
     }

@@ -11,11 +11,11 @@ use Rattle.lay_document_cells.proofs.ReusedCells.{reused_claims, reused_given, r
 use Rattle.lay_document_cells.proofs.document_cells.DocumentCells.reuse_given.Goals as goal
 
 pub reuse_at-requires-clause-ready : goal.reuse_at-requires-clause-ready
-reuse_at-requires-clause-ready c =
+reuse_at-requires-clause-ready c _ =
     subst (λ (s : State). AtPlace s.cells.rows c.args.place (λ r. Looks s.cells.rows r.key look.Ready)) (sym c.self.view_is) c.requires.ready
 
 pub reuse_at-requires-clause-can : goal.reuse_at-requires-clause-can
-reuse_at-requires-clause-can c =
+reuse_at-requires-clause-can c _ =
     let h = subst (λ (s : State). AtPlace s.cells.rows c.args.place (λ r. CanReuseGiven s r)) (sym c.self.view_is) c.requires.can in
     (h.0, h.1, h.2.can)
 
