@@ -1,5 +1,5 @@
 -- Two nodes of one kind with alike styles and texts generate the same box by themselves.
-use Rattle.std.proofs.Common.{◌≡◌, inl, inr, ℕ, ◌<◌, ◌==◌, Bool, true, false, List, [], ◌∷◌, length, refl, ap, sym, ◌∙◌, arith, Option, Some, if◌then◌else◌, option_map, slice_get}
+use Rattle.std.proofs.Common.{◌≡◌, inl, inr, ℕ, zero, suc, ◌<◌, ◌==◌, Bool, true, false, List, [], ◌∷◌, length, refl, ap, sym, ◌∙◌, arith, Option, Some, if◌then◌else◌, option_map, slice_get, slice_index_or}
 use Rattle.std.proofs.lemmas.Bool.{cases_lt}
 use Rattle.std.proofs.lemmas.Option.{slice_get_past}
 use Rattle.lay_style.specs.declared.style.Style.{Style}
@@ -25,6 +25,12 @@ use Rattle.lay_boxgen.specs.NodeBoxes.{establishes_context, form_of, node_box, n
 use Rattle.lay_boxgen.specs.WhiteSpace.{text_form, white_form}
 use Rattle.lay_own_nodes.proofs.SameTrees.{SameNode}
 use Rattle.lay_later_contexts.specs.Reach.{AreTextsAlike, IsAlike, IsSeen}
+
+-- what is read of a list at a place
+pub read-there : {X : Type 0} (xs : List X) (k : ℕ) (d y : X) → k < length xs → slice_get xs k ≡ Some y → slice_index_or xs k d ≡ y
+read-there [] k d y lt g = absurd (omega (arith, lt))
+read-there (z ∷ zs) zero d y lt g = (let s : Some z ≡ Some y = g in let t : z ≡ y = cc in t)
+read-there (z ∷ zs) (suc k) d y lt g = read-there zs k d y (omega (arith, lt)) g
 
 abbrev flow_by : Position → Float → Flow
 flow_by p f = if is_out_of_flow_position p then Absolute else (if is_floated f then Floating else InFlow)

@@ -1,13 +1,12 @@
 -- Contexts none of whose own nodes changed keep their boxes.
-use Rattle.std.proofs.Common.{◌≡◌, inl, inr, ℕ, ◌<◌, Bool, true, false, List, length, refl, ap, sym, ◌∙◌, arith, Some, slice_get, slice_index}
+use Rattle.std.proofs.Common.{◌≡◌, inl, inr, ℕ, ◌<◌, Bool, false, List, length, refl, ap, sym, ◌∙◌, arith, slice_index}
 use Rattle.lay_style.specs.declared.style.Style.{Style}
 use Rattle.lay_style.specs.ComputedStyle.{style_at}
 use Rattle.lay_doc.specs.declared.node.Node.{Node}
 use Rattle.lay_doc.specs.Document.{Document, IsDocument, parents_of}
 use Rattle.lay_doc.proofs.NodeColumns.{length-parents}
 use Rattle.lay_contexts.specs.ContextList.{AreContextsOf}
-use Rattle.lay_contexts.specs.Contexts.{Context, boxes_in}
-use Rattle.lay_contexts.specs.ContextTree.{IsAround, boxes_of_place}
+use Rattle.lay_contexts.specs.Contexts.{Context}
 use Rattle.lay_contexts.proofs.ListedSteps.{context_within}
 use Rattle.lay_own_nodes.proofs.OwnList.{got}
 use Rattle.lay_later_contexts.specs.Changed.{AreAlikeTo, AreMadeAnew}

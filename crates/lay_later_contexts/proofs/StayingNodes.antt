@@ -1,12 +1,12 @@
 -- Edits of declarations and texts leave the nodes of a document where they stand, and change none but those that they name.
-use Rattle.std.proofs.Common.{◌≡◌, ◌⊎◌, inl, inr, ℕ, zero, suc, ◌<◌, Bool, true, false, All, List, [], ◌∷◌, length, map, refl, ap, sym, subst, ◌∙◌, arith, Some, slice_get}
+use Rattle.std.proofs.Common.{◌≡◌, ℕ, zero, suc, ◌<◌, Bool, true, false, All, List, [], ◌∷◌, length, map, refl, ap, sym, subst, ◌∙◌, arith, Some, slice_get}
 use Rattle.std.proofs.lemmas.List.Elements.{All-head, All-tail, All-weaker}
 use Rattle.lay_style.specs.Places.{place_of}
 use Rattle.lay_doc.specs.declared.edit.Edit.{Edit}
 use Rattle.lay_doc.specs.declared.edit.Edit.TheVariants.{SetStyle, ClearStyle, SetText, Insert, Remove, Bad}
 use Rattle.lay_doc.specs.declared.node.Node.{Node}
 use Rattle.lay_doc.specs.Changes.{changed_at, with_style, with_text, without_style}
-use Rattle.lay_doc.specs.Document.{Document, ids_of, parents_of}
+use Rattle.lay_doc.specs.Document.{Document, ids_of}
 use Rattle.lay_doc.specs.Edits.{after}
 use Rattle.lay_doc.proofs.NodeColumns.{length-ids}
 use Rattle.lay_edits.specs.EditLists.{after_all}

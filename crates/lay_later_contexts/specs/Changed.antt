@@ -1,6 +1,6 @@
 -- What edits of declarations and texts leave of the nodes of a document and of their styles (CSS 2.2, 6.2): each node keeps its id, its
 -- parent and what it is, and those without a flag keep all that they have.
-use Rattle.std.specs.Prelude.{ℕ, ◌≡◌, ◌<◌, ◌⊎◌, Bool, true, false, List, length, slice_get, Some}
+use Rattle.std.specs.Prelude.{ℕ, ◌≡◌, ◌<◌, Bool, true, false, List, length, slice_get, Some}
 use Rattle.lay_style.specs.declared.style.Style.{Style}
 use Rattle.lay_style.specs.Values.{Declaration}
 use Rattle.lay_style.specs.ComputedStyle.{computed_style, declarations_at, parent_style, style_at}

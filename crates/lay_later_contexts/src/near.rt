@@ -1,6 +1,6 @@
 //! The nearest context of each node.
 
-ghost use Rattle.std.specs.Prelude.{⊥, ◌≡◌, ◌<◌, ◌+◌, false, IfOk, IsTrue, length, slice_index};
+ghost use Rattle.std.specs.Prelude.{◌≡◌, ◌<◌, ◌+◌, false, IfOk, IsTrue, length, slice_index};
 ghost use Rattle.lay_doc.specs.Document.{parents_of};
 ghost use Rattle.lay_contexts.specs.ListedContexts.{AreContextPlaces};
 ghost use Rattle.lay_later_contexts.specs.Near.{AreNearTo, IsNearTo};

@@ -110,7 +110,8 @@ fn push_styled(
         push_style(nodes, styles, k)?;
         return Ok(());
     }
-    push(styles, style_at(was, k))
+    push(styles, style_at(was, k))?;
+    Ok(())
 }
 
 fn push(styles: &mut Vec<Style>, style: &Style) -> Result<(), NoMemory>

@@ -1,4 +1,5 @@
-use Rattle.std.proofs.Common.{rules, ◌≡◌, ◌∙◌, ◌<◌, ◌++◌, ◌∷◌, [], Bool, false, List, Option, IfSome, ap, arith, length, slice_index, subst, sym}
+use Rattle.std.proofs.Common.{◌≡◌, ◌∙◌, ◌<◌, ◌++◌, ◌∷◌, [], false, List, Option, IfSome, ap, arith, length, slice_index, subst, sym}
+use Rattle.std.proofs.lemmas.List.{get_or_default}
 use Rattle.lay_box_tree.specs.declared.box_tree.BoxNode.{BoxNode}
 use Rattle.lay_contexts.specs.ContextList.{AreContextsOf}
 use Rattle.lay_contexts.specs.ContextTree.{boxes_of_place}
@@ -13,8 +14,8 @@ use Rattle.lay_later_contexts.proofs.building.built.Goals as goal
 pub bounds-places-i : goal.bounds-places-i
 bounds-places-i c = omega (arith, c.loop-i-test.true, c.len-i-end.ensures.count, c.requires.rebuilt.places_are.count)
 
-pub bounds-reached-i : goal.bounds-reached-i
-bounds-reached-i c = omega (arith, c.loop-i-test.true, c.len-i-end.ensures.count, c.requires.rebuilt.flags)
+pub index-requires : goal.index-requires
+index-requires c = omega (arith, c.loop-i-test.true, c.len-i-end.ensures.count, c.requires.rebuilt.flags)
 
 pub boxes_after-requires-clause-context : goal.boxes_after-requires-clause-context
 boxes_after-requires-clause-context c =
@@ -24,7 +25,10 @@ boxes_after-requires-clause-context c =
 
 pub boxes_after-requires-clause-kept : goal.boxes_after-requires-clause-kept
 boxes_after-requires-clause-kept c = λ is_not.
-    ap (λ (x : Context). x.boxes) c.at.ensures.context ∙ c.requires.rebuilt.kept c.loop-i.i (omega (arith, c.loop-i-test.true, c.len-i-end.ensures.count)) is_not
+    (let lt : c.loop-i.i < length c.args.before.now = omega (arith, c.loop-i-test.true, c.len-i-end.ensures.count) in
+    let flag : c.index.result.now ≡ is_made c.args.reached.items c.loop-i.i =
+    c.index.ensures ∙ get_or_default c.args.reached.items c.loop-i.i c.index.result.now false (omega (arith, lt, c.requires.rebuilt.flags)) in
+    ap (λ (x : Context). x.boxes) c.at.ensures.context ∙ c.requires.rebuilt.kept c.loop-i.i lt (sym flag ∙ is_not))
 
 pub loop-i-preserved : goal.loop-i-preserved
 loop-i-preserved c =

@@ -1,8 +1,7 @@
-use Rattle.std.proofs.Common.{rules, ◌≡◌, ◌∙◌, ap, arith, length, subst, sym, refl, Some, Option, IfSome, ℕ}
+use Rattle.std.proofs.Common.{◌∙◌, arith, subst, sym, refl, Option, IfSome, ℕ}
 use Rattle.std.proofs.lemmas.List.{take_all}
-use Rattle.std.proofs.lemmas.List.Elements.{All-more, All-same, All-nil}
+use Rattle.std.proofs.lemmas.List.Elements.{All-more, All-same}
 use Rattle.lay_style.proofs.Places.{place_within}
-use Rattle.lay_doc.specs.declared.edit.Edit.{Edit}
 use Rattle.lay_doc.specs.Document.{ids_of}
 use Rattle.lay_doc.proofs.NodeColumns.{length-ids}
 use Rattle.lay_later_contexts.specs.Changed.{ChangesAt}

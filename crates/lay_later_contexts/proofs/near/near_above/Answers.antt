@@ -1,4 +1,4 @@
-use Rattle.std.proofs.Common.{◌<◌, arith, length}
+use Rattle.std.proofs.Common.{arith}
 use Rattle.lay_doc.proofs.NodeColumns.{length-parents}
 use Rattle.lay_later_contexts.proofs.near.near_above.Goals as goal
 

@@ -25,7 +25,7 @@ returns c =
     let places = c.args.places.now in
     let near = c.args.near.now.items in
     let k : c.len-k.result ≡ length near = search rules in
-    let other = λ lt at. c.is_place.ensures.no c.if-is_place.false lt (at ∙ sym k) in
+    let other : c.args.next < length places → slice_index places c.args.next ≡ length near → ⊥ = λ lt at. c.is_place.ensures.no c.if-is_place.false lt (at ∙ sym k) in
     let up-is : 0 < length near → c.near_above-up.result ≡ slice_index near (parent_of nodes (length near)) =
     λ positive. c.near_above-up.ensures (omega (arith, positive, k))
     ∙ (ap (λ (xs : List ℕ). slice_index xs (parent_of nodes c.len-k.result)) c.deref.ensures.value ∙ ap (λ (m : ℕ). slice_index near (parent_of nodes m)) k) in

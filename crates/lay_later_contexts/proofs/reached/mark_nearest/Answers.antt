@@ -1,4 +1,4 @@
-use Rattle.std.proofs.Common.{◌≡◌, ◌<◌, arith, length, refl, ap, slice_index}
+use Rattle.std.proofs.Common.{arith, refl, ap, slice_index}
 use Rattle.lay_later_contexts.proofs.NearSteps.{both-marked, parent-within}
 use Rattle.lay_later_contexts.proofs.reached.mark_nearest.Goals as goal
 

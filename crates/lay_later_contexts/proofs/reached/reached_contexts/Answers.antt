@@ -1,4 +1,4 @@
-use Rattle.std.proofs.Common.{rules, ◌≡◌, arith, length}
+use Rattle.std.proofs.Common.{arith}
 use Rattle.lay_later_contexts.proofs.NearSteps.{reached-known}
 use Rattle.lay_later_contexts.proofs.reached.reached_contexts.Goals as goal
 
