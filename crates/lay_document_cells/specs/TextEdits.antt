@@ -1,5 +1,5 @@
 -- Edits of texts, which have no declarations.
-use Rattle.std.specs.Prelude.{⊤, ⊥}
+use Rattle.std.specs.Prelude.{⊤}
 use Rattle.lay_layout.specs.doc.declared.edit.Edit.{Edit}
 use Rattle.lay_layout.specs.doc.declared.edit.Edit.TheVariants.{SetText}
 

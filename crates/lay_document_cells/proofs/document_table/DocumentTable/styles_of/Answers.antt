@@ -1,4 +1,4 @@
-use Rattle.std.proofs.Common.{◌≡◌, ◌∙◌, List, Bool, Option, IfSome, ap, refl, subst, sym}
+use Rattle.std.proofs.Common.{◌≡◌, ◌∙◌, List, Bool, IfSome, ap, subst, sym}
 use Rattle.std.specs.Arc.{arc_value}
 use Rattle.lay_layout.specs.style.declared.style.Style.{Style}
 use Rattle.lay_layout.specs.style.ComputedStyle.{HasStyles, style_at}
@@ -33,6 +33,6 @@ returns-then-are_texts-clause-made c =
 pub restyled_nodes-requires-clause-stays : goal.restyled_nodes-requires-clause-stays
 restyled_nodes-requires-clause-stays c =
     let was = c.args.doc.now in
-    subst (λ (flags : List Bool). AreStaying was.nodes c.args.later.now.nodes flags) (sym c.deref.ensures.value)
+    subst (λ (flags : List Bool). AreStaying was.nodes c.args.later.now.nodes flags) (sym c.deref-2.ensures.value)
     (subst (λ (d : Document). AreStaying was.nodes d.nodes c.in-Some.changed.items) (sym c.requires.later)
     (subst (λ o. IfSome o (λ v. AreStaying was.nodes (after_all was c.args.edits.now).nodes v.items)) c.in-Some.is (c.in_ok-changed.ensures {u = tt})))
