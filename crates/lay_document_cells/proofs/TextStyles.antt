@@ -1,15 +1,18 @@
 -- A text has no declarations, so styles stay where one changes.
-use Rattle.std.proofs.Common.{◌≡◌, ℕ, zero, suc, List, [], ◌∷◌, map, refl, ap, sym, subst, Option, None, Some}
+use Rattle.std.proofs.Common.{◌≡◌, ℕ, All, zero, suc, List, [], ◌∷◌, map, refl, ap, sym, subst, Option, None, Some}
+use Rattle.std.proofs.lemmas.List.Elements.{All-head, All-tail}
 use Rattle.lay_layout.specs.style.declared.style.Style.{Style}
 use Rattle.lay_layout.specs.style.ComputedStyle.{HasStyles}
 use Rattle.lay_layout.specs.style.Places.{place_of}
 use Rattle.lay_layout.specs.doc.declared.edit.Edit.{Edit}
-use Rattle.lay_layout.specs.doc.declared.edit.Edit.TheVariants.{SetText}
+use Rattle.lay_layout.specs.doc.declared.edit.Edit.TheVariants.{SetStyle, ClearStyle, SetText, Insert, Remove, Bad}
 use Rattle.lay_layout.specs.doc.declared.node.Node.{Node}
 use Rattle.lay_layout.specs.doc.declared.node.NodeId.{NodeId}
 use Rattle.lay_layout.specs.doc.Changes.{changed_at, with_text}
 use Rattle.lay_layout.specs.doc.Document.{Document, declarations_of, ids_of, parents_of}
 use Rattle.lay_layout.specs.doc.Edits.{after}
+use Rattle.lay_layout.specs.edit_lists.EditLists.{after_all}
+use Rattle.lay_document_cells.specs.TextEdits.{IsTextEdit}
 
 column-stays : {X : Type 0} (g : Node → X) (text : List ℕ) → ((n : Node) → g (with_text text n) ≡ g n) → (p : ℕ) (ns : List Node) → map g (changed_at p (with_text text) ns) ≡ map g ns
 column-stays g text same p [] = refl
@@ -30,3 +33,17 @@ texts-have-no-styles d node text styles are = by (place_of node.0 (ids_of d.node
     by : (o : Option ℕ) → place_of node.0 (ids_of d.nodes) ≡ o → AreStyled (after d (SetText node text)) styles
     by None e = rw e are
     by (Some p) e = rw e (changed-text d text styles p are)
+
+one-text : (d : Document) (e : Edit) (styles : List Style) → IsTextEdit e → AreStyled d styles → AreStyled (after d e) styles
+one-text d (SetStyle node decl) styles is are = absurd is
+one-text d (ClearStyle node property) styles is are = absurd is
+one-text d (SetText node text) styles is are = texts-have-no-styles d node text styles are
+one-text d (Insert parent index new) styles is are = absurd is
+one-text d (Remove node) styles is are = absurd is
+one-text d (Bad bad) styles is are = absurd is
+
+-- so they do where several change
+pub texts-keep-styles : (d : Document) (edits : List Edit) (styles : List Style) → All IsTextEdit edits → AreStyled d styles → AreStyled (after_all d edits) styles
+texts-keep-styles d [] styles all are = are
+texts-keep-styles d (e ∷ es) styles all are =
+    texts-keep-styles (after d e) es styles (All-tail IsTextEdit e es all) (one-text d e styles (All-head IsTextEdit e es all) are)

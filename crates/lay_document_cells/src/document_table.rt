@@ -1,6 +1,7 @@
 //! The contexts of a document, with its styles.
 
-ghost use Rattle.std.specs.Prelude.{◌≡◌, ◌+◌, IfOk, IfSome, None, OnOk, length};
+ghost use Rattle.std.specs.Prelude.{◌≡◌, ◌+◌, IfOk, IfSome, IsTrue, None, OnOk, length};
+ghost use Rattle.std.specs.List.{All};
 ghost use Rattle.std.specs.Arc.{arc_value};
 ghost use Rattle.lay_layout.specs.style.ComputedStyle.{HasStyles};
 ghost use Rattle.lay_layout.specs.doc.Document.{declarations_of, parents_of};
@@ -8,12 +9,17 @@ ghost use Rattle.lay_layout.specs.doc.Edits.{after, fault};
 ghost use Rattle.lay_layout.specs.edit_lists.EditLists.{after_all, first};
 ghost use Rattle.lay_list_steps.specs.changes.ContextFlags.{AreContextFlags};
 ghost use Rattle.lay_layout.specs.contexts.FormattingContextList.{AreFormattingContextsOf};
+ghost use Rattle.lay_later_contexts.specs.Changed.{AreMadeAnew, AreStaying};
 ghost use Rattle.lay_later_contexts.specs.Links.{AreRestyled};
+ghost use Rattle.lay_document_cells.specs.TextEdits.{IsTextEdit};
 ghost use Rattle.lay_document_cells.specs.State.{AreStyledLists};
 
 use lay_cell_table::CellTable;
 use lay_later_cells::MeasuredList;
-use lay_later_contexts::{EditedDoc, LaterContexts, contexts_after};
+use lay_later_contexts::{
+    DocPair, EditedDoc, LaterContexts, RestyledNodes, changed_nodes, contexts_after,
+    contexts_after_all, restyled_nodes,
+};
 use lay_layout::contexts::{Contexts, contexts_of};
 use lay_layout::doc::{Doc, Edit};
 use lay_layout::edit_lists::Edits;
@@ -54,7 +60,7 @@ impl DocumentTable {
         DocumentTable::of_styles(alloc, doc, styles)
     }
 
-    /// That of a document after a list of edits, where this is the one before it. After several edits all is made anew.
+    /// That of a document after a list of edits, where this is the one before it.
     pub(crate) fn edited(
         &self,
         alloc: Global,
@@ -72,8 +78,75 @@ impl DocumentTable {
         if list.len() == 1 {
             return self.edited_once(alloc, doc, &list[0], later);
         }
+        if let Some(styled) = self.styles_of(alloc, doc, list, later)? {
+            return self.edited_nodes(alloc, doc, later, styled);
+        }
         let table = DocumentTable::of(alloc, later)?;
         Ok(EditedTable { table, made: None })
+    }
+
+    /// The computed styles after edits of declarations and texts, and for each node whether the node or its style changed. They are shared
+    /// where just texts change. None where the edits do anything else.
+    fn styles_of(
+        &self,
+        alloc: Global,
+        doc: &Doc,
+        edits: &[Edit],
+        later: &Doc,
+    ) -> Result<Option<StyledNodes>, NoMemory>
+        requires styles { HasStyles (parents_of doc.now.nodes) (declarations_of doc.now.nodes) self.now.styles }
+        requires later { later.now ≡ after_all doc.now edits.now }
+        ensures styles { IfOk result (λ o. IfSome o (λ s. HasStyles (parents_of later.now.nodes) (declarations_of later.now.nodes) (arc_value s.styles))) }
+        ensures made { IfOk result (λ o. IfSome o (λ s. AreMadeAnew doc.now.nodes later.now.nodes self.now.styles (arc_value s.styles) s.made.items)) }
+    {
+        let Some(changed) = changed_nodes(alloc, doc, edits)? else {
+            return Ok(None);
+        };
+        if are_texts(edits) {
+            let styles = self.styles.clone()?;
+            return Ok(Some(StyledNodes {
+                styles,
+                made: changed,
+            }));
+        }
+        let RestyledNodes { styles, made } = restyled_nodes(
+            alloc,
+            doc,
+            &self.styles,
+            later,
+            &changed,
+        )?;
+        let styles = Arc::new(alloc, styles)?;
+        Ok(Some(StyledNodes { styles, made }))
+    }
+
+    /// The table of a later document with these styles, where all nodes without a flag kept theirs.
+    fn edited_nodes(
+        &self,
+        alloc: Global,
+        doc: &Doc,
+        later: &Doc,
+        styled: StyledNodes,
+    ) -> Result<EditedTable, NoMemory>
+        requires are { AreStyledLists doc.now self.now.styles self.now.lists }
+        requires styles { HasStyles (parents_of later.now.nodes) (declarations_of later.now.nodes) (arc_value styled.styles) }
+        requires made { AreMadeAnew doc.now.nodes later.now.nodes self.now.styles (arc_value styled.styles) styled.made.items }
+        ensures lists { IfOk result (λ t. AreStyledLists later.now t.table.styles t.table.lists) }
+        ensures made { IfOk result (λ t. IfSome t.made (λ v. AreRestyled self.now.lists.contexts t.table.lists.contexts v.items)) }
+    {
+        let StyledNodes { styles, made } = styled;
+        let of = DocPair {
+            doc,
+            was: &self.styles,
+            later,
+            styles: &styles,
+        };
+        let LaterContexts {
+            contexts,
+            made: anew,
+        } = contexts_after_all(alloc, &of, &made, self.cells.contexts())?;
+        let table = DocumentTable::of_contexts(alloc, styles, contexts)?;
+        Ok(EditedTable { table, made: anew })
     }
 
     /// The same for one edit.
@@ -192,6 +265,32 @@ impl DocumentTable {
 pub(crate) struct EditedTable {
     pub(crate) table: DocumentTable,
     pub(crate) made: Option<Vec<bool>>,
+}
+
+/// The computed styles of a document, and for each node whether its style was made anew.
+#[derive(Drop)]
+struct StyledNodes {
+    styles: Arc<Computed>,
+    made: Vec<bool>,
+}
+
+/// Whether each of these edits changes a text.
+fn are_texts(edits: &[Edit]) -> bool
+    ensures { IsTrue result → All IsTextEdit edits.now }
+{
+    for edit in edits {
+        if !is_text_edit(edit) {
+            return false;
+        }
+    }
+    true
+}
+
+/// Whether an edit changes a text.
+fn is_text_edit(edit: &Edit) -> bool
+    ensures { IsTrue result → IsTextEdit edit.now }
+{
+    matches!(edit, Edit::SetText { .. })
 }
 
 /// For each context whether its preferred widths count.

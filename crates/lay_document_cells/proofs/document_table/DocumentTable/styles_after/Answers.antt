@@ -3,7 +3,6 @@ use Rattle.std.specs.Arc.{arc_value}
 use Rattle.lay_layout.specs.style.declared.style.Style.{Style}
 use Rattle.lay_layout.specs.style.ComputedStyle.{HasStyles}
 use Rattle.lay_layout.specs.doc.Document.{Document, declarations_of, parents_of}
-use Rattle.lay_layout.specs.doc.declared.edit.Edit.{Edit}
 use Rattle.lay_layout.specs.doc.Edits.{after}
 use Rattle.lay_document_cells.specs.Kept.{TableValue}
 use Rattle.lay_document_cells.proofs.TextStyles.{texts-have-no-styles}

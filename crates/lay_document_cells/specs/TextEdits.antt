@@ -1,0 +1,8 @@
+-- Edits of texts, which have no declarations.
+use Rattle.std.specs.Prelude.{⊤}
+use Rattle.lay_layout.specs.doc.declared.edit.Edit.{Edit}
+use Rattle.lay_layout.specs.doc.declared.edit.Edit.TheVariants.{SetText}
+
+abbrev pub IsTextEdit : Edit → Type 0
+IsTextEdit (SetText node text) = ⊤
+IsTextEdit _ = ⊥
