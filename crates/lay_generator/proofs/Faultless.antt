@@ -109,6 +109,26 @@ faultless_more : (d : Document) (xs ys : List (NodeId × NewNodeValue)) → AreF
 faultless_more d [] ys first rest = rest
 faultless_more d (x ∷ xs) ys first rest = (first.0, faultless_more (with_node d x) xs ys first.1 rest)
 
+-- two lists of nodes, one behind the other
+pub record AreBoth (d : Document) (xs ys : List (NodeId × NewNodeValue)) : Type 0 where
+  pub first : AreFaultless d xs
+  pub rest : AreFaultless (with_nodes d xs) ys
+
+pub faultless_parts : (d : Document) (xs ys : List (NodeId × NewNodeValue)) → AreFaultless d (xs ++ ys) → AreBoth d xs ys
+faultless_parts d [] ys all = record { first = tt; rest = all }
+faultless_parts d (x ∷ xs) ys all =
+    let parts = faultless_parts (with_node d x) xs ys all.1 in
+    record { first = (all.0, parts.first); rest = parts.rest }
+
+-- a node is put where one that is equal has no fault, in an equal document
+pub fits_as_well : (d e : Document) (parent : ℕ) (new other : NewNodeValue) → d ≡ e → new ≡ other → insert_fault e parent (last_index e parent) other ≡ None
+    → insert_fault d parent (last_index d parent) new ≡ None
+fits_as_well d e parent new other documents nodes none = rw (documents, nodes) none
+
+-- and the document with it is that with the other
+pub put_as : (after d e : Document) (parent : ℕ) (new other : NewNodeValue) → after ≡ with_node d (id parent, new) → d ≡ e → new ≡ other → after ≡ with_node e (id parent, other)
+put_as after d e parent new other is documents nodes = is ∙ (ap (λ x. with_node x (id parent, new)) documents ∙ ap (λ n. with_node e (id parent, n)) nodes)
+
 all_fit : (n s state : ℕ) (d : Document) → s + n ≤ 1000 → IsSections s d → AreFaultless d (sections n s state)
 all_fit zero s state d few is = tt
 all_fit (suc n) s state d few is =
