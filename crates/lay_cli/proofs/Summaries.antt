@@ -1,5 +1,5 @@
 -- The summary of a generated run comes of its numbers: the document of its last version does, and that has one layout.
-use Rattle.std.proofs.Common.{◌≡◌, ℕ, ◌+◌, ◌*◌, ◌≤◌, List, [], length, Option, Some, sym, ap, ◌∙◌, subst}
+use Rattle.std.proofs.Common.{◌≡◌, ℕ, ◌+◌, ◌*◌, ◌≤◌, List, [], length, sym, ap, ◌∙◌, subst}
 use Rattle.std.proofs.lemmas.List.Elements.{All-nil}
 use Rattle.lay_layout.specs.doc.Document.{Document, IsDocument}
 use Rattle.lay_layout.specs.frag.Pieces.{Context}
@@ -18,7 +18,7 @@ use Rattle.lay_generator.specs.Laws.{ComesTo, GeneratedNodesStay, GeneratedRunsC
 use Rattle.lay_generator.specs.Summary.{summary}
 use Rattle.lay_cli.specs.Answers.{IsDriven, IsSummaryOf}
 use Rattle.lay_cli.specs.Laws.{OneSummary, SummariesComeOfNumbers}
-use Rattle.lay_cli.specs.Summaries.{IsNumbersSummary, IsOnlySummary}
+use Rattle.lay_cli.specs.Summaries.{IsOnlySummary}
 
 -- equal trees beside equal numbers
 only_by : OneSolution → (d : Document) (f : FaceValue) (nodes count : ℕ) (text other : List ℕ) (tree its : List Context) → IsDocument d → Solves d f tree → Solves d f its

@@ -84,8 +84,8 @@ pub record IsSummaryOf (s : State) (text : List ℕ) : Type 0 where
   pub last : tree_at (accepted s.history) s.trees ≡ Some tree
   pub text_is : text ≡ summary (length s.document.nodes) (accepted s.history) tree
 
--- the text is the summary of a core that answered the editors of the generated run; where each of their lists of edits was accepted it comes
--- of the size and the seed alone
+-- the text is the summary of a core that answered the editors of the generated run; where each of their lists of edits was accepted it
+-- comes of the size and the seed alone
 pub record IsSummary (size seed : ℕ) (s : State) (text : List ℕ) : Type 0 where
   pub driven : IsDriven (generated size seed) s
   pub summary_of : IsSummaryOf s text

@@ -145,10 +145,10 @@ fn summarized<R: Threads + Wait + Sync, G: Gate + Sync>(
     requires workers { (0 < asked.workers) × (asked.workers ≤ 16) }
     ensures { IfOk result (λ r. IsSummary asked.size asked.seed r.0 r.1) }
 {
+    summaries_come_of_numbers();
     let run = generated_run(means.alloc, asked.size, asked.seed)?;
     let core = drive(means.rt, means.alloc, run, asked.workers, means.gate)?;
     let text = last_summary(means.alloc, &core)?;
-    summaries_come_of_numbers();
     Ok((core, text))
 }
 

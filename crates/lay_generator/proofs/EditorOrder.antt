@@ -1,6 +1,6 @@
 -- What the calls of editors do one after another, they do editor after editor too, where lists of edits of different editors come to the
 -- same whichever is first.
-use Rattle.std.proofs.Common.{◌≡◌, ℕ, zero, suc, ◌+◌, ◌-◌, ◌<◌, ◌==◌, Bool, true, false, List, [], ◌∷◌, ◌++◌, length, fold, flat_map, slice_index_or, if◌then◌else◌, refl, sym, ap, ◌∙◌, subst, arith, inl, inr, All}
+use Rattle.std.proofs.Common.{◌≡◌, ℕ, suc, ◌+◌, ◌-◌, ◌<◌, ◌==◌, List, [], ◌∷◌, fold, flat_map, slice_index_or, if◌then◌else◌, refl, sym, ap, ◌∙◌, subst, arith, inl, inr, All}
 use Rattle.std.proofs.lemmas.Bool.{cases_eq, cases_lt, eq-eqb, ne_eqb}
 use Rattle.std.proofs.lemmas.List.Elements.{All-cons, All-head, All-nil, All-tail}
 use Rattle.std.proofs.lemmas.List.Sums.{fold-append}
@@ -116,7 +116,7 @@ module _ {D : Type 0} (step : D → List Edit → D) (IsGood : ℕ → List Edit
     | inr other ↦ rw (other_left editor c cs other, other_taken editor c cs other) (
         own_in_front (called d c) editor cs (All-tail (IsGoodCall IsGood) c cs all)
         ∙ ap (λ z. fold called z (others editor cs))
-          (passed d c editor cs (All-head (IsGoodCall IsGood) c cs all) (All-tail (IsGoodCall IsGood) c cs all) other))
+        (passed d c editor cs (All-head (IsGoodCall IsGood) c cs all) (All-tail (IsGoodCall IsGood) c cs all) other))
   ]
 
   -- the lists of edits of a script
@@ -164,5 +164,5 @@ module _ {D : Type 0} (step : D → List Edit → D) (IsGood : ℕ → List Edit
   by_editors scripts cs d all none own =
       sym (one_after_another d cs)
       ∙ editor_by_editor scripts 1 cs d all
-        (λ editor less. let same : 0 ≡ editor = omega (arith, less) in subst (λ n. calls_of n cs ≡ []) same none)
-        (λ j. let same : suc j ≡ 1 + j = omega arith in subst (λ n. calls_of n cs ≡ script_calls n 0 (slice_index_or scripts j [])) same (own j))
+      (λ editor less. let same : 0 ≡ editor = omega (arith, less) in subst (λ n. calls_of n cs ≡ []) same none)
+      (λ j. let same : suc j ≡ 1 + j = omega arith in subst (λ n. calls_of n cs ≡ script_calls n 0 (slice_index_or scripts j [])) same (own j))

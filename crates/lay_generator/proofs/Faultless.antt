@@ -83,10 +83,10 @@ section_fits s state d few is =
     let fits-c : Fits d3 q q t = fits_as d3 (o + 1) q (t + 0) q q t (fits_more d2 o o t p 2 c fits-b put-c (omega arith)) (omega arith) (omega arith) (omega arith) in
     let root-c : IsParent d3.nodes 1 1 = parent_stays d2 p 2 1 1 c root-b put-c (λ same. omega arith) in
     let block-c : (j : ℕ) → j < s → IsParent d3.nodes (4 + 4 * j) 3 = λ j before.
-        parent_stays d2 p 2 (4 + 4 * j) 3 c
-        (parent_stays d1 p 2 (4 + 4 * j) 3 b
-        (parent_stays d 1 1 (4 + 4 * j) 3 a (is.blocks j before) put-a (λ same. omega (arith, before, same)))
-        put-b (λ same. omega (arith, before, same))) put-c (λ same. omega (arith, before, same)) in
+    parent_stays d2 p 2 (4 + 4 * j) 3 c
+    (parent_stays d1 p 2 (4 + 4 * j) 3 b
+    (parent_stays d 1 1 (4 + 4 * j) 3 a (is.blocks j before) put-a (λ same. omega (arith, before, same)))
+    put-b (λ same. omega (arith, before, same))) put-c (λ same. omega (arith, before, same)) in
     let own-c : IsParent d3.nodes q 3 = parent_more d2 o o t p 2 c fits-b put-c (omega arith) refl in
     let short = short_text s (state_after 4 state) in
     let none-e = no_fault d3 q q t q 3 e fits-c own-c (omega arith) (omega arith) (omega arith) (omega (arith, short)) (omega (arith, short)) in

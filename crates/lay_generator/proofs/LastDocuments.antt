@@ -51,8 +51,8 @@ padding_fits size editor d e blocks is = rw is.is (blocks is.section is.owned.wi
 paddings_exchanged : (size a b : ℕ) (d : Document) (x y : Change) → IsPadding size a x → IsPadding size b y → (a ≡ b → ⊥) → after (after d x) y ≡ after (after d y) x
 paddings_exchanged size a b d x y of_a of_b apart =
     rw (of_a.is, of_b.is) (styles_exchanged d (4 + 4 * of_a.section) (4 + 4 * of_b.section) of_a.decl of_b.decl (λ same. apart (
-      let one : of_a.section ≡ of_b.section = omega (arith, same) in
-      sym of_a.owned.own ∙ (ap (λ (s : ℕ). s % 4 + 1) one ∙ of_b.owned.own))))
+    let one : of_a.section ≡ of_b.section = omega (arith, same) in
+    sym of_a.owned.own ∙ (ap (λ (s : ℕ). s % 4 + 1) one ∙ of_b.owned.own))))
 
 -- a list of them
 list_same : (size editor : ℕ) (d : Document) (edits : List Change) → ArePaddings size editor edits → SameNodes d (after_all d edits)
@@ -177,7 +177,7 @@ module _ (size seed : ℕ) (h : List Entry) (few : size ≤ 1000) (legal : IsLeg
   no_fault k editor index edits reply at =
       ap (λ d. first d edits) (doc_whole ready (take k h))
       ∙ fits_behind size seed (lists (take k h)) edits few (accepted_lists size (take k h) (All-take (IsGoodEntry size) k h entries))
-        (all_at (IsGoodEntry size) h k (Edit editor index edits reply) entries at)
+      (all_at (IsGoodEntry size) h k (Edit editor index edits reply) entries at)
 
   not_refused : NoneRefused h
   not_refused k editor index place edits f at =

@@ -1,5 +1,5 @@
 -- Each list of edits of a generated run sets a padding on blocks of sections of one editor, which no other editor changes.
-use Rattle.std.proofs.Common.{◌≡◌, ℕ, zero, suc, ◌+◌, ◌-◌, ◌*◌, ◌/◌, ◌%◌, ◌==◌, ◌<◌, ◌≤◌, Bool, true, false, List, [], ◌∷◌, ◌++◌, drop, length, take, map, flat_map, slice_index_or, refl, ap, ◌∙◌, subst, arith, inl, inr, All}
+use Rattle.std.proofs.Common.{◌≡◌, ℕ, zero, suc, ◌+◌, ◌-◌, ◌*◌, ◌/◌, ◌%◌, ◌<◌, ◌≤◌, true, List, [], ◌∷◌, drop, length, flat_map, slice_index_or, refl, subst, arith, inl, inr, All}
 use Rattle.std.specs.List.{filter, range_with_len}
 use Rattle.std.proofs.lemmas.Bool.{cases_eq, ne_eqb}
 use Rattle.std.proofs.lemmas.List.Elements.{All-append, All-cons, All-drop, All-head, All-map, All-nil, All-tail, All-take}
@@ -8,7 +8,7 @@ use Rattle.lay_doc.specs.declared.edit.Edit.{Edit}
 use Rattle.lay_doc.specs.declared.edit.Edit.TheVariants.{SetStyle}
 use Rattle.lay_edits.specs.declared.command.Cmd.{Cmd}
 use Rattle.lay_edits.specs.declared.command.Cmd.TheVariants.{Edits, Sync}
-use Rattle.lay_history.specs.Calls.{Call, script_calls}
+use Rattle.lay_history.specs.Calls.{script_calls}
 use Rattle.lay_generator.specs.Draws.{next}
 use Rattle.lay_generator.specs.Nodes.{id}
 use Rattle.lay_generator.specs.Commands.{batch_at, batch_size, batches, is_of, paddings, script, script_end, scripts, sections_of, set_padding}

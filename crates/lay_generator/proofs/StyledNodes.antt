@@ -1,6 +1,6 @@
 -- A declaration that is set on a node leaves ids, kinds and the number of nodes as they are, and so the faults of such edits; and two of
 -- different nodes come to the same whichever is first.
-use Rattle.std.proofs.Common.{◌≡◌, ℕ, zero, suc, Bool, false, true, List, [], ◌∷◌, length, get_or, refl, sym, ap, ◌∙◌, arith, inl, inr, Option, Some, None}
+use Rattle.std.proofs.Common.{◌≡◌, ℕ, zero, suc, List, [], ◌∷◌, length, get_or, refl, sym, ap, ◌∙◌, inl, inr, Option, Some, None}
 use Rattle.std.proofs.lemmas.Bool.{cases_eq}
 use Rattle.lay_style.specs.Values.{Declaration}
 use Rattle.lay_style.specs.Places.{place_of}
@@ -99,5 +99,5 @@ pub styles_exchanged : (d : Document) (i j : ℕ) (x y : Declaration) → (i ≡
 styles_exchanged d i j x y other =
     twice_set d i j x y
     ∙ (both_set x y (place_of i (ids_of d.nodes)) (place_of j (ids_of d.nodes)) d
-      (λ p at_i at_j. other (sym (place_names i (ids_of d.nodes) p at_i) ∙ place_names j (ids_of d.nodes) p at_j))
+    (λ p at_i at_j. other (sym (place_names i (ids_of d.nodes) p at_i) ∙ place_names j (ids_of d.nodes) p at_j))
     ∙ sym (twice_set d j i y x))

@@ -25,7 +25,8 @@ AreFaultless d [] = Unit {0}
 AreFaultless d (n ∷ ns) = (insert_fault d n.0.0 (last_index d n.0.0) n.1 ≡ None) × AreFaultless (with_node d n) ns
 
 abbrev pub GeneratedNodesFit : Type 0
-GeneratedNodesFit = (size seed : ℕ) → size ≤ 1000 → (root_fault root ≡ None) × AreFaultless (root_document 800 600 root) (sections size 0 seed)
+GeneratedNodesFit = (size seed : ℕ) → size ≤ 1000
+    → (root_fault root ≡ None) × AreFaultless (root_document 800 600 root) (sections size 0 seed)
 
 -- the list of edits is one of the run's
 abbrev pub IsListOf : Run → List Change → Type 0
@@ -33,8 +34,8 @@ IsListOf run edits = (place : ℕ) × (slice_get (lists_of run.scripts) place �
 
 -- no list of edits has a fault, whichever of the run's lists came before, in whatever order and however often
 abbrev pub GeneratedEditsFit : Type 0
-GeneratedEditsFit = (size seed : ℕ) (before : List (List Change)) (edits : List Change) → size ≤ 1000 → All (IsListOf (generated size seed)) before
-    → IsListOf (generated size seed) edits → first (after_lists (generated size seed) before) edits ≡ None
+GeneratedEditsFit = (size seed : ℕ) (before : List (List Change)) (edits : List Change) → size ≤ 1000
+    → All (IsListOf (generated size seed)) before → IsListOf (generated size seed) edits → first (after_lists (generated size seed) before) edits ≡ None
 
 -- and after them there are four nodes for each section and the root, as at first
 abbrev pub GeneratedNodesStay : Type 0
@@ -47,7 +48,8 @@ NoneLacked history = (k editor index : ℕ) (edits : List Change) → slice_get 
 
 -- no list of edits was refused for a fault
 abbrev pub NoneRefused : List Entry → Type 0
-NoneRefused history = (k editor index place : ℕ) (edits : List Change) (f : EditFault) → slice_get history k ≡ Some (Edit editor index edits (Refused place f)) → ⊥
+NoneRefused history = (k editor index place : ℕ) (edits : List Change) (f : EditFault)
+    → slice_get history k ≡ Some (Edit editor index edits (Refused place f)) → ⊥
 
 -- What comes of a history that answers a run's editors. At most all lists of edits were accepted, and all were but for want of memory; then
 -- the document is the last one.
