@@ -1,5 +1,5 @@
 -- No node of a generated run has a fault where it is put: each section is put into a document of the sections before it, whose ids are lower.
-use Rattle.std.proofs.Common.{◌≡◌, ℕ, zero, suc, ◌+◌, ◌*◌, ◌%◌, ◌<◌, ◌≤◌, List, [], ◌∷◌, ◌++◌, length, refl, ap, ◌∙◌, subst, arith, codes, inl, inr}
+use Rattle.std.proofs.Common.{◌≡◌, ℕ, zero, suc, ◌+◌, ◌*◌, ◌%◌, ◌<◌, ◌≤◌, List, [], ◌∷◌, ◌++◌, length, refl, ap, ◌∙◌, subst, arith, codes, inl, inr, Some, None, Result, Err, ◌↔◌}
 use Rattle.std.specs.List.{repeat}
 use Rattle.std.proofs.lemmas.Bool.{cases_lt}
 use Rattle.std.proofs.lemmas.Nat.{mod_below}
@@ -8,6 +8,10 @@ use Rattle.std.proofs.lemmas.List.Elements.{All-weaker}
 use Rattle.lay_doc.specs.declared.node.NodeId.{NodeId}
 use Rattle.lay_doc.specs.NewNodes.{NewNodeValue}
 use Rattle.lay_doc.specs.Document.{Document, root_document}
+use Rattle.lay_doc.specs.Edits.{insert_fault, last_index, root_fault}
+use Rattle.lay_doc.specs.declared.doc.NewFault.{NewFault}
+use Rattle.lay_doc.specs.declared.doc.NewFault.TheVariants.{Bad}
+use Rattle.lay_doc.specs.declared.edit.EditFault.{EditFault}
 use Rattle.lay_generator.specs.Draws.{draw, next, state_after}
 use Rattle.lay_generator.specs.Nodes.{block, container, float_box, id, more_count, more_words, root, section_end, section_nodes, sections, text, word}
 use Rattle.lay_generator.specs.Generated.{generated, with_node, with_nodes}
@@ -119,6 +123,11 @@ faultless_parts d [] ys all = record { first = tt; rest = all }
 faultless_parts d (x ∷ xs) ys all =
     let parts = faultless_parts (with_node d x) xs ys all.1 in
     record { first = (all.0, parts.first); rest = parts.rest }
+
+-- the root has no fault
+pub no_bad_root : (r : Result Document NewFault) (n : NewNodeValue) (f : EditFault) → n ≡ root → ((g : EditFault) → (r ≡ Err (Bad g)) ↔ (root_fault n ≡ Some g))
+    → r ≡ Err (Bad f) → ⊥
+no_bad_root r n f same bad is = let some : None ≡ Some f = subst (λ m. root_fault m ≡ Some f) same ((bad f).0 is) in absurd cc
 
 -- a node is put where one that is equal has no fault, in an equal document
 pub fits_as_well : (d e : Document) (parent : ℕ) (new other : NewNodeValue) → d ≡ e → new ≡ other → insert_fault e parent (last_index e parent) other ≡ None

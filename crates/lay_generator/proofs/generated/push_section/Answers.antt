@@ -12,24 +12,32 @@ use Rattle.lay_generator.proofs.generated.push_section.Goals as goal
 pub put-requires : goal.put-requires
 put-requires c = fits_as_well _ _ _ _ _ refl c.in_ok-context.ensures.node c.requires.fit.0
 
-pub put-2-requires : goal.put-2-requires
-put-2-requires c =
+pub put-requires-2 : goal.put-requires-2
+put-requires-2 c =
     fits_as_well _ _ _ _ _ (put_as _ _ _ _ _ _ c.in_ok-put.ensures.doc refl c.in_ok-context.ensures.node)
     (c.in_ok-float.ensures.node ∙ ap (float_box c.args.section) c.in_ok-context.ensures.state) c.requires.fit.1.0
 
-pub put-3-requires : goal.put-3-requires
-put-3-requires c =
+pub put-requires-3 : goal.put-requires-3
+put-requires-3 c =
     let one = put_as _ _ _ _ _ _ c.in_ok-put.ensures.doc refl c.in_ok-context.ensures.node in
     let two = put_as _ _ _ _ _ _ c.in_ok-put-2.ensures.doc one (c.in_ok-float.ensures.node ∙ ap (float_box c.args.section) c.in_ok-context.ensures.state) in
     fits_as_well _ _ _ _ _ two c.in_ok-block.ensures c.requires.fit.1.1.0
 
-pub put-4-requires : goal.put-4-requires
-put-4-requires c =
+pub put-requires-4 : goal.put-requires-4
+put-requires-4 c =
     let four : c.float_box.new.draws ≡ state_after 4 c.args.draws.now = c.in_ok-float.ensures.state ∙ ap (state_after 3) c.in_ok-context.ensures.state in
     let one = put_as _ _ _ _ _ _ c.in_ok-put.ensures.doc refl c.in_ok-context.ensures.node in
     let two = put_as _ _ _ _ _ _ c.in_ok-put-2.ensures.doc one (c.in_ok-float.ensures.node ∙ ap (float_box c.args.section) c.in_ok-context.ensures.state) in
     let three = put_as _ _ _ _ _ _ c.in_ok-put-3.ensures.doc two c.in_ok-block.ensures in
     fits_as_well _ _ _ _ _ three (c.in_ok-text.ensures.node ∙ ap (text c.args.section) four) c.requires.fit.1.1.1.0
+
+pub returns-clause-doc : goal.returns-clause-doc
+returns-clause-doc c =
+    let four : c.float_box.new.draws ≡ state_after 4 c.args.draws.now = c.in_ok-float.ensures.state ∙ ap (state_after 3) c.in_ok-context.ensures.state in
+    let one = put_as _ _ _ _ _ _ c.in_ok-put.ensures.doc refl c.in_ok-context.ensures.node in
+    let two = put_as _ _ _ _ _ _ c.in_ok-put-2.ensures.doc one (c.in_ok-float.ensures.node ∙ ap (float_box c.args.section) c.in_ok-context.ensures.state) in
+    let three = put_as _ _ _ _ _ _ c.in_ok-put-3.ensures.doc two c.in_ok-block.ensures in
+    IfOk-weaker c.put-4.result _ _ (λ x last. put_as _ _ _ _ _ _ last three (c.in_ok-text.ensures.node ∙ ap (text c.args.section) four)) c.put-4.ensures.doc
 
 pub returns-clause-ids : goal.returns-clause-ids
 returns-clause-ids c =
