@@ -1,5 +1,5 @@
 -- No node of a generated run has a fault where it is put: each section is put into a document of the sections before it, whose ids are lower.
-use Rattle.std.proofs.Common.{◌≡◌, ℕ, zero, suc, ◌+◌, ◌*◌, ◌%◌, ◌<◌, ◌≤◌, List, [], ◌∷◌, ◌++◌, length, refl, ap, ◌∙◌, subst, arith, codes, inl, inr}
+use Rattle.std.proofs.Common.{◌≡◌, ℕ, zero, suc, ◌+◌, ◌*◌, ◌%◌, ◌<◌, ◌≤◌, List, [], ◌∷◌, ◌++◌, length, refl, ap, ◌∙◌, subst, arith, codes, inl, inr, Some, None, Result, Err, ◌↔◌}
 use Rattle.std.specs.List.{repeat}
 use Rattle.std.proofs.lemmas.Bool.{cases_lt}
 use Rattle.std.proofs.lemmas.Nat.{mod_below}
@@ -8,6 +8,10 @@ use Rattle.std.proofs.lemmas.List.Elements.{All-weaker}
 use Rattle.lay_doc.specs.declared.node.NodeId.{NodeId}
 use Rattle.lay_doc.specs.NewNodes.{NewNodeValue}
 use Rattle.lay_doc.specs.Document.{Document, root_document}
+use Rattle.lay_doc.specs.Edits.{insert_fault, last_index, root_fault}
+use Rattle.lay_doc.specs.declared.doc.NewFault.{NewFault}
+use Rattle.lay_doc.specs.declared.doc.NewFault.TheVariants.{Bad}
+use Rattle.lay_doc.specs.declared.edit.EditFault.{EditFault}
 use Rattle.lay_generator.specs.Draws.{draw, next, state_after}
 use Rattle.lay_generator.specs.Nodes.{block, container, float_box, id, more_count, more_words, root, section_end, section_nodes, sections, text, word}
 use Rattle.lay_generator.specs.Generated.{generated, with_node, with_nodes}
@@ -108,6 +112,31 @@ section_fits s state d few is =
 faultless_more : (d : Document) (xs ys : List (NodeId × NewNodeValue)) → AreFaultless d xs → AreFaultless (with_nodes d xs) ys → AreFaultless d (xs ++ ys)
 faultless_more d [] ys first rest = rest
 faultless_more d (x ∷ xs) ys first rest = (first.0, faultless_more (with_node d x) xs ys first.1 rest)
+
+-- two lists of nodes, one behind the other
+pub record AreBoth (d : Document) (xs ys : List (NodeId × NewNodeValue)) : Type 0 where
+  pub first : AreFaultless d xs
+  pub rest : AreFaultless (with_nodes d xs) ys
+
+pub faultless_parts : (d : Document) (xs ys : List (NodeId × NewNodeValue)) → AreFaultless d (xs ++ ys) → AreBoth d xs ys
+faultless_parts d [] ys all = record { first = tt; rest = all }
+faultless_parts d (x ∷ xs) ys all =
+    let parts = faultless_parts (with_node d x) xs ys all.1 in
+    record { first = (all.0, parts.first); rest = parts.rest }
+
+-- the root has no fault
+pub no_bad_root : (r : Result Document NewFault) (n : NewNodeValue) (f : EditFault) → n ≡ root → ((g : EditFault) → (r ≡ Err (Bad g)) ↔ (root_fault n ≡ Some g))
+    → r ≡ Err (Bad f) → ⊥
+no_bad_root r n f same bad is = let some : None ≡ Some f = subst (λ m. root_fault m ≡ Some f) same ((bad f).0 is) in absurd cc
+
+-- a node is put where one that is equal has no fault, in an equal document
+pub fits_as_well : (d e : Document) (parent : ℕ) (new other : NewNodeValue) → d ≡ e → new ≡ other → insert_fault e parent (last_index e parent) other ≡ None
+    → insert_fault d parent (last_index d parent) new ≡ None
+fits_as_well d e parent new other documents nodes none = rw (documents, nodes) none
+
+-- and the document with it is that with the other
+pub put_as : (after d e : Document) (parent : ℕ) (new other : NewNodeValue) → after ≡ with_node d (id parent, new) → d ≡ e → new ≡ other → after ≡ with_node e (id parent, other)
+put_as after d e parent new other is documents nodes = is ∙ (ap (λ x. with_node x (id parent, new)) documents ∙ ap (λ n. with_node e (id parent, n)) nodes)
 
 all_fit : (n s state : ℕ) (d : Document) → s + n ≤ 1000 → IsSections s d → AreFaultless d (sections n s state)
 all_fit zero s state d few is = tt
