@@ -1,7 +1,7 @@
 -- A command of an editor: an object whose `do` says what the command does. An edit alone is a list of one edit; a batch holds its
 -- list in the field `edits`: objects each of which is an edit by itself. The fields of each are judged at the place of their command,
 -- those of the first edit first.
-use Rattle.std.specs.Prelude.{ℕ, List, [], ◌∷◌, ◌++◌, Option, Some, option_map, ok_or, Result, Ok, Err, codes, if◌then◌else◌}
+use Rattle.std.specs.Prelude.{ℕ, List, [], ◌∷◌, Option, Some, option_map, ok_or, Result, Ok, Err, codes, if◌then◌else◌}
 use Rattle.std.specs.Str.{bytes_eq}
 use Rattle.serde_json.specs.Data.{Data, Items, no_items, item}
 use Rattle.lay_doc.specs.declared.edit.Edit.{Edit}
