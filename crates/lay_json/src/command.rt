@@ -74,7 +74,6 @@ fn add_edit(alloc: Global, edits: &mut Edits, value: &Value, place: Spot) -> Res
 }
 
 /// Reads the edits of a batch and adds them.
-#[tactic(auto, using(crate::proofs::EditLists::one_more, crate::proofs::EditLists::none_more))]
 fn add_edits(
     alloc: Global,
     edits: &mut Edits,
