@@ -1,5 +1,5 @@
 -- No node of a generated run has a fault where it is put: each section is put into a document of the sections before it, whose ids are lower.
-use Rattle.std.proofs.Common.{◌≡◌, ℕ, zero, suc, ◌+◌, ◌*◌, ◌%◌, ◌<◌, ◌≤◌, List, [], ◌∷◌, ◌++◌, length, refl, ap, ◌∙◌, subst, arith, codes, inl, inr}
+use Rattle.std.proofs.Common.{◌≡◌, ℕ, zero, suc, ◌+◌, ◌*◌, ◌%◌, ◌<◌, ◌≤◌, List, [], ◌∷◌, ◌++◌, length, refl, ap, ◌∙◌, subst, arith, codes, inl, inr, Some, None, Result, Err, ◌↔◌}
 use Rattle.std.specs.List.{repeat}
 use Rattle.std.proofs.lemmas.Bool.{cases_lt}
 use Rattle.std.proofs.lemmas.Nat.{mod_below}
@@ -8,6 +8,10 @@ use Rattle.std.proofs.lemmas.List.Elements.{All-weaker}
 use Rattle.lay_doc.specs.declared.node.NodeId.{NodeId}
 use Rattle.lay_doc.specs.NewNodes.{NewNodeValue}
 use Rattle.lay_doc.specs.Document.{Document, root_document}
+use Rattle.lay_doc.specs.Edits.{insert_fault, last_index, root_fault}
+use Rattle.lay_doc.specs.declared.doc.NewFault.{NewFault}
+use Rattle.lay_doc.specs.declared.doc.NewFault.TheVariants.{Bad}
+use Rattle.lay_doc.specs.declared.edit.EditFault.{EditFault}
 use Rattle.lay_generator.specs.Draws.{draw, next, state_after}
 use Rattle.lay_generator.specs.Nodes.{block, container, float_box, id, more_count, more_words, root, section_end, section_nodes, sections, text, word}
 use Rattle.lay_generator.specs.Generated.{generated, with_node, with_nodes}
@@ -108,6 +112,74 @@ section_fits s state d few is =
 faultless_more : (d : Document) (xs ys : List (NodeId × NewNodeValue)) → AreFaultless d xs → AreFaultless (with_nodes d xs) ys → AreFaultless d (xs ++ ys)
 faultless_more d [] ys first rest = rest
 faultless_more d (x ∷ xs) ys first rest = (first.0, faultless_more (with_node d x) xs ys first.1 rest)
+
+-- two lists of nodes, one behind the other
+pub record AreBoth (d : Document) (xs ys : List (NodeId × NewNodeValue)) : Type 0 where
+  pub first : AreFaultless d xs
+  pub rest : AreFaultless (with_nodes d xs) ys
+
+pub faultless_parts : (d : Document) (xs ys : List (NodeId × NewNodeValue)) → AreFaultless d (xs ++ ys) → AreBoth d xs ys
+faultless_parts d [] ys all = record { first = tt; rest = all }
+faultless_parts d (x ∷ xs) ys all =
+    let parts = faultless_parts (with_node d x) xs ys all.1 in
+    record { first = (all.0, parts.first); rest = parts.rest }
+
+-- the root has no fault
+pub no_bad_root : (r : Result Document NewFault) (n : NewNodeValue) (f : EditFault) → n ≡ root → ((g : EditFault) → (r ≡ Err (Bad g)) ↔ (root_fault n ≡ Some g))
+    → r ≡ Err (Bad f) → ⊥
+no_bad_root r n f same bad is = let some : None ≡ Some f = subst (λ m. root_fault m ≡ Some f) same ((bad f).0 is) in absurd cc
+
+-- a node is put where one that is equal has no fault, in an equal document
+pub fits_as_well : (d e : Document) (parent : ℕ) (new other : NewNodeValue) → d ≡ e → new ≡ other → insert_fault e parent (last_index e parent) other ≡ None
+    → insert_fault d parent (last_index d parent) new ≡ None
+fits_as_well d e parent new other documents nodes none = rw (documents, nodes) none
+
+-- and the document with it is that with the other
+put_as : (after d e : Document) (parent : ℕ) (new other : NewNodeValue) → after ≡ with_node d (id parent, new) → d ≡ e → new ≡ other → after ≡ with_node e (id parent, other)
+put_as after d e parent new other is documents nodes = is ∙ (ap (λ x. with_node x (id parent, new)) documents ∙ ap (λ n. with_node e (id parent, n)) nodes)
+
+-- a document with the first nodes of a section, and the next node in it
+one_put : (s state : ℕ) (d d1 : Document) (a : NewNodeValue) → a ≡ container s state → d1 ≡ with_node d (id 1, a) → d1 ≡ with_node d (id 1, container s state)
+one_put s state d d1 a is-a put = put_as d1 d d 1 a (container s state) put refl is-a
+
+pub second_fits : (s state : ℕ) (d d1 : Document) (a b : NewNodeValue) → AreFaultless d (section_nodes s state) → a ≡ container s state → b ≡ float_box s (state_after 1 state)
+    → d1 ≡ with_node d (id 1, a) → insert_fault d1 (2 + 4 * s) (last_index d1 (2 + 4 * s)) b ≡ None
+second_fits s state d d1 a b fit is-a is-b put =
+    fits_as_well d1 (with_node d (id 1, container s state)) (2 + 4 * s) b (float_box s (state_after 1 state)) (one_put s state d d1 a is-a put) is-b fit.1.0
+
+two_put : (s state : ℕ) (d d1 d2 : Document) (a b : NewNodeValue) → a ≡ container s state → b ≡ float_box s (state_after 1 state)
+    → d1 ≡ with_node d (id 1, a) → d2 ≡ with_node d1 (id (2 + 4 * s), b)
+    → d2 ≡ with_node (with_node d (id 1, container s state)) (id (2 + 4 * s), float_box s (state_after 1 state))
+two_put s state d d1 d2 a b is-a is-b put-1 put-2 =
+    put_as d2 d1 (with_node d (id 1, container s state)) (2 + 4 * s) b (float_box s (state_after 1 state)) put-2 (one_put s state d d1 a is-a put-1) is-b
+
+pub third_fits : (s state : ℕ) (d d1 d2 : Document) (a b n : NewNodeValue) → AreFaultless d (section_nodes s state) → a ≡ container s state → b ≡ float_box s (state_after 1 state) → n ≡ block s
+    → d1 ≡ with_node d (id 1, a) → d2 ≡ with_node d1 (id (2 + 4 * s), b) → insert_fault d2 (2 + 4 * s) (last_index d2 (2 + 4 * s)) n ≡ None
+third_fits s state d d1 d2 a b n fit is-a is-b is-n put-1 put-2 =
+    fits_as_well d2 (with_node (with_node d (id 1, container s state)) (id (2 + 4 * s), float_box s (state_after 1 state))) (2 + 4 * s) n (block s)
+    (two_put s state d d1 d2 a b is-a is-b put-1 put-2) is-n fit.1.1.0
+
+three_put : (s state : ℕ) (d d1 d2 d3 : Document) (a b n : NewNodeValue) → a ≡ container s state → b ≡ float_box s (state_after 1 state) → n ≡ block s
+    → d1 ≡ with_node d (id 1, a) → d2 ≡ with_node d1 (id (2 + 4 * s), b) → d3 ≡ with_node d2 (id (2 + 4 * s), n)
+    → d3 ≡ with_node (with_node (with_node d (id 1, container s state)) (id (2 + 4 * s), float_box s (state_after 1 state))) (id (2 + 4 * s), block s)
+three_put s state d d1 d2 d3 a b n is-a is-b is-n put-1 put-2 put-3 =
+    put_as d3 d2 (with_node (with_node d (id 1, container s state)) (id (2 + 4 * s), float_box s (state_after 1 state))) (2 + 4 * s) n (block s)
+    put-3 (two_put s state d d1 d2 a b is-a is-b put-1 put-2) is-n
+
+pub fourth_fits : (s state : ℕ) (d d1 d2 d3 : Document) (a b n e : NewNodeValue) → AreFaultless d (section_nodes s state)
+    → a ≡ container s state → b ≡ float_box s (state_after 1 state) → n ≡ block s → e ≡ text s (state_after 4 state)
+    → d1 ≡ with_node d (id 1, a) → d2 ≡ with_node d1 (id (2 + 4 * s), b) → d3 ≡ with_node d2 (id (2 + 4 * s), n) → insert_fault d3 (4 + 4 * s) (last_index d3 (4 + 4 * s)) e ≡ None
+fourth_fits s state d d1 d2 d3 a b n e fit is-a is-b is-n is-e put-1 put-2 put-3 =
+    fits_as_well d3 (with_node (with_node (with_node d (id 1, container s state)) (id (2 + 4 * s), float_box s (state_after 1 state))) (id (2 + 4 * s), block s)) (4 + 4 * s)
+    e (text s (state_after 4 state)) (three_put s state d d1 d2 d3 a b n is-a is-b is-n put-1 put-2 put-3) is-e fit.1.1.1.0
+
+-- the document with all of them
+pub section_put : (s state : ℕ) (d d1 d2 d3 d4 : Document) (a b n e : NewNodeValue) → a ≡ container s state → b ≡ float_box s (state_after 1 state) → n ≡ block s → e ≡ text s (state_after 4 state)
+    → d1 ≡ with_node d (id 1, a) → d2 ≡ with_node d1 (id (2 + 4 * s), b) → d3 ≡ with_node d2 (id (2 + 4 * s), n) → d4 ≡ with_node d3 (id (4 + 4 * s), e)
+    → d4 ≡ with_nodes d (section_nodes s state)
+section_put s state d d1 d2 d3 d4 a b n e is-a is-b is-n is-e put-1 put-2 put-3 put-4 =
+    put_as d4 d3 (with_node (with_node (with_node d (id 1, container s state)) (id (2 + 4 * s), float_box s (state_after 1 state))) (id (2 + 4 * s), block s)) (4 + 4 * s)
+    e (text s (state_after 4 state)) put-4 (three_put s state d d1 d2 d3 a b n is-a is-b is-n put-1 put-2 put-3) is-e
 
 all_fit : (n s state : ℕ) (d : Document) → s + n ≤ 1000 → IsSections s d → AreFaultless d (sections n s state)
 all_fit zero s state d few is = tt

@@ -1,5 +1,5 @@
 -- One step of each of the generator's walks.
-use Rattle.std.proofs.Common.{◌≡◌, ℕ, zero, suc, ◌+◌, ◌-◌, ◌*◌, ◌<◌, ◌≤◌, Bool, true, false, List, [], ◌∷◌, ◌++◌, length, drop, slice_get, get_or, is_some, refl, sym, ap, ◌∙◌, arith, Option, Some, None, append_assoc}
+use Rattle.std.proofs.Common.{◌≡◌, ℕ, zero, suc, ◌+◌, ◌-◌, ◌*◌, ◌<◌, ◌≤◌, Bool, true, false, List, [], ◌∷◌, ◌++◌, length, drop, slice_get, get_or, refl, sym, ap, ◌∙◌, arith, Option, Some, None, append_assoc}
 use Rattle.std.specs.List.{filter, range_with_len}
 use Rattle.std.proofs.lemmas.Grind.{common_steps}
 use Rattle.std.proofs.lemmas.Option.{slice_get-get_or}
@@ -84,16 +84,12 @@ filter_step p a rest = by_bool (p a) (λ e. rw e refl) (λ e. rw e refl)
 pub at_place : {A : Type 0} (xs : List A) (k : ℕ) (x : A) → k < length xs → x ≡ get_or xs k x → slice_get xs k ≡ Some x
 at_place xs k x below is = slice_get-get_or xs k x below ∙ ap Some (sym is)
 
-none_of : {A : Type 0} (o : Option A) → is_some o ≡ false → o ≡ None
-none_of None e = refl
-none_of (Some x) e = absurd cc
-
 -- where a node has no fault, its document lists it behind the others
-pub listed_put : (d : Document) (parent : NodeId) (node : NewNodeValue) (listed : List NodeId) → is_some (insert_fault d parent.0 (last_index d parent.0) node) ≡ false → IsListed d listed
+pub listed_put : (d : Document) (parent : NodeId) (node : NewNodeValue) (listed : List NodeId) → insert_fault d parent.0 (last_index d parent.0) node ≡ None → IsListed d listed
     → IsListed (with_node d (parent, node)) (listed ++ node.id ∷ [])
 listed_put d parent node listed none is =
     put_listed d (with_node d (parent, node)) (parent, node) listed is
-    (ap (λ (f : Option EditFault). without_fault (length d.nodes) f (with_node d (parent, node))) (none_of (insert_fault d parent.0 (last_index d parent.0) node) none))
+    (ap (λ (f : Option EditFault). without_fault (length d.nodes) f (with_node d (parent, node))) none)
 
 rest_step : (editor k n : ℕ) → 0 < n → filter (is_of editor) (range_with_len k n) ≡ filter (is_of editor) (k ∷ []) ++ filter (is_of editor) (range_with_len (k + 1) (n - 1))
 rest_step editor k n some = ap (filter (is_of editor)) (range_step k n some) ∙ filter_step (is_of editor) k (range_with_len (k + 1) (n - 1))

@@ -1,30 +1,33 @@
 //! Generated runs.
 
-ghost use Rattle.std.specs.Prelude.{◌≡◌, ◌<◌, ◌≤◌, ◌^◌, ◌++◌, ◌∷◌, [], IfOk, OnOk};
+ghost use Rattle.std.specs.Prelude.{◌≡◌, ◌<◌, ◌≤◌, ◌^◌, ◌++◌, ◌∷◌, [], None, IfOk, OnOk};
 ghost use Rattle.lay_run.specs.Runs.{IsListed};
 ghost use Rattle.lay_json.specs.FaceFields.{default_face};
 ghost use Rattle.lay_generator.specs.Draws.{state_after};
 ghost use Rattle.lay_generator.specs.Nodes.{id, root, section_end, section_nodes, sections, sections_end};
 ghost use Rattle.lay_generator.specs.Generated.{generated, ids, with_node, with_nodes};
+ghost use Rattle.lay_generator.specs.Laws.{AreFaultless};
 ghost use Rattle.lay_doc.specs.Document.{root_document};
+ghost use Rattle.lay_doc.specs.Edits.{insert_fault, last_index};
 
 use crate::commands::scripts;
 use crate::draws::Draws;
+use crate::laws::generated_nodes_fit;
 use crate::nodes::{block, container, float_box, root, text};
-use lay_doc::{Doc, NewNode, NodeId};
+use lay_doc::{Doc, NewFault, NewNode, NodeId};
 use lay_face::{Face, FaceMetrics, PairList};
 use lay_run::{NodeList, RunDoc};
 use lay_units::NoMemory;
 use std::alloc::Global;
 use std::sync::Arc;
 
-/// The run of a size, 1 to 1,000, and a seed below 2^31. NoMemory would also be the answer where a node has a fault in the document; none
-/// has one (`generated_nodes_fit`).
+/// The run of a size, 1 to 1,000, and a seed below 2^31.
 pub fn generated_run(alloc: Global, size: u32, seed: u32) -> Result<RunDoc, NoMemory>
     requires size { size ≤ 1000 }
     requires seed { seed < 2 ^ 31 }
     ensures { IfOk result (λ run. run ≡ generated size seed) }
 {
+    generated_nodes_fit();
     let mut draws = Draws::new(seed);
     let mut doc = root_document(alloc)?;
     let mut listed = NodeList::new(alloc);
@@ -43,7 +46,8 @@ fn root_document(alloc: Global) -> Result<Doc, NoMemory>
 {
     match Doc::new(alloc, 800, 600, root(alloc)?) {
         Ok(doc) => Ok(doc),
-        Err(_) => Err(NoMemory),
+        Err(NewFault::NoMemory) => Err(NoMemory),
+        Err(NewFault::Bad(_)) => unreachable!(),
     }
 }
 
@@ -55,7 +59,8 @@ fn push_section(
     doc: &mut Doc,
     listed: &mut NodeList,
 ) -> Result<(), NoMemory>
-    requires { section < 1000 }
+    requires section { section < 1000 }
+    requires fit { AreFaultless doc.old (section_nodes section draws.old) }
     ensures doc { OnOk result (doc.new ≡ with_nodes doc.old (section_nodes section draws.old)) }
     ensures ids { OnOk result (listed.new ≡ listed.old ++ ids (section_nodes section draws.old)) }
     ensures listed { OnOk result (IsListed doc.old listed.old → IsListed doc.new listed.new) }
@@ -72,16 +77,13 @@ fn push_section(
 
 /// Puts a node into the document as the last child of its parent, and its id behind those that are listed.
 fn put(doc: &mut Doc, listed: &mut NodeList, parent: u32, node: NewNode) -> Result<(), NoMemory>
+    requires { insert_fault doc.old parent (last_index doc.old parent) node ≡ None }
     ensures doc { OnOk result (doc.new ≡ with_node doc.old (id parent, node)) }
     ensures ids { OnOk result (listed.new ≡ listed.old ++ node.id ∷ []) }
     ensures listed { OnOk result (IsListed doc.old listed.old → IsListed doc.new listed.new) }
 {
-    let parent = NodeId(parent);
-    if doc.check_last(parent, &node).is_some() {
-        return Err(NoMemory);
-    }
     let id = node.id();
-    doc.push_last(parent, node)?;
+    doc.push_last(NodeId(parent), node)?;
     listed.push(id)
 }
 

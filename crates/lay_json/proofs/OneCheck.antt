@@ -1,5 +1,5 @@
 -- Bytes say one check.
-use Rattle.std.proofs.Common.{◌≡◌, ℕ, List, length, ◌<◌, ◌≤◌, refl, sym, ap, ◌∙◌, arith, Some, Result, Ok, Err, codes}
+use Rattle.std.proofs.Common.{◌≡◌, ℕ, List, length, ◌≤◌, sym, ap, ◌∙◌, arith, Some, Result, Ok, Err, codes}
 use Rattle.std.specs.Prelude.{ok_or}
 use Rattle.serde_json.specs.Data.{Data, null, boolean, number, string, array, object}
 use Rattle.serde_json.specs.Find.{get}
@@ -14,7 +14,7 @@ use Rattle.lay_json.specs.declared.sheet_in.SheetIn.{SheetIn}
 use Rattle.lay_json.specs.Fields.{then_read, map_read, text_of}
 use Rattle.lay_json.specs.SheetNames.{input_of}
 use Rattle.lay_json.specs.CheckDocuments.{check_of, report_in, run_in}
-use Rattle.lay_json.specs.Reading.{HoldsBoth, IsCheck, IsInput, IsReading, too_long, bad_json, json, no_run, with_run, check_too_long, check_bad_json, check_json}
+use Rattle.lay_json.specs.Reading.{HoldsBoth, IsInput, IsReading, too_long, bad_json, json, no_run, with_run, check_too_long, check_bad_json, check_json}
 use Rattle.lay_json.specs.Laws.{OneCheck, RunsReadBesideReports}
 use Rattle.lay_json.proofs.OneInput.{input_read, one_in}
 use Rattle.lay_json.proofs.OneReading.{no_json, one-some}

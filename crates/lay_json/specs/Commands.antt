@@ -1,7 +1,7 @@
 -- A command of an editor: an object whose `do` says what the command does. An edit alone is a list of one edit; a batch holds its
 -- list in the field `edits`: objects each of which is an edit by itself. The fields of each are judged at the place of their command,
 -- those of the first edit first.
-use Rattle.std.specs.Prelude.{ℕ, List, [], ◌∷◌, ◌++◌, Option, Some, option_map, ok_or, Result, Ok, Err, codes, if◌then◌else◌}
+use Rattle.std.specs.Prelude.{ℕ, List, [], ◌∷◌, Option, Some, option_map, ok_or, Result, Ok, Err, codes, if◌then◌else◌}
 use Rattle.std.specs.Str.{bytes_eq}
 use Rattle.serde_json.specs.Data.{Data, Items, no_items, item}
 use Rattle.lay_doc.specs.declared.edit.Edit.{Edit}
@@ -28,34 +28,27 @@ action_named text =
 abbrev pub action_of : Spot → Data → Result Action InputFault
 action_of place d = then_read (required_text Do place d) (λ text. ok_or (action_named text) (WrongKind Do place))
 
--- the first of a batch's edits and those after it; an empty list counts as absent
-abbrev pub first_edit : Spot → Items → Result (Data × Items) InputFault
-first_edit place no_items = Err (Missing Edits place)
-first_edit place (item first rest) = Ok (first, rest)
+-- the edits that values are, in order, or the fault of the first that is none
+abbrev pub listed_edits : Spot → Items → Result (List Edit) InputFault
+listed_edits place no_items = Ok []
+listed_edits place (item d ds) = then_read (edit_of place d) (λ e. map_read (λ es. e ∷ es) (listed_edits place ds))
 
--- these edits with the one that a value is
-abbrev pub with_edit : Spot → List Edit → Data → Result (List Edit) InputFault
-with_edit place before d = map_read (λ e. before ++ e ∷ []) (edit_of place d)
+-- a list in which something stands; an empty one counts as absent
+abbrev pub not_empty : Spot → Items → Result Items InputFault
+not_empty place no_items = Err (Missing Edits place)
+not_empty place (item d ds) = Ok (item d ds)
 
--- these edits and those of the items
-abbrev pub edits_from : Spot → List Edit → Items → Result (List Edit) InputFault
-edits_from place before no_items = Ok before
-edits_from place before (item d ds) = then_read (with_edit place before d) (λ longer. edits_from place longer ds)
-
--- the edits of a list, whose first is read before the others
-abbrev pub edits_in : Spot → Data × Items → Result (List Edit) InputFault
-edits_in place items = then_read (edit_of place items.0) (λ e. edits_from place (e ∷ []) items.1)
-
--- the edits of a list that isn't too long
-abbrev pub edits_within : ℕ → ℕ → Items → Data × Items → Result (List Edit) InputFault
-edits_within editor index all items = if has_at_most 1024 all then edits_in (in_command editor index) items else Err (BatchTooLong editor index)
+-- a list that isn't too long
+abbrev pub few_edits : ℕ → ℕ → Items → Result Items InputFault
+few_edits editor index all = if has_at_most 1024 all then Ok all else Err (BatchTooLong editor index)
 
 -- the list of a batch: it must be there and be a list (I3, I4), then have at most 1,024 edits (I10), and then each edit its form
 abbrev pub batch_of : ℕ → ℕ → Data → Result (List Edit) InputFault
 batch_of editor index d =
     then_read (required Edits (in_command editor index) d) (λ value.
-    then_read (list_of Edits (in_command editor index) value) (λ all.
-    then_read (first_edit (in_command editor index) all) (edits_within editor index all)))
+    then_read (list_of Edits (in_command editor index) value) (λ list.
+    then_read (not_empty (in_command editor index) list) (λ some.
+    then_read (few_edits editor index some) (listed_edits (in_command editor index)))))
 
 -- the command that does this
 abbrev pub command_for : ℕ → ℕ → Data → Action → Result Cmd InputFault

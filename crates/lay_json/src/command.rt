@@ -1,9 +1,11 @@
 //! One command of an editor.
 
-ghost use Rattle.std.specs.Prelude.{◌≡◌, ◌≤◌, ◌<◌, ◌+◌, length, IfOk, OnOk};
+ghost use Rattle.std.specs.Prelude.{◌≡◌, ◌≤◌, ◌<◌, ◌+◌, ◌++◌, ◌∷◌, [], length, IfOk, OnOk};
+ghost use Rattle.serde_json.specs.Data.{item};
 ghost use Rattle.serde_json.specs.View.{view, items_view};
+ghost use Rattle.lay_json.specs.EditCommands.{edit_of};
 ghost use Rattle.lay_json.specs.Fields.{Changes, Gives, map_read};
-ghost use Rattle.lay_json.specs.Commands.{action_named, action_of, batch_of, command_for, command_of, edits_from, first_edit, with_edit};
+ghost use Rattle.lay_json.specs.Commands.{action_named, action_of, batch_of, command_for, command_of, listed_edits, not_empty};
 
 use crate::edit::{Change, change_named, edit_for, edit_of};
 use crate::fault::{Field, InputFault, Spot};
@@ -47,7 +49,8 @@ fn action_of(object: &Value, place: Spot) -> Result<Action, InputFault>
 
 /// The first of a batch's edits, and those after it.
 fn first_edit(values: &[Value], place: Spot) -> Result<(&Value, &[Value]), InputFault>
-    ensures value { map_read (λ p. (view p.0.now, items_view p.1.now)) result ≡ first_edit place (items_view values.now) }
+    ensures value { map_read (λ p. item (view p.0.now) (items_view p.1.now)) result ≡ not_empty place (items_view values.now) }
+    ensures items { IfOk result (λ p. items_view values.now ≡ item (view p.0.now) (items_view p.1.now)) }
     ensures count { IfOk result (λ p. length p.1.now + 1 ≡ length values.now) }
 {
     match values.split_first() {
@@ -62,7 +65,7 @@ fn first_edit(values: &[Value], place: Spot) -> Result<(&Value, &[Value]), Input
 /// Reads the next edit of a batch and adds it.
 fn add_edit(alloc: Global, edits: &mut Edits, value: &Value, place: Spot) -> Result<(), InputFault>
     requires { length edits.old < 1024 }
-    ensures value { Changes result edits.new (with_edit place edits.old (view value.now)) }
+    ensures value { Changes result edits.new (map_read (λ e. edits.old ++ e ∷ []) (edit_of place (view value.now))) }
     ensures count { OnOk result (length edits.new ≡ length edits.old + 1) }
 {
     let edit = edit_of(alloc, value, place)?;
@@ -70,6 +73,7 @@ fn add_edit(alloc: Global, edits: &mut Edits, value: &Value, place: Spot) -> Res
     Ok(())
 }
 
+/// Reads the edits of a batch and adds them.
 fn add_edits(
     alloc: Global,
     edits: &mut Edits,
@@ -77,7 +81,7 @@ fn add_edits(
     place: Spot,
 ) -> Result<(), InputFault>
     requires { length edits.old + length values.now ≤ 1024 }
-    ensures { Changes result edits.new (edits_from place edits.old (items_view values.now)) }
+    ensures { Changes result edits.new (map_read (λ es. edits.old ++ es) (listed_edits place (items_view values.now))) }
 {
     for value in values {
         add_edit(alloc, edits, value, place)?;
@@ -86,6 +90,7 @@ fn add_edits(
 }
 
 /// The edits of a batch, or the first fault of its list.
+#[tactic(auto, using(crate::proofs::EditLists::starts))]
 fn batch_of(alloc: Global, object: &Value, editor: u32, index: u32) -> Result<Edits, InputFault>
     ensures { Gives result (batch_of editor index (view object.now)) }
 {
