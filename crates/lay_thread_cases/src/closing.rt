@@ -3,11 +3,11 @@
 ghost use Rattle.std.specs.Prelude.{◌≡◌, ◌<◌, IfOk, IfSome};
 ghost use Rattle.std.specs.List.{All};
 
+use crate::core_calls::{closed, entries, latest};
 use lay_board::{Engine, Pass, Passes};
 use lay_layout::edit_lists::Reply;
 use lay_layout::run::RunDoc;
 use lay_layout::units::NoMemory;
-use lay_outside::OpenGate;
 use std::alloc::Global;
 use std::sync::Wait;
 
@@ -19,9 +19,8 @@ struct Early {
     out: Pass,
 }
 
-/// Closes an engine of two editors while the pass of the second one is out, and once more when it has made its call: how many passes came
-/// back the first time, what it was shown, and how many entries the history has
-/// then.
+/// Closes an engine of two editors while the pass of the second one is out, and once more when that has made its call. The answer says how
+/// many passes came back the first time, what the call was shown, and how many entries the history has in the end.
 pub(crate) fn closed_early<R: Wait>(
     rt: &R,
     alloc: Global,
@@ -35,7 +34,7 @@ pub(crate) fn closed_early<R: Wait>(
         passes,
         out,
     } = early;
-    match engine.close(rt, passes) {
+    match closed(rt, engine, passes) {
         Ok(_core) => Ok(Some(String::from_str(alloc, "closed early")?)),
         Err((engine, passes)) => closed_late(
             rt,
@@ -79,12 +78,12 @@ fn closed_late<R: Wait>(rt: &R, alloc: Global, early: Early) -> Result<Option<St
         out,
     } = early;
     let back = passes.items.len();
-    let (reply, out) = engine.latest(rt, alloc, out, &OpenGate);
+    let (reply, out) = latest(rt, alloc, &engine, out);
     passes.items.push(out)?;
-    let Ok(core) = engine.close(rt, passes) else {
+    let Ok(core) = closed(rt, engine, passes) else {
         return Ok(Some(String::from_str(alloc, "closed never")?));
     };
-    let entries = core.history().len();
+    let entries = entries(&core);
     let shown = shown(alloc, reply)?;
     Ok(Some(format!(in alloc; "back {back}, {shown}, entries {entries}")?))
 }
