@@ -20,18 +20,17 @@
 //! Where a call on the core lacks memory the answer is `no memory`. Where the request was one of the program's own, the program ends.
 
 use crate::claims::Claims;
+use crate::core_calls;
 use crate::edits::edit;
 use crate::grants::Grants;
 use crate::keys::{counts, key, shown_key};
 use crate::trees::{contexts, is_as_scratch};
 use crate::words::{first, lacks, number};
+use lay_core::shape::CellKey;
 use lay_core::{Core, Publish};
 use lay_layout::edit_lists::{Edits, Reply};
 use lay_layout::units::NoMemory;
 use std::alloc::Global;
-
-/// More numbers than a case draws.
-const MANY: u64 = 1000000;
 
 /// The core of a case.
 #[derive(Drop)]
@@ -71,49 +70,48 @@ impl OneCore {
 
     /// The reply to a call of an editor; None where it is another call.
     fn reply(&mut self, alloc: Global, call: &str, rest: &str) -> Result<Option<Reply>, NoMemory> {
-        if self.core.calls_left() == 0 {
-            return Ok(None);
-        }
-        let index = self.calls;
         let reply = match call {
-            "latest" => self.core.latest(1, index),
-            "sync" => self.core.sync(1, index),
-            _ => match edit(alloc, call, rest)? {
-                Some(edit) => self.core.edit(1, index, Edits::one(alloc, edit)?),
-                None => return Ok(None),
-            },
+            "latest" => core_calls::latest(&mut self.core, self.calls),
+            "sync" => core_calls::sync(&mut self.core, self.calls),
+            _ => self.edited(alloc, call, rest)?,
         };
-        self.calls = index.wrapping_add(1);
-        Ok(Some(reply))
+        if reply.is_some() {
+            self.calls = self.calls.wrapping_add(1);
+        }
+        Ok(reply)
+    }
+
+    /// The reply to an edit.
+    fn edited(&mut self, alloc: Global, call: &str, rest: &str) -> Result<Option<Reply>, NoMemory> {
+        let Some(edit) = edit(alloc, call, rest)? else {
+            return Ok(None);
+        };
+        let edits = Edits::one(alloc, edit)?;
+        Ok(core_calls::edit(&mut self.core, self.calls, edits))
     }
 
     fn settle(&mut self, alloc: Global) -> Result<Option<String>, NoMemory> {
-        if self.core.draws() > MANY {
-            return Ok(None);
-        }
-        match self.core.settle() {
-            Ok(()) => Ok(Some(String::from_str(alloc, "done")?)),
-            Err(NoMemory) => Ok(Some(lacks(alloc)?)),
+        match core_calls::settle(&mut self.core) {
+            None => Ok(None),
+            Some(Ok(())) => Ok(Some(String::from_str(alloc, "done")?)),
+            Some(Err(NoMemory)) => Ok(Some(lacks(alloc)?)),
         }
     }
 
     fn publish(&mut self, alloc: Global) -> Result<String, NoMemory> {
-        match self.core.publish() {
+        match core_calls::publish(&mut self.core) {
             Publish::Published(version) => Ok(format!(in alloc; "published {version}")?),
-            Publish::Unsettled(key) => Ok(format!(in alloc;
-                "unsettled {}",
-                shown_key(alloc, key)?
-            )?),
+            Publish::Unsettled(key) => shown_unsettled(alloc, key),
             Publish::NoMemory => lacks(alloc),
         }
     }
 
     fn read(&self, alloc: Global, call: &str, rest: &str) -> Result<Option<String>, NoMemory> {
         match call {
-            "laid" => shown(alloc, self.core.laid()),
-            "draws" => shown(alloc, self.core.draws()),
-            "accepted" => shown(alloc, self.core.accepted()),
-            "entries" => shown(alloc, self.core.history().len() as u64),
+            "laid" => Ok(Some(shown(alloc, self.core.laid())?)),
+            "draws" => Ok(Some(shown(alloc, self.core.draws())?)),
+            "accepted" => Ok(Some(shown(alloc, self.core.accepted())?)),
+            "entries" => Ok(Some(shown(alloc, self.core.history().len() as u64)?)),
             "laid-of" => self.laid_of(alloc, rest),
             "few-laid" => self.few_laid(alloc, rest),
             "contexts" => contexts(alloc, &self.core, rest),
@@ -131,18 +129,22 @@ impl OneCore {
     }
 
     fn laid_of(&self, alloc: Global, rest: &str) -> Result<Option<String>, NoMemory> {
-        match key(rest) {
-            Some(key) => match self.core.laid_of(key) {
-                Some(count) => shown(alloc, count),
-                None => Ok(Some(String::from_str(alloc, "none")?)),
-            },
-            None => Ok(None),
+        let Some(key) = key(rest) else {
+            return Ok(None);
+        };
+        match core_calls::laid_of(&self.core, key) {
+            Some(count) => Ok(Some(shown(alloc, count)?)),
+            None => Ok(Some(String::from_str(alloc, "none")?)),
         }
     }
 }
 
-fn shown(alloc: Global, number: u64) -> Result<Option<String>, NoMemory> {
-    Ok(Some(format!(in alloc; "{number}")?))
+fn shown(alloc: Global, number: u64) -> Result<String, NoMemory> {
+    Ok(format!(in alloc; "{number}")?)
+}
+
+fn shown_unsettled(alloc: Global, key: CellKey) -> Result<String, NoMemory> {
+    Ok(format!(in alloc; "unsettled {}", shown_key(alloc, key)?)?)
 }
 
 fn shown_reply(alloc: Global, reply: Reply) -> Result<String, NoMemory> {

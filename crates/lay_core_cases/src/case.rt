@@ -4,7 +4,7 @@
 use crate::calls::OneCore;
 use anyhow::{Result, bail};
 use lay_layout::units::NoMemory;
-use std::alloc::Global;
+use std::alloc::{AllocError, Global};
 
 /// What came of a case.
 #[derive(Drop)]
@@ -19,12 +19,7 @@ pub(crate) struct Comparison {
 pub(crate) fn compared(alloc: Global, core: &mut OneCore, lines: &str) -> Result<Comparison> {
     let mut lacking = String::new(alloc);
     for line in lines.lines() {
-        let (line, between) = call_and_between(line);
-        let mut other = other_answer(alloc, core, line)?;
-        if lacks(&other) {
-            write!(lacking, ", {} lacked memory", call_and_answer(line).0)?;
-            other = answer_again(alloc, core, line, between)?;
-        }
+        let other = other_at_last(alloc, core, line, &mut lacking)?;
         if other.is_some() {
             return Ok(Comparison { other, lacking });
         }
@@ -35,25 +30,48 @@ pub(crate) fn compared(alloc: Global, core: &mut OneCore, lines: &str) -> Result
     })
 }
 
+/// Makes the call of a line, once more where it lacks memory, and answers what is other than the line says.
+fn other_at_last(
+    alloc: Global,
+    core: &mut OneCore,
+    line: &str,
+    lacking: &mut String,
+) -> Result<Option<String>> {
+    let (line, between) = call_and_between(line);
+    let other = other_answer(alloc, core, line)?;
+    if !lacks(&other) {
+        return Ok(other);
+    }
+    write!(lacking, ", {} lacked memory", call_and_answer(line).0)?;
+    answer_again(alloc, core, line, between)
+}
+
 /// A case with the answers that come.
 pub(crate) fn answers(alloc: Global, core: &mut OneCore, lines: &str) -> Result<String> {
     let mut text = String::new(alloc);
     for line in lines.lines() {
-        if !is_call(line) {
-            writeln!(text, "{line}")?;
-            continue;
-        }
-        let (line, between) = call_and_between(line);
-        let (call, _) = call_and_answer(line);
-        let answer = answer(alloc, core, call)?;
-        let bar = if between.is_empty() { "" } else { " | " };
-        if answer.as_str() == "done" {
-            writeln!(text, "{call}{bar}{between}")?;
+        if is_call(line) {
+            let (line, between) = call_and_between(line);
+            let (call, _) = call_and_answer(line);
+            let answer = answer(alloc, core, call)?;
+            push_call(&mut text, call, answer.as_str(), between)?;
         } else {
-            writeln!(text, "{call} -> {answer}{bar}{between}")?;
+            writeln!(text, "{line}")?;
         }
     }
     Ok(text)
+}
+
+/// Adds the line of a call with its answer.
+fn push_call(text: &mut String, call: &str, answer: &str, between: &str) -> Result<(), AllocError> {
+    text.push_str(call)?;
+    if answer != "done" {
+        write!(text, " -> {answer}")?;
+    }
+    if !between.is_empty() {
+        write!(text, " | {between}")?;
+    }
+    text.push('\n')
 }
 
 fn is_call(line: &str) -> bool {
@@ -101,7 +119,17 @@ fn other_answer(alloc: Global, core: &mut OneCore, line: &str) -> Result<Option<
     }
     let (call, wanted) = call_and_answer(line);
     let answer = answer(alloc, core, call)?;
-    if answer.as_str() == wanted {
+    Ok(told(alloc, call, answer.as_str(), wanted)?)
+}
+
+/// A call with its answer, where that is another than the wanted one.
+fn told(
+    alloc: Global,
+    call: &str,
+    answer: &str,
+    wanted: &str,
+) -> Result<Option<String>, AllocError> {
+    if answer == wanted {
         return Ok(None);
     }
     Ok(Some(format!(in alloc; "{call} -> {answer}")?))

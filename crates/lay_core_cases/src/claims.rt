@@ -10,10 +10,12 @@
 //!
 //! A claim that was granted is held to the end, so it can be finished late, or twice.
 
+use crate::core_calls;
 use crate::keys::{key, shown_key};
 use crate::words::{first, lacks, number, small_number};
 use lay_core::cell_work::Claim;
 use lay_core::claim_lists::{ClaimList, Outcome, Outcomes};
+use lay_core::shape::CellKey;
 use lay_core::{Answer, Core, IdleKind, Next, Tally};
 use lay_layout::cells::{Finished, Released};
 use lay_layout::units::NoMemory;
@@ -68,24 +70,28 @@ impl Claims {
         core: &mut Core,
         rest: &str,
     ) -> Result<Option<String>, NoMemory> {
-        let Some(key) = key(rest) else {
-            return Ok(None);
-        };
-        let text = match core.claim(key) {
-            Answer::Granted(claim) => self.granted(alloc, claim)?,
-            Answer::Reused => String::from_str(alloc, "reused")?,
-            Answer::Clean => String::from_str(alloc, "clean")?,
-            Answer::Waiting(need) => format!(in alloc; "waiting {}", shown_key(alloc, need)?)?,
-            Answer::Taken(number) => format!(in alloc; "taken {number}")?,
-            Answer::Gone => String::from_str(alloc, "gone")?,
-            Answer::Spent => String::from_str(alloc, "spent")?,
-            Answer::NoMemory => lacks(alloc)?,
-        };
-        Ok(Some(text))
+        match key(rest) {
+            Some(key) => Ok(Some(self.shown_answer(alloc, core_calls::claim(core, key))?)),
+            None => Ok(None),
+        }
+    }
+
+    /// An answer to a claim; one that is granted is held.
+    fn shown_answer(&mut self, alloc: Global, answer: Answer) -> Result<String, NoMemory> {
+        match answer {
+            Answer::Granted(claim) => self.granted(alloc, claim),
+            Answer::Reused => Ok(String::from_str(alloc, "reused")?),
+            Answer::Clean => Ok(String::from_str(alloc, "clean")?),
+            Answer::Waiting(need) => shown_waiting(alloc, need),
+            Answer::Taken(number) => Ok(format!(in alloc; "taken {number}")?),
+            Answer::Gone => Ok(String::from_str(alloc, "gone")?),
+            Answer::Spent => Ok(String::from_str(alloc, "spent")?),
+            Answer::NoMemory => lacks(alloc),
+        }
     }
 
     fn claim_next(&mut self, alloc: Global, core: &mut Core) -> Result<String, NoMemory> {
-        match core.claim_next() {
+        match core_calls::claim_next(core) {
             Next::Granted(claim) => self.granted(alloc, claim),
             Next::Settled => shown_idle(alloc, IdleKind::Settled),
             Next::Busy(number) => shown_idle(alloc, IdleKind::Busy(number)),
@@ -107,17 +113,21 @@ impl Claims {
             return Ok(None);
         }
         let mut list = ClaimList::with_room(alloc, limit)?;
-        match core.claim_some(limit, &mut list) {
-            Ok(None) => {}
-            Ok(Some(idle)) => return Ok(Some(shown_idle(alloc, idle.kind())?)),
-            Err(NoMemory) => return Ok(Some(lacks(alloc)?)),
+        match core_calls::claim_some(core, limit, &mut list) {
+            Ok(None) => Ok(Some(self.all_granted(alloc, list)?)),
+            Ok(Some(idle)) => Ok(Some(shown_idle(alloc, idle.kind())?)),
+            Err(NoMemory) => Ok(Some(lacks(alloc)?)),
         }
+    }
+
+    /// Holds the claims of a list, and shows them.
+    fn all_granted(&mut self, alloc: Global, list: ClaimList) -> Result<String, NoMemory> {
         let mut text = String::new(alloc);
         for claim in list.into_vec() {
             let comma = if text.is_empty() { "" } else { ", " };
             write!(text, "{comma}{}", self.granted(alloc, claim)?)?;
         }
-        Ok(Some(text))
+        Ok(text)
     }
 
     /// The claim of this number once more, or under another number.
@@ -138,13 +148,8 @@ impl Claims {
         number: u64,
         under: u64,
     ) -> Result<Option<Outcome>, NoMemory> {
-        let Some(claim) = self.again(number, under)? else {
-            return Ok(None);
-        };
-        match claim.compute(alloc) {
-            Ok(done) => Ok(Some(Outcome::Done(done))),
-            Err(claim) => Ok(Some(Outcome::NoMemory(claim))),
-        }
+        let claim = self.again(number, under)?;
+        Ok(claim.map(|claim| outcome_of(alloc, claim)))
     }
 
     fn finish(
@@ -157,7 +162,10 @@ impl Claims {
             return Ok(None);
         };
         match self.computed(alloc, number, under)? {
-            Some(Outcome::Done(done)) => Ok(Some(shown_finished(alloc, core.finish(done))?)),
+            Some(Outcome::Done(done)) => Ok(Some(shown_finished(
+                alloc,
+                core_calls::finish(core, done),
+            )?)),
             Some(Outcome::NoMemory(_claim)) => Ok(Some(lacks(alloc)?)),
             None => Ok(None),
         }
@@ -185,18 +193,26 @@ impl Claims {
         core: &mut Core,
         rest: &str,
     ) -> Result<Option<String>, NoMemory> {
+        let Some(outcomes) = self.outcomes(alloc, rest)? else {
+            return Ok(None);
+        };
+        if outcomes.len() > BATCH as usize {
+            return Ok(None);
+        }
+        let tally = core_calls::finish_all(core, Outcomes::new(outcomes));
+        Ok(Some(shown_tally(alloc, &tally)?))
+    }
+
+    /// The outcomes that words name.
+    fn outcomes(&self, alloc: Global, words: &str) -> Result<Option<Vec<Outcome>>, NoMemory> {
         let mut outcomes = Vec::new(alloc);
-        for word in rest.split(' ') {
+        for word in words.split(' ') {
             match self.outcome(alloc, word)? {
                 Some(outcome) => outcomes.push(outcome)?,
                 None => return Ok(None),
             }
         }
-        if outcomes.len() > BATCH as usize {
-            return Ok(None);
-        }
-        let tally = core.finish_all(Outcomes::new(outcomes));
-        Ok(Some(shown_tally(alloc, &tally)?))
+        Ok(Some(outcomes))
     }
 
     fn give_back(
@@ -211,12 +227,7 @@ impl Claims {
         let Some(claim) = self.again(number, number)? else {
             return Ok(None);
         };
-        let text = match core.give_back(claim) {
-            Released::Released => String::from_str(alloc, "released")?,
-            Released::Superseded(last) => format!(in alloc; "superseded {last}")?,
-            Released::Gone => String::from_str(alloc, "gone")?,
-        };
-        Ok(Some(text))
+        Ok(Some(shown_released(alloc, core_calls::give_back(core, claim))?))
     }
 }
 
@@ -228,6 +239,26 @@ fn numbers(text: &str) -> Option<(u64, u64)> {
         _ => one,
     };
     Some((number(one)?, number(under)?))
+}
+
+/// What a claim comes to.
+fn outcome_of(alloc: Global, claim: Claim) -> Outcome {
+    match claim.compute(alloc) {
+        Ok(done) => Outcome::Done(done),
+        Err(claim) => Outcome::NoMemory(claim),
+    }
+}
+
+fn shown_waiting(alloc: Global, need: CellKey) -> Result<String, NoMemory> {
+    Ok(format!(in alloc; "waiting {}", shown_key(alloc, need)?)?)
+}
+
+fn shown_released(alloc: Global, released: Released) -> Result<String, NoMemory> {
+    match released {
+        Released::Released => Ok(String::from_str(alloc, "released")?),
+        Released::Superseded(last) => Ok(format!(in alloc; "superseded {last}")?),
+        Released::Gone => Ok(String::from_str(alloc, "gone")?),
+    }
 }
 
 fn shown_finished(alloc: Global, finished: Finished) -> Result<String, NoMemory> {

@@ -2,9 +2,9 @@
 
 use crate::words::{first, node, small_number};
 use lay_layout::doc::{Edit, NewNode, NodeId};
-use lay_layout::style::Decls;
+use lay_layout::style::{Decl, Decls, Property};
 use lay_layout::units::{NoMemory, Text};
-use lay_values::{property_of, read};
+use lay_values::{ValueFault, property_of, read};
 use std::alloc::Global;
 
 /// The edit of a call; None where it is another call.
@@ -26,10 +26,20 @@ fn number_and_rest(text: &str) -> Option<(u32, &str)> {
     Some((small_number(number)?, rest))
 }
 
+/// What `read` answers, without what is promised of it.
+fn declaration(alloc: Global, name: &str, value: &str) -> Result<Decl, ValueFault> {
+    read(alloc, name, value)
+}
+
+/// What `property_of` answers, without what is promised of it.
+fn property(name: &str) -> Option<Property> {
+    property_of(name)
+}
+
 fn style_setting(alloc: Global, rest: &str) -> Option<Edit> {
     let (node, text) = number_and_rest(rest)?;
     let (name, value) = text.split_once(": ")?;
-    let decl = read(alloc, name, value).ok()?;
+    let decl = declaration(alloc, name, value).ok()?;
     Some(Edit::SetStyle {
         node: NodeId(node),
         decl,
@@ -38,7 +48,7 @@ fn style_setting(alloc: Global, rest: &str) -> Option<Edit> {
 
 fn style_clearing(rest: &str) -> Option<Edit> {
     let (node, name) = number_and_rest(rest)?;
-    let property = property_of(name)?;
+    let property = property(name)?;
     Some(Edit::ClearStyle {
         node: NodeId(node),
         property,

@@ -1,5 +1,6 @@
 //! Which cells were granted since the last time.
 
+use crate::core_calls::node_at;
 use crate::keys::laid_of_node;
 use lay_core::Core;
 use lay_layout::units::NoMemory;
@@ -31,17 +32,22 @@ impl Grants {
     pub(crate) fn since(&mut self, alloc: Global, core: &Core) -> Result<String, NoMemory> {
         let counts = counts(alloc, core)?;
         let laid = core.laid();
-        let mut text = format!(in alloc; "{}", laid.saturating_sub(self.laid))?;
-        let mut mark = ":";
-        for count in counts.iter() {
-            let word = self.difference(alloc, count)?;
-            if !word.is_empty() {
-                write!(text, "{mark} {}:{word}", count.node)?;
-                mark = "";
-            }
-        }
+        let granted = laid.saturating_sub(self.laid);
+        let cells = self.differences(alloc, counts.as_slice())?;
         self.counts = counts;
         self.laid = laid;
+        shown(alloc, granted, cells.as_str())
+    }
+
+    /// The cells whose counts differ from those of the last time, each behind a blank.
+    fn differences(&self, alloc: Global, counts: &[Count]) -> Result<String, NoMemory> {
+        let mut text = String::new(alloc);
+        for count in counts {
+            let letters = self.difference(alloc, count)?;
+            if !letters.is_empty() {
+                write!(text, " {}:{letters}", count.node)?;
+            }
+        }
         Ok(text)
     }
 
@@ -68,16 +74,25 @@ impl Grants {
     }
 }
 
+fn shown(alloc: Global, granted: u64, cells: &str) -> Result<String, NoMemory> {
+    let mark = if cells.is_empty() { "" } else { ":" };
+    Ok(format!(in alloc; "{granted}{mark}{cells}")?)
+}
+
 /// What is counted now, of each node that has cells.
 fn counts(alloc: Global, core: &Core) -> Result<Vec<Count>, NoMemory> {
     let mut counts = Vec::new(alloc);
     for place in 0..core.doc().len() {
-        if let Some(node) = core.doc().node(place) {
-            let node = node.id();
-            if let Some(laid) = laid_of_node(core, node) {
-                counts.push(Count { node: node.0, laid })?;
-            }
+        if let Some(count) = count_at(core, place) {
+            counts.push(count)?;
         }
     }
     Ok(counts)
+}
+
+/// What is counted of the node at a place of the document.
+fn count_at(core: &Core, place: usize) -> Option<Count> {
+    let node = node_at(core, place)?;
+    let laid = laid_of_node(core, node)?;
+    Some(Count { node: node.0, laid })
 }

@@ -1,5 +1,6 @@
 //! Keys of cells: `PHASE NODE`, where the phase is `Measure`, `Size` or `Place`.
 
+use crate::core_calls;
 use crate::words::{first, node};
 use lay_core::Core;
 use lay_core::shape::CellKey;
@@ -12,19 +13,15 @@ use std::alloc::Global;
 pub(crate) fn key(text: &str) -> Option<CellKey> {
     let (phase, text) = first(text);
     let node = node(text)?;
-    match phase {
-        "Measure" => Some(CellKey {
-            node,
-            phase: Phase::Measure,
-        }),
-        "Size" => Some(CellKey {
-            node,
-            phase: Phase::Size,
-        }),
-        "Place" => Some(CellKey {
-            node,
-            phase: Phase::Place,
-        }),
+    let phase = phase_of(phase)?;
+    Some(CellKey { node, phase })
+}
+
+fn phase_of(word: &str) -> Option<Phase> {
+    match word {
+        "Measure" => Some(Phase::Measure),
+        "Size" => Some(Phase::Size),
+        "Place" => Some(Phase::Place),
         _ => None,
     }
 }
@@ -45,28 +42,30 @@ pub(crate) fn counts(alloc: Global, core: &Core, nodes: &str) -> Result<Option<S
         let Some(node) = node(word) else {
             return Ok(None);
         };
-        let blank = if text.is_empty() { "" } else { " " };
-        match laid_of_node(core, node) {
-            Some(laid) => write!(text, "{blank}{}+{}+{}", laid[0], laid[1], laid[2])?,
-            None => write!(text, "{blank}none")?,
+        if !text.is_empty() {
+            text.push(' ')?;
         }
+        put_counts(&mut text, laid_of_node(core, node))?;
     }
     Ok(Some(text))
 }
 
+fn put_counts(text: &mut String, laid: Option<[u64; 3]>) -> Result<(), NoMemory> {
+    match laid {
+        Some(laid) => write!(text, "{}+{}+{}", laid[0], laid[1], laid[2])?,
+        None => text.push_str("none")?,
+    }
+    Ok(())
+}
+
 /// The grants of the three cells of a node; None where it has none.
 pub(crate) fn laid_of_node(core: &Core, node: NodeId) -> Option<[u64; 3]> {
-    let measure = core.laid_of(CellKey {
-        node,
-        phase: Phase::Measure,
-    })?;
-    let size = core.laid_of(CellKey {
-        node,
-        phase: Phase::Size,
-    })?;
-    let place = core.laid_of(CellKey {
-        node,
-        phase: Phase::Place,
-    })?;
+    let measure = laid_in(core, node, Phase::Measure)?;
+    let size = laid_in(core, node, Phase::Size)?;
+    let place = laid_in(core, node, Phase::Place)?;
     Some([measure, size, place])
+}
+
+fn laid_in(core: &Core, node: NodeId, phase: Phase) -> Option<u64> {
+    core_calls::laid_of(core, CellKey { node, phase })
 }

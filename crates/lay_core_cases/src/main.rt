@@ -11,6 +11,7 @@
 mod calls;
 mod case;
 mod claims;
+mod core_calls;
 mod edits;
 mod grants;
 mod keys;
@@ -22,6 +23,9 @@ use crate::case::{Comparison, answers, compared};
 use anyhow::{Context, Result, bail};
 use lay_core::Core;
 use lay_json::read_run;
+use lay_layout::run::RunDoc;
+use lay_layout::units::NoMemory;
+use std::alloc::Global;
 use std::rt::{Env, Files};
 use std::{env, fs};
 
@@ -58,7 +62,7 @@ fn files<R: Files + AllocGlobal + Clone + Drop>(rt: &R, folder: &str) -> Result<
     Ok(names)
 }
 
-/// Goes through the cases of a file, and prints a line for each, or the answers that come.
+/// Goes through the cases of a file.
 fn go_through(
     rt: &(impl Files + Print + AllocGlobal),
     folder: &str,
@@ -68,34 +72,70 @@ fn go_through(
     let path = format!(in rt.alloc(); "{folder}/{name}.calls")?;
     let text = fs::read_to_string(rt, path.as_str()).context("reading a file of calls")?;
     for case in text.as_str().split("\ncase ").skip(1) {
-        let (case, lines) = case.split_once('\n').unwrap_or((case, ""));
-        let mut subject = OneCore::new(rt.alloc(), core(rt, folder, name)?);
-        if shows {
-            println!(rt;
-                "case {case}\n{}",
-                answers(rt.alloc(), &mut subject, lines)?
-            )?;
-            continue;
-        }
-        let Comparison { other, lacking } = compared(rt.alloc(), &mut subject, lines)?;
-        match other {
-            None => println!(rt; "{name}: {case}: ok{lacking}")?,
-            Some(other) => println!(rt; "{name}: {case}: NOT SO, but {other}{lacking}")?,
-        }
+        let bytes = document(rt, folder, name)?;
+        try_case(rt, name, &bytes, case, shows)?;
     }
     Ok(())
 }
 
-/// A core of the document in `NAME.json`.
-fn core(rt: &(impl Files + AllocGlobal), folder: &str, name: &str) -> Result<Core> {
+/// The bytes of `NAME.json`.
+fn document(rt: &(impl Files + AllocGlobal), folder: &str, name: &str) -> Result<Vec<u8>> {
     let path = format!(in rt.alloc(); "{folder}/{name}.json")?;
-    let bytes = fs::read(rt, path.as_str()).context("reading a run document")?;
-    let Ok(run) = read_run(rt.alloc(), &bytes) else {
-        bail!("{name}.json has a fault");
-    };
-    let (doc, face, _scripts, _listed) = run.into_parts();
-    match Core::new(rt.alloc(), doc, face, CALLS) {
-        Ok(core) => Ok(core),
-        Err(_) => bail!("out of memory"),
+    fs::read(rt, path.as_str()).context("reading a run document")
+}
+
+/// Makes the calls of a case on a core of the document of these bytes, and prints a line for it, or the answers that come.
+fn try_case(
+    rt: &(impl Print + AllocGlobal),
+    name: &str,
+    bytes: &[u8],
+    case: &str,
+    shows: bool,
+) -> Result<()> {
+    let (case, lines) = case.split_once('\n').unwrap_or((case, ""));
+    let mut subject = OneCore::new(rt.alloc(), core(rt.alloc(), name, bytes)?);
+    if shows {
+        let answers = answers(rt.alloc(), &mut subject, lines)?;
+        println!(rt; "case {case}\n{answers}")?;
+        return Ok(());
     }
+    let comparison = compared(rt.alloc(), &mut subject, lines)?;
+    print(rt, name, case, &comparison)
+}
+
+/// Prints what came of a case.
+fn print(
+    rt: &(impl Print + AllocGlobal),
+    name: &str,
+    case: &str,
+    comparison: &Comparison,
+) -> Result<()> {
+    let lacking = comparison.lacking.as_str();
+    match &comparison.other {
+        None => println!(rt; "{name}: {case}: ok{lacking}")?,
+        Some(other) => println!(rt; "{name}: {case}: NOT SO, but {other}{lacking}")?,
+    }
+    Ok(())
+}
+
+/// A core of the document of these bytes.
+fn core(alloc: Global, name: &str, bytes: &[u8]) -> Result<Core> {
+    match new_core(alloc, run(alloc, name, bytes)?) {
+        Ok(core) => Ok(core),
+        Err(NoMemory) => bail!("out of memory"),
+    }
+}
+
+/// The run document of these bytes.
+fn run(alloc: Global, name: &str, bytes: &[u8]) -> Result<RunDoc> {
+    match read_run(alloc, bytes) {
+        Ok(run) => Ok(run),
+        Err(_) => bail!("{name}.json has a fault"),
+    }
+}
+
+/// A core of the document of a run.
+fn new_core(alloc: Global, run: RunDoc) -> Result<Core, NoMemory> {
+    let (doc, face, _scripts, _listed) = run.into_parts();
+    Core::new(alloc, doc, face, CALLS)
 }
