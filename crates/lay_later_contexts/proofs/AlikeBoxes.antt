@@ -1,5 +1,5 @@
 -- Two nodes of one kind with alike styles and texts generate the same box by themselves.
-use Rattle.std.proofs.Common.{◌≡◌, ◌⊎◌, inl, inr, ℕ, ◌<◌, ◌==◌, Bool, true, false, List, [], ◌∷◌, length, refl, ap, sym, ◌∙◌, arith, Option, Some, if◌then◌else◌, option_map, slice_get}
+use Rattle.std.proofs.Common.{◌≡◌, inl, inr, ℕ, zero, suc, ◌<◌, ◌==◌, Bool, true, false, List, [], ◌∷◌, length, refl, ap, sym, ◌∙◌, arith, Option, Some, if◌then◌else◌, option_map, slice_get, slice_index_or}
 use Rattle.std.proofs.lemmas.Bool.{cases_lt}
 use Rattle.std.proofs.lemmas.Option.{slice_get_past}
 use Rattle.lay_style.specs.declared.style.Style.{Style}
@@ -24,7 +24,13 @@ use Rattle.lay_boxgen.specs.Display.{element_form, flow_of, is_floated, is_out_o
 use Rattle.lay_boxgen.specs.NodeBoxes.{establishes_context, form_of, node_box, node_flow, replaced_form}
 use Rattle.lay_boxgen.specs.WhiteSpace.{text_form, white_form}
 use Rattle.lay_own_nodes.proofs.SameTrees.{SameNode}
-use Rattle.lay_later_contexts.specs.Reach.{IsAlike, IsSeen}
+use Rattle.lay_later_contexts.specs.Reach.{AreTextsAlike, IsAlike, IsSeen}
+
+-- what is read of a list at a place
+pub read-there : {X : Type 0} (xs : List X) (k : ℕ) (d y : X) → k < length xs → slice_get xs k ≡ Some y → slice_index_or xs k d ≡ y
+read-there [] k d y lt g = absurd (omega (arith, lt))
+read-there (z ∷ zs) zero d y lt g = (let s : Some z ≡ Some y = g in let t : z ≡ y = cc in t)
+read-there (z ∷ zs) (suc k) d y lt g = read-there zs k d y (omega (arith, lt)) g
 
 abbrev flow_by : Position → Float → Flow
 flow_by p f = if is_out_of_flow_position p then Absolute else (if is_floated f then Floating else InFlow)
@@ -46,10 +52,6 @@ node-flow-alike : (kind : Kind) (s t : Style) → IsAlike s t → node_flow kind
 node-flow-alike (Element colspan rowspan) s t a = flow-alike s t a
 node-flow-alike Text s t a = refl
 node-flow-alike (Replaced w h) s t a = flow-alike s t a
-
--- texts that are one, or of which a box is generated whatever the style is
-abbrev pub AreTextsAlike : List ℕ → List ℕ → Type 0
-AreTextsAlike xs ys = (xs ≡ ys) ⊎ (IsSeen xs × IsSeen ys)
 
 form-seen : (r : Bool) (text : List ℕ) (s : Style) → IsSeen text → form_of r Text text s ≡ Some (form.Text Seen)
 form-seen r [] s seen = absurd (let z : true ≡ false = seen in cc)

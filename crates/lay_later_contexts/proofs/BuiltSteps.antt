@@ -1,5 +1,7 @@
--- A context that is built of one before an edit of declarations or a text.
-use Rattle.std.proofs.Common.{◌≡◌, inl, inr, ℕ, ◌<◌, ◌≤◌, Bool, false, List, [], length, ap, sym, subst, ◌∙◌, arith, slice_index}
+-- Contexts that are built of those before edits of declarations or texts.
+use Rattle.std.proofs.Common.{◌≡◌, inl, inr, ℕ, ◌+◌, ◌<◌, ◌≤◌, Bool, false, List, [], ◌∷◌, ◌++◌, length, ap, sym, subst, ◌∙◌, arith, slice_index}
+use Rattle.std.proofs.lemmas.Bool.{cases_lt}
+use Rattle.std.proofs.lemmas.Grind.{elements}
 use Rattle.std.proofs.lemmas.List.{get_or-map}
 use Rattle.lay_style.specs.declared.style.Style.{Style}
 use Rattle.lay_style.proofs.Places.{place_within}
@@ -17,14 +19,16 @@ use Rattle.lay_contexts.specs.declared.context_spot.ContextSpot.{ContextSpot}
 use Rattle.lay_contexts.proofs.ContextNumbers.{are_contexts}
 use Rattle.lay_later_contexts.specs.Building.{AreBuiltTo, IsBuilt}
 use Rattle.lay_later_contexts.specs.Edited.{IsEdited}
-use Rattle.lay_later_contexts.specs.Reach.{ArePlacesOf, IsReach, IsReachedContext, IsRestyled}
+use Rattle.lay_later_contexts.specs.Reach.{ArePlacesOf, AreReachFlags, IsReach, IsReachedContext, IsRestyled}
+use Rattle.lay_later_contexts.specs.Rebuilt.{AreRebuilt, SameBoxes}
 use Rattle.lay_later_contexts.specs.declared.reach.Reach.{Reach}
 use Rattle.lay_later_contexts.specs.Unstyled.{all_unstyled}
 use Rattle.lay_later_contexts.proofs.AlikeBoxes.{AlikeNode}
+use Rattle.lay_later_contexts.proofs.Flags.{flag-before, flag-last}
 use Rattle.lay_later_contexts.proofs.LaterList.{later-are}
 use Rattle.lay_later_contexts.proofs.Outward.{kept-boxes}
 use Rattle.lay_later_contexts.proofs.Restyling.{Restyling, restyling-of, same-boxes, subject-alike}
-use Rattle.lay_later_contexts.proofs.SameBoxes.{SameBoxes, same-context}
+use Rattle.lay_later_contexts.proofs.SameBoxes.{same-context}
 
 pub from-within : (d : Document) (styles : List Style) (places : List ℕ) (id : ℕ) (r : Reach) → IsReach d.nodes styles places id r → r.from < length d.nodes
 from-within d styles places id r is = let w = place_within id (ids_of d.nodes) r.from is.subject in omega (arith, w, length-ids d.nodes)
@@ -35,6 +39,21 @@ until-within d styles places id r doc is =
     let w = slot.within in
     omega (arith, w, is.until_is, length-parents d.nodes)
 
+-- the contexts of a document, by their places
+module _ (d : Document) (ss : List Style) (contexts : List Context) (of : AreContextsOf d.nodes ss contexts) (places : List ℕ) (places_are : ArePlacesOf contexts places) where
+  place-is : (i : ℕ) → i < length contexts → slice_index places i ≡ (spot_at of.spots i).place
+  place-is i lt = places_are.each i lt ∙ ap (λ (s : ContextSpot). s.place) (of.numbered.each i lt).spot
+
+  pub context-before : (i : ℕ) → i < length contexts → IsContextAt d.nodes ss (slice_index places i)
+  context-before i lt = subst (IsContextAt d.nodes ss) (sym (place-is i lt)) (of.are.are i (omega (arith, lt, of.numbered.count)))
+
+  pub boxes-before : (i : ℕ) → i < length contexts → boxes_in contexts i ≡ boxes_of_place d.nodes ss (slice_index places i)
+  boxes-before i lt =
+      (of.numbered.each i lt).boxes_are
+      ∙ (get_or-map (λ (s : ContextSpot). boxes_of_place d.nodes ss s.place) of.spots i root_spot [] (omega (arith, lt, of.numbered.count))
+      ∙ ap (boxes_of_place d.nodes ss) (sym (place-is i lt)))
+
+-- an edit of declarations or a text that leaves the boxes of the contexts that it doesn't reach
 module _ (d e : Document) (ss ts : List Style) (edit : Edit) (contexts : List Context) (doc : IsDocument d) (other_doc : IsDocument e) (edited : IsEdited d ss edit e ts)
     (of : AreContextsOf d.nodes ss contexts) (places : List ℕ) (places_are : ArePlacesOf contexts places) (r : Reach) (is : IsRestyled d ss edit ts places r) where
   abbrev count : length ss ≡ length d.nodes
@@ -55,29 +74,46 @@ module _ (d e : Document) (ss ts : List Style) (edit : Edit) (contexts : List Co
   same : SameBoxes d.nodes e.nodes ss ts
   same = same-boxes d e ss ts r.from r.until doc has restyling subject is.reach.until_is is.alike
 
-  place-is : (i : ℕ) → i < length contexts → slice_index places i ≡ (spot_at of.spots i).place
-  place-is i lt = places_are.each i lt ∙ ap (λ (s : ContextSpot). s.place) (of.numbered.each i lt).spot
-
-  context-before : (i : ℕ) → i < length contexts → IsContextAt d.nodes ss (slice_index places i)
-  context-before i lt = subst (IsContextAt d.nodes ss) (sym (place-is i lt)) (of.are.are i (omega (arith, lt, of.numbered.count)))
-
-  pub later-context : (i : ℕ) → i < length contexts → IsContextAt e.nodes ts (slice_index places i)
-  later-context i lt = same-context d.nodes e.nodes ss ts same (slice_index places i) (context-before i lt)
-
-  pub kept-context : (i : ℕ) → i < length contexts → (IsReachedContext r i (slice_index places i) → ⊥) → boxes_in contexts i ≡ boxes_of_place e.nodes ts (slice_index places i)
+  kept-context : (i : ℕ) → i < length contexts → (IsReachedContext r i (slice_index places i) → ⊥) → boxes_in contexts i ≡ boxes_of_place e.nodes ts (slice_index places i)
   kept-context i lt apart =
-      (of.numbered.each i lt).boxes_are
-      ∙ (get_or-map (λ (s : ContextSpot). boxes_of_place d.nodes ss s.place) of.spots i root_spot [] (omega (arith, lt, of.numbered.count))
-      ∙ (ap (boxes_of_place d.nodes ss) (sym (place-is i lt))
-      ∙ sym (kept-boxes d e ss ts r.from r.until doc other_doc count other_count has restyling subject is.reach.until_is is.alike (slice_index places i) (context-before i lt)
-      (λ b. apart (inr b)) (λ around. apart (inl (is.reach.around_is i (omega (arith, lt, places_are.count)) around))))))
+      boxes-before d ss contexts of places places_are i lt
+      ∙ sym (kept-boxes d e ss ts r.from r.until doc other_doc count other_count has restyling subject is.reach.until_is is.alike (slice_index places i)
+      (context-before d ss contexts of places places_are i lt)
+      (λ b. apart (inr b)) (λ around. apart (inl (is.reach.around_is i (omega (arith, lt, places_are.count)) around))))
 
-  pub built-are : (items : List Context) (made : List Bool) (n : ℕ) → n ≡ length contexts → AreBuiltTo contexts e.nodes ts places items made n → AreContextsOf e.nodes ts items
-  built-are items made n e_n built =
-      later-are d e ss ts contexts of places places_are same restyling.ids items made (subst (AreBuiltTo contexts e.nodes ts places items made) e_n built)
+  pub rebuilt-of : (flags : List Bool) (n : ℕ) → n ≡ length places → AreReachFlags r places flags n → AreRebuilt d.nodes e.nodes ss ts contexts places flags
+  rebuilt-of flags n n_is reached = record {
+    places_are = places_are;
+    flags = reached.count ∙ (n_is ∙ places_are.count);
+    ids = restyling.ids;
+    same = same;
+    kept = λ i lt is_not. kept-context i lt (reached.each i (omega (arith, lt, n_is, places_are.count)) is_not);
+  }
 
-  pub built-contexts : (items : List Context) (made : List Bool) (n : ℕ) → n ≡ length contexts → AreBuiltTo contexts e.nodes ts places items made n → AreContexts items
-  built-contexts items made n e_n built = are_contexts e ts items other_doc other_count (built-are items made n e_n built)
+-- contexts that are built of them
+module _ (d e : Document) (ss ts : List Style) (contexts : List Context) (other_doc : IsDocument e) (other_count : length ts ≡ length e.nodes)
+    (of : AreContextsOf d.nodes ss contexts) (places : List ℕ) (reached : List Bool) (is : AreRebuilt d.nodes e.nodes ss ts contexts places reached) where
+  pub later-context : (i : ℕ) → i < length contexts → IsContextAt e.nodes ts (slice_index places i)
+  later-context i lt = same-context d.nodes e.nodes ss ts is.same (slice_index places i) (context-before d ss contexts of places is.places_are i lt)
+
+  pub built-are : (items : List Context) (n : ℕ) → n ≡ length contexts → AreBuiltTo contexts e.nodes ts places items reached n → AreContextsOf e.nodes ts items
+  built-are items n e_n built =
+      later-are d e ss ts contexts of places is.places_are is.same is.ids items reached (subst (AreBuiltTo contexts e.nodes ts places items reached) e_n built)
+
+  pub built-contexts : (items : List Context) (n : ℕ) → n ≡ length contexts → AreBuiltTo contexts e.nodes ts places items reached n → AreContexts items
+  built-contexts items n e_n built = are_contexts e ts items other_doc other_count (built-are items n e_n built)
+
+-- one more flag
+pub one-reach-flag : (r : Reach) (places : List ℕ) (flags : List Bool) (b : Bool) (n : ℕ) → AreReachFlags r places flags n
+    → (b ≡ false → IsReachedContext r n (slice_index places n) → ⊥) → AreReachFlags r places (flags ++ b ∷ []) (n + 1)
+one-reach-flag r places flags b n known other = record {
+  count = grind (arith, elements, known.count);
+  each = λ i lt is_not reached. elim (cases_lt i n) [
+    | inl low ↦ known.each i low (sym (flag-before flags b i (omega (arith, low, known.count))) ∙ is_not) reached
+    | inr high ↦ (let z : i ≡ n = omega (arith, lt, high) in
+        other (sym (flag-last flags b i (omega (arith, z, known.count))) ∙ is_not) (subst (λ (m : ℕ). IsReachedContext r m (slice_index places m)) z reached))
+  ];
+}
 
 -- a context with other boxes, which are the same but for their styles
 pub is-built : (contexts : List Context) (e : Document) (ts : List Style) (places : List ℕ) (i : ℕ) (c : Context) (made : Bool)

@@ -13,13 +13,13 @@ module _ (nodes : List Node) (styles : List Style) where
   above-root _ _ (parent k positive e) = positive
   above-root _ _ (further k a positive e above) = positive
 
-  one-step : (k a : ℕ) → IsAround nodes styles k a
+  pub one-step : (k a : ℕ) → IsAround nodes styles k a
       → (a ≡ parent_of nodes k) ⊎ ((is_marked (box_at nodes styles (parent_of nodes k)) ≡ false) × IsAround nodes styles (parent_of nodes k) a)
   one-step _ _ (parent k positive e) = inl refl
   one-step _ _ (further k a positive e above) = inr (e, above)
 
   module _ (places : List ℕ) (are : AreContextPlaces nodes styles places) where
-    same-number : (i j : ℕ) → i < length places → j < length places → slice_index places i ≡ slice_index places j → i ≡ j
+    pub same-number : (i j : ℕ) → i < length places → j < length places → slice_index places i ≡ slice_index places j → i ≡ j
     same-number i j li lj e = elim (cases_lt i j) [
       | inl low ↦ absurd (let r = are.rising i j low lj in omega (arith, r, e))
       | inr high ↦ elim (cases_lt j i) [ inl over ↦ absurd (let r = are.rising j i over li in omega (arith, r, e)) | inr under ↦ omega (arith, high, under) ]

@@ -85,10 +85,10 @@ module _ (d : Document) (styles : List Style) (contexts : List Context) (doc : I
       }
 
 -- one more place
-at-before : (xs : List ℕ) (x k : ℕ) → k < length xs → slice_index (xs ++ x ∷ []) k ≡ slice_index xs k
+pub at-before : (xs : List ℕ) (x k : ℕ) → k < length xs → slice_index (xs ++ x ∷ []) k ≡ slice_index xs k
 at-before xs x k lt = grind (arith, elements)
 
-at-last : (xs : List ℕ) (x k : ℕ) → k ≡ length xs → slice_index (xs ++ x ∷ []) k ≡ x
+pub at-last : (xs : List ℕ) (x k : ℕ) → k ≡ length xs → slice_index (xs ++ x ∷ []) k ≡ x
 at-last xs x k e = grind (arith, elements)
 
 pub one-more-place : (contexts : List Context) (xs : List ℕ) (x n : ℕ) → (length xs ≡ n) × ((k : ℕ) → k < n → slice_index xs k ≡ (context_at contexts k).place)

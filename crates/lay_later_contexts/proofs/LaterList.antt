@@ -15,8 +15,9 @@ use Rattle.lay_contexts.specs.declared.context_spot.ContextSpot.{ContextSpot}
 use Rattle.lay_later_contexts.specs.Building.{AreBuiltTo, IsBuilt}
 use Rattle.lay_later_contexts.specs.Links.{AreRestyled, HasLinks, is_made}
 use Rattle.lay_later_contexts.specs.Reach.{ArePlacesOf}
+use Rattle.lay_later_contexts.specs.Rebuilt.{SameBoxes}
 use Rattle.lay_later_contexts.specs.Unstyled.{Unstyled, all_unstyled, unstyled}
-use Rattle.lay_later_contexts.proofs.SameBoxes.{SameBoxes, same-context, turned}
+use Rattle.lay_later_contexts.proofs.SameBoxes.{same-context, turned}
 
 -- what a column of boxes has without their styles
 through : {X : Type 0} (f : Unstyled → X) (xs : List BoxNode) → map (λ b. f (unstyled b)) xs ≡ map f (all_unstyled xs)
@@ -102,10 +103,10 @@ module _ (d e : Document) (ss ts : List Style) (contexts : List Context) (of : A
   }
 
 pub restyled-are : (contexts : List Context) (nodes : List Node) (styles : List Style) (places : List ℕ) (items : List Context) (made : List Bool)
-    → AreBuiltTo contexts nodes styles places items made (length contexts) → AreRestyled contexts items made
-restyled-are contexts nodes styles places items made built = record {
+    → length made ≡ length contexts → AreBuiltTo contexts nodes styles places items made (length contexts) → AreRestyled contexts items made
+restyled-are contexts nodes styles places items made flags built = record {
   count = built.count;
-  flags = built.flags;
+  flags = flags;
   links = λ i lt. (built.each i lt).links;
   kept = λ i lt e. (built.each i lt).kept e;
 }
@@ -117,25 +118,15 @@ before-last cs c k lt = grind (arith, elements)
 the-last : (cs : List Context) (c : Context) (k : ℕ) → k ≡ length cs → context_at (cs ++ c ∷ []) k ≡ c
 the-last cs c k e = grind (arith, elements)
 
-flag-before : (bs : List Bool) (b : Bool) (k : ℕ) → k < length bs → is_made (bs ++ b ∷ []) k ≡ is_made bs k
-flag-before bs b k lt = grind (arith, elements)
-
-flag-last : (bs : List Bool) (b : Bool) (k : ℕ) → k ≡ length bs → is_made (bs ++ b ∷ []) k ≡ b
-flag-last bs b k e = grind (arith, elements)
-
-pub one-more : (contexts : List Context) (nodes : List Node) (styles : List Style) (places : List ℕ) (items : List Context) (made : List Bool) (c : Context) (b : Bool) (n : ℕ)
-    → AreBuiltTo contexts nodes styles places items made n → IsBuilt contexts nodes styles places c b n
-    → AreBuiltTo contexts nodes styles places (items ++ c ∷ []) (made ++ b ∷ []) (n + 1)
-one-more contexts nodes styles places items made c b n built is = record {
+pub one-more : (contexts : List Context) (nodes : List Node) (styles : List Style) (places : List ℕ) (items : List Context) (made : List Bool) (c : Context) (n : ℕ)
+    → AreBuiltTo contexts nodes styles places items made n → IsBuilt contexts nodes styles places c (is_made made n) n
+    → AreBuiltTo contexts nodes styles places (items ++ c ∷ []) made (n + 1)
+one-more contexts nodes styles places items made c n built is = record {
   count = grind (arith, elements, built.count);
-  flags = grind (arith, elements, built.flags);
   each = λ i lt. elim (cases_lt i n) [
-    | inl low ↦ (let e = before-last items c i (omega (arith, low, built.count)) in
-        let f = flag-before made b i (omega (arith, low, built.flags)) in
-        rw (e, f) (built.each i low))
+    | inl low ↦ (let e = before-last items c i (omega (arith, low, built.count)) in rw e (built.each i low))
     | inr high ↦ (let z : i ≡ n = omega (arith, lt, high) in
         let e = the-last items c i (omega (arith, z, built.count)) in
-        let f = flag-last made b i (omega (arith, z, built.flags)) in
-        rw (e, f, z) is)
+        rw (e, z) is)
   ];
 }

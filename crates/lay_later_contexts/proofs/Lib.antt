@@ -7,3 +7,8 @@ pub mod ElementPlaces
 pub mod Climbing
 pub mod UnstyledLists
 pub mod BuiltSteps
+pub mod Flags
+pub mod StayingNodes
+pub mod KeptStyles
+pub mod NearSteps
+pub mod RebuiltContexts

@@ -21,9 +21,10 @@ use Rattle.lay_own_nodes.proofs.EditedContexts.{restyled}
 use Rattle.lay_own_nodes.proofs.OwnList.{got}
 use Rattle.lay_own_nodes.proofs.SameTrees.{SameNode, same-style}
 use Rattle.lay_later_contexts.specs.Edited.{IsEdited}
-use Rattle.lay_later_contexts.specs.Reach.{AreAlike, IsAlike, IsChange, StaysSeen}
-use Rattle.lay_later_contexts.proofs.AlikeBoxes.{AlikeNode, AreTextsAlike, alike-of-same, no-box, same-box}
-use Rattle.lay_later_contexts.proofs.SameBoxes.{SameBoxes}
+use Rattle.lay_later_contexts.specs.Reach.{AreAlike, AreTextsAlike, IsAlike, IsChange, StaysSeen}
+use Rattle.lay_later_contexts.specs.Rebuilt.{SameBoxes}
+use Rattle.lay_later_contexts.proofs.AlikeBoxes.{AlikeNode, alike-of-same}
+use Rattle.lay_later_contexts.proofs.SameBoxes.{boxes-of-alike}
 
 pub record Restyling (d e : Document) (ss ts : List Style) (p : ℕ) : Type 0 where
   pub parents : parents_of e.nodes ≡ parents_of d.nodes
@@ -142,7 +143,7 @@ subject-there d (Insert parent index new) id none change = absurd change
 subject-there d (Remove node) id none change = absurd change
 subject-there d (Bad bad) id none change = absurd change
 
-same-alike : (s t : Style) → t ≡ s → IsAlike s t
+pub same-alike : (s t : Style) → t ≡ s → IsAlike s t
 same-alike s t e = record {
   display = ap (λ (x : Style). x.display) (sym e);
   position = ap (λ (x : Style). x.position) (sym e);
@@ -180,12 +181,4 @@ module _ (d e : Document) (ss ts : List Style) (p until : ℕ) (doc : IsDocument
   ]
 
   pub same-boxes : SameBoxes d.nodes e.nodes ss ts
-  same-boxes =
-      let count : length d.nodes ≡ length e.nodes = sym (length-parents d.nodes) ∙ (sym (ap length r.parents) ∙ length-parents e.nodes) in
-      record {
-        parents = r.parents;
-        box = λ k. elim (cases_lt k (length d.nodes)) [
-          | inl lt ↦ same-box d.nodes e.nodes ss ts k (alike-node k lt) (alike-at k lt)
-          | inr past ↦ no-box d.nodes e.nodes ss ts k count (λ lt. omega (arith, lt, past))
-        ];
-      }
+  same-boxes = boxes-of-alike d.nodes e.nodes ss ts r.parents alike-node alike-at

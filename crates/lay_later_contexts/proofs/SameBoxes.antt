@@ -14,10 +14,9 @@ use Rattle.lay_contexts.proofs.OneStand.{there}
 use Rattle.lay_contexts.proofs.OwnBoxes.{own_nodes_decide}
 use Rattle.lay_own_nodes.proofs.OwnList.{are-own, own_nodes, own_places}
 use Rattle.lay_own_nodes.proofs.SameTrees.{SameNode}
-
-pub record SameBoxes (ns ms : List Node) (ss ts : List Style) : Type 0 where
-  pub parents : parents_of ms ≡ parents_of ns
-  pub box : (k : ℕ) → box_at ms ts k ≡ box_at ns ss k
+use Rattle.lay_later_contexts.specs.Rebuilt.{SameBoxes}
+use Rattle.lay_later_contexts.specs.Reach.{IsAlike}
+use Rattle.lay_later_contexts.proofs.AlikeBoxes.{AlikeNode, no-box, same-box}
 
 pub turned : (ns ms : List Node) (ss ts : List Style) → SameBoxes ns ms ss ts → SameBoxes ms ns ts ss
 turned ns ms ss ts same = record { parents = sym same.parents; box = λ k. sym (same.box k) }
@@ -46,6 +45,19 @@ module _ (ns ms : List Node) (ss ts : List Style) (same : SameBoxes ns ms ss ts)
 
   pub same-context : (k : ℕ) → IsContextAt ns ss k → IsContextAt ms ts k
   same-context k c = record { establishes = subst IsTrue (sym (ap is_marked (same.box k))) c.establishes; generates = same-generation k c.generates }
+
+-- nodes that are alike generate the same boxes by themselves
+pub boxes-of-alike : (ns ms : List Node) (ss ts : List Style) → parents_of ms ≡ parents_of ns → ((k : ℕ) → k < length ns → AlikeNode ns ms k)
+    → ((k : ℕ) → k < length ns → IsAlike (style_at ss k) (style_at ts k)) → SameBoxes ns ms ss ts
+boxes-of-alike ns ms ss ts parents node alike =
+    let count : length ns ≡ length ms = sym (length-parents ns) ∙ (sym (ap length parents) ∙ length-parents ms) in
+    record {
+      parents = parents;
+      box = λ k. elim (cases_lt k (length ns)) [
+        | inl lt ↦ same-box ns ms ss ts k (node k lt) (alike k lt)
+        | inr past ↦ no-box ns ms ss ts k count (λ lt. omega (arith, lt, past))
+      ];
+    }
 
 -- a node that keeps its content and its style
 pub record Stays (ns ms : List Node) (ss ts : List Style) (k : ℕ) : Type 0 where

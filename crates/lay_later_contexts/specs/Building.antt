@@ -14,5 +14,4 @@ pub record IsBuilt (contexts : List Context) (nodes : List Node) (styles : List 
 
 pub record AreBuiltTo (contexts : List Context) (nodes : List Node) (styles : List Style) (places : List ℕ) (items : List Context) (made : List Bool) (n : ℕ) : Type 0 where
   pub count : length items ≡ n
-  pub flags : length made ≡ n
   pub each : (i : ℕ) → i < n → IsBuilt contexts nodes styles places (context_at items i) (is_made made i) i

@@ -3,3 +3,7 @@ pub mod Links
 pub mod Edited
 pub mod Reach
 pub mod Building
+pub mod Marks
+pub mod Changed
+pub mod Near
+pub mod Rebuilt

@@ -1,6 +1,6 @@
 -- What an edit of the declarations or the text of one node reaches: this node and those below it, whose styles come of its (CSS 2.2, 6.2),
 -- and so the boxes of the contexts that have one of these nodes among their own (9.4.1): theirs, and the nearest one around the first.
-use Rattle.std.specs.Prelude.{ℕ, ⊤, ◌≡◌, ◌<◌, ◌≤◌, ◌⊎◌, false, List, length, slice_get, slice_index, Some}
+use Rattle.std.specs.Prelude.{ℕ, ⊤, ◌≡◌, ◌<◌, ◌≤◌, ◌⊎◌, Bool, false, List, length, slice_get, slice_index, Some}
 use Rattle.std.specs.List.{list_all}
 use Rattle.lay_style.specs.declared.style.Style.{Style}
 use Rattle.lay_style.specs.ComputedStyle.{style_at}
@@ -14,6 +14,7 @@ use Rattle.lay_boxgen.specs.WhiteSpace.{is_white_byte}
 use Rattle.lay_contexts.specs.ContextTree.{IsAround}
 use Rattle.lay_contexts.specs.Contexts.{Context, context_at}
 use Rattle.lay_later_contexts.specs.declared.reach.Reach.{Reach}
+use Rattle.lay_later_contexts.specs.Links.{is_made}
 
 -- the edit changes declarations or the text of the node with this id, and no other node
 abbrev pub IsChange : Edit → ℕ → Type 0
@@ -37,6 +38,11 @@ pub record IsReach (nodes : List Node) (styles : List Style) (places : List ℕ)
 abbrev pub IsReachedContext : Reach → (i place : ℕ) → Type 0
 IsReachedContext r i place = (r.around ≡ Some i) ⊎ ((r.from ≤ place) × (place < r.until))
 
+-- of the first n contexts, those without a flag aren't reached
+pub record AreReachFlags (r : Reach) (places : List ℕ) (flags : List Bool) (n : ℕ) : Type 0 where
+  pub count : length flags ≡ n
+  pub each : (i : ℕ) → i < n → is_made flags i ≡ false → IsReachedContext r i (slice_index places i) → ⊥
+
 -- The parts of a style by which box generation goes: the used `display` (9.7), the flow, what establishes a context (9.4.1), and whether
 -- white space collapses (16.6.1). Of `position` the boxes that hold absolutely positioned ones (10.1) come too.
 pub record IsAlike (s t : Style) : Type 0 where
@@ -57,6 +63,10 @@ IsSeen text = list_all is_white_byte text ≡ false
 -- so has the text of the node at a place
 abbrev pub IsSeenAt : List Node → ℕ → Type 0
 IsSeenAt nodes place = (n : Node) → slice_get nodes place ≡ Some n → IsSeen n.text
+
+-- texts that are one, or of which a box is generated whatever the style is
+abbrev pub AreTextsAlike : List ℕ → List ℕ → Type 0
+AreTextsAlike xs ys = (xs ≡ ys) ⊎ (IsSeen xs × IsSeen ys)
 
 -- if the edit changes the text of the node at a place, it has such a text before it and after it
 abbrev pub StaysSeen : Edit → List Node → ℕ → Type 0

@@ -36,7 +36,7 @@ fn same_white_space(a: WhiteSpace, b: WhiteSpace) -> bool
 }
 
 /// Whether two styles are alike.
-fn is_alike(a: &Style, b: &Style) -> bool
+pub(crate) fn is_alike(a: &Style, b: &Style) -> bool
     ensures { IsTrue result → IsAlike a.now b.now }
 {
     same_display(a.display, b.display)

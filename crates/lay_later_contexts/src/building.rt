@@ -2,21 +2,64 @@
 
 ghost use Rattle.std.specs.Prelude.{◌≡◌, ◌<◌, false, IfOk, IfSome, length};
 ghost use Rattle.lay_boxgen.specs.Contexts.{IsContextAt};
+ghost use Rattle.lay_contexts.specs.ContextList.{AreContextsOf};
 ghost use Rattle.lay_contexts.specs.ContextTree.{boxes_of_place};
+ghost use Rattle.lay_later_contexts.specs.Links.{AreRestyled};
+ghost use Rattle.lay_later_contexts.specs.Rebuilt.{AreRebuilt};
 ghost use Rattle.lay_later_contexts.specs.Unstyled.{all_unstyled};
 
-use crate::edited_doc::EditedDoc;
+use crate::doc_pair::DocPair;
 use crate::unstyled::are_unstyled_same;
 use lay_box_tree::ContextBoxes;
 use lay_boxgen::boxes;
-use lay_contexts::{Context, ContextSpot};
+use lay_contexts::{Context, ContextSpot, Contexts};
 use lay_units::NoMemory;
 use std::alloc::Global;
 
-/// The boxes of a context after an edit, whose element is at this place: made anew, or shared. None where more than styles and texts differ.
-pub(crate) fn boxes_after(
+/// The contexts of a document after edits. Where it is known that just some of their boxes were made anew, and that all else of them is
+/// as before, also which.
+#[derive(Drop)]
+pub struct LaterContexts {
+    pub contexts: Contexts,
+    pub made: Option<Vec<bool>>,
+}
+
+/// The contexts of a later document, of which those with such a flag have their boxes made anew. None where more than styles and texts
+/// differ.
+pub(crate) fn built(
     alloc: Global,
-    of: &EditedDoc<'_>,
+    of: &DocPair<'_>,
+    before: &Contexts,
+    places: &[usize],
+    reached: Vec<bool>,
+) -> Result<Option<LaterContexts>, NoMemory>
+    requires styles { length of.now.was.now ≡ length of.now.doc.now.nodes }
+    requires later_styles { length of.now.styles.now ≡ length of.now.later.now.nodes }
+    requires before { AreContextsOf of.now.doc.now.nodes of.now.was.now before.now }
+    requires rebuilt { AreRebuilt of.now.doc.now.nodes of.now.later.now.nodes of.now.was.now of.now.styles.now before.now places.now reached.items }
+    ensures are { IfOk result (λ o. IfSome o (λ l. AreContextsOf of.now.later.now.nodes of.now.styles.now l.contexts)) }
+    ensures made { IfOk result (λ o. IfSome o (λ l. IfSome l.made (λ v. AreRestyled before.now l.contexts v.items))) }
+{
+    let _ = of.doc.nodes();
+    let _ = of.later.nodes();
+    let mut items = Vec::with_capacity(alloc, before.len())?;
+    for i in 0..before.len() {
+        let Some(boxes) = boxes_after(alloc, of, before.at(i), places[i], reached[i])? else {
+            return Ok(None);
+        };
+        let context = context_with(alloc, before.at(i), places[i], boxes)?;
+        items.push(context)?;
+    }
+    Ok(Some(LaterContexts {
+        contexts: Contexts::new(items),
+        made: Some(reached),
+    }))
+}
+
+/// The boxes of a context after an edit, whose element is at this place: made anew, or shared. None where more than styles and texts differ.
+fn boxes_after(
+    alloc: Global,
+    of: &DocPair<'_>,
     context: &Context,
     place: usize,
     is_made: bool,
@@ -41,7 +84,7 @@ pub(crate) fn boxes_after(
 }
 
 /// A context that stands where another one does, at this place, with other boxes.
-pub(crate) fn context_with(
+fn context_with(
     alloc: Global,
     context: &Context,
     place: usize,

@@ -4,26 +4,19 @@ ghost use Rattle.std.specs.Prelude.{IfOk, IfSome};
 ghost use Rattle.lay_contexts.specs.ContextList.{AreContextsOf};
 ghost use Rattle.lay_later_contexts.specs.Edited.{IsEdited};
 ghost use Rattle.lay_later_contexts.specs.Links.{AreRestyled};
-ghost use Rattle.lay_later_contexts.specs.Reach.{ArePlacesOf, IsChange, IsRestyled};
+ghost use Rattle.lay_later_contexts.specs.Reach.{IsChange};
 
 use crate::alike::are_alike;
-use crate::building::{boxes_after, context_with};
+use crate::building::{LaterContexts, built};
+use crate::doc_pair::DocPair;
 use crate::edited_doc::EditedDoc;
 use crate::places::places_of;
-use crate::reach::{Reach, changed_node, is_reached, reach_of};
+use crate::reach::{changed_node, reach_of, reached_flags};
 use crate::texts::stays_seen;
-use lay_contexts::{Context, Contexts, contexts_of};
+use lay_contexts::{Contexts, contexts_of};
 use lay_doc::NodeId;
 use lay_units::NoMemory;
 use std::alloc::Global;
-
-/// The contexts of a document after an edit. Where it is known that just some of their boxes were made anew, and that all else of them is
-/// as before, also which.
-#[derive(Drop)]
-pub struct LaterContexts {
-    pub contexts: Contexts,
-    pub made: Option<Vec<bool>>,
-}
 
 /// The contexts of a document after an edit, where these are those before it.
 pub fn contexts_after(
@@ -64,7 +57,13 @@ fn restyled_contexts(
 {
     let _ = of.doc.nodes();
     let _ = of.later.nodes();
-    let places = places_of(alloc, of, before)?;
+    let pair = DocPair {
+        doc: of.doc,
+        was: of.was,
+        later: of.later,
+        styles: of.styles,
+    };
+    let places = places_of(alloc, &pair, before)?;
     let reach = reach_of(of, &places, node);
     if !are_alike(
         of.was.as_slice(),
@@ -77,39 +76,6 @@ fn restyled_contexts(
     if !stays_seen(of, reach.from) {
         return Ok(None);
     }
-    built(alloc, of, before, &places, reach)
-}
-
-/// The contexts, of which those that are reached have their boxes made anew.
-fn built(
-    alloc: Global,
-    of: &EditedDoc<'_>,
-    before: &Contexts,
-    places: &[usize],
-    reach: Reach,
-) -> Result<Option<LaterContexts>, NoMemory>
-    requires edited { IsEdited of.now.doc.now of.now.was.now of.now.edit.now of.now.later.now of.now.styles.now }
-    requires before { AreContextsOf of.now.doc.now.nodes of.now.was.now before.now }
-    requires places { ArePlacesOf before.now places.now }
-    requires reach { IsRestyled of.now.doc.now of.now.was.now of.now.edit.now of.now.styles.now places.now reach }
-    ensures are { IfOk result (λ o. IfSome o (λ l. AreContextsOf of.now.later.now.nodes of.now.styles.now l.contexts)) }
-    ensures made { IfOk result (λ o. IfSome o (λ l. IfSome l.made (λ v. AreRestyled before.now l.contexts v.items))) }
-{
-    let _ = of.doc.nodes();
-    let _ = of.later.nodes();
-    let mut items = Vec::with_capacity(alloc, before.len())?;
-    let mut made = Vec::with_capacity(alloc, before.len())?;
-    for i in 0..before.len() {
-        let is_made = is_reached(reach, i, places[i]);
-        let Some(boxes) = boxes_after(alloc, of, before.at(i), places[i], is_made)? else {
-            return Ok(None);
-        };
-        let context = context_with(alloc, before.at(i), places[i], boxes)?;
-        items.push(context)?;
-        made.push(is_made)?;
-    }
-    Ok(Some(LaterContexts {
-        contexts: Contexts::new(items),
-        made: Some(made),
-    }))
+    let reached = reached_flags(alloc, reach, &places)?;
+    built(alloc, &pair, before, &places, reached)
 }

@@ -4,10 +4,9 @@ ghost use Rattle.std.specs.Prelude.{ℕ, ◌≡◌, ◌<◌, ◌≤◌, IfNone, 
 ghost use Rattle.lay_boxgen.specs.ContextWalk.{Rise};
 ghost use Rattle.lay_contexts.specs.ContextList.{AreContextsOf};
 ghost use Rattle.lay_contexts.specs.Contexts.{context_at};
-ghost use Rattle.lay_later_contexts.specs.Edited.{IsEdited};
 ghost use Rattle.lay_later_contexts.specs.Reach.{ArePlacesOf};
 
-use crate::edited_doc::EditedDoc;
+use crate::doc_pair::DocPair;
 use lay_contexts::Contexts;
 use lay_units::NoMemory;
 use std::alloc::Global;
@@ -15,10 +14,10 @@ use std::alloc::Global;
 /// The places of the elements of the contexts before an edit.
 pub(crate) fn places_of(
     alloc: Global,
-    of: &EditedDoc<'_>,
+    of: &DocPair<'_>,
     before: &Contexts,
 ) -> Result<Vec<usize>, NoMemory>
-    requires edited { IsEdited of.now.doc.now of.now.was.now of.now.edit.now of.now.later.now of.now.styles.now }
+    requires styles { length of.now.was.now ≡ length of.now.doc.now.nodes }
     requires before { AreContextsOf of.now.doc.now.nodes of.now.was.now before.now }
     ensures { IfOk result (λ v. ArePlacesOf before.now v.items) }
 {
@@ -30,8 +29,8 @@ pub(crate) fn places_of(
 }
 
 /// The place of the element of the context with the number i. Its box stands in the context around it, and has its id.
-fn place_of(of: &EditedDoc<'_>, before: &Contexts, i: usize) -> usize
-    requires edited { IsEdited of.now.doc.now of.now.was.now of.now.edit.now of.now.later.now of.now.styles.now }
+fn place_of(of: &DocPair<'_>, before: &Contexts, i: usize) -> usize
+    requires styles { length of.now.was.now ≡ length of.now.doc.now.nodes }
     requires before { AreContextsOf of.now.doc.now.nodes of.now.was.now before.now }
     requires within { i < length before.now }
     ensures { result ≡ (context_at before.now i).place }

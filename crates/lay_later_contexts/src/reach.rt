@@ -1,15 +1,17 @@
 //! What an edit of the declarations or the text of one node reaches.
 
-ghost use Rattle.std.specs.Prelude.{ℕ, ◌≡◌, ◌<◌, ◌↔◌, IfSome, IsSome, IsTrue, Some, length, slice_index};
+ghost use Rattle.std.specs.Prelude.{ℕ, ◌≡◌, ◌<◌, ◌↔◌, IfOk, IfSome, IsSome, IsTrue, Some, length, slice_index};
 ghost use Rattle.lay_style.specs.Places.{place_of};
 ghost use Rattle.lay_doc.specs.Document.{ids_of};
 ghost use Rattle.lay_contexts.specs.ContextTree.{IsAround};
 ghost use Rattle.lay_contexts.specs.ListedContexts.{AreContextPlaces};
-ghost use Rattle.lay_later_contexts.specs.Reach.{IsChange, IsReach, IsReachedContext};
+ghost use Rattle.lay_later_contexts.specs.Reach.{AreReachFlags, IsChange, IsReach, IsReachedContext};
 
 use crate::edited_doc::EditedDoc;
 use crate::places::number_at;
-use lay_doc::{Doc, Edit, NodeId};
+use lay_doc::{Edit, NodeId};
+use lay_units::NoMemory;
+use std::alloc::Global;
 
 /// Nodes beside each other, from the place `from` up to `until`, and the number of the context around them.
 #[derive(Clone, Copy)]
@@ -67,8 +69,23 @@ fn number_around(of: &EditedDoc<'_>, places: &[usize], place: usize) -> Option<u
     None
 }
 
+/// For each context, by these places, whether it is reached.
+pub(crate) fn reached_flags(
+    alloc: Global,
+    reach: Reach,
+    places: &[usize],
+) -> Result<Vec<bool>, NoMemory>
+    ensures { IfOk result (λ v. AreReachFlags reach places.now v.items (length places.now)) }
+{
+    let mut flags = Vec::with_capacity(alloc, places.len())?;
+    for i in 0..places.len() {
+        flags.push(is_reached(reach, i, places[i]))?;
+    }
+    Ok(flags)
+}
+
 /// Whether the context with the number i and its element at this place is reached.
-pub(crate) fn is_reached(reach: Reach, i: usize, place: usize) -> bool
+fn is_reached(reach: Reach, i: usize, place: usize) -> bool
     ensures { IsTrue result ↔ IsReachedContext reach i place }
 {
     if let Some(around) = reach.around {

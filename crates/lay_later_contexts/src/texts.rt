@@ -17,7 +17,7 @@ fn is_white(bytes: &[u8]) -> bool
 }
 
 /// Whether a text has more than white space.
-fn is_seen(text: &str) -> bool
+pub(crate) fn is_seen(text: &str) -> bool
     ensures { IsTrue result → IsSeen text.now }
 {
     !is_white(text.as_bytes())

@@ -11,6 +11,10 @@ use Rattle.lay_sheet.specs.declared.plain.Place.TheVariants.{Outside, Escape, In
 abbrev pub is_mark : ℕ → Bool
 is_mark b = (b == 34) || (b == 39)
 
+-- what may begin a string, an escape or a comment
+abbrev pub may_open : ℕ → Bool
+may_open b = is_mark b || (b == 92) || (b == 47)
+
 abbrev pub begins_with : ℕ → List ℕ → Bool
 begins_with c [] = false
 begins_with c (b ∷ bs) = b == c

@@ -11,7 +11,7 @@ ghost use Rattle.lay_sheet.specs.Pieces.{block_to, behind_block};
 use crate::pieces::{behind_first, split_before, split_part, trimmed};
 use lay_style::Decl;
 use lay_units::NoMemory;
-use lay_values::read;
+use lay_values::{read, read_bytes};
 use std::alloc::Global;
 use std::str::from_utf8;
 
@@ -69,9 +69,6 @@ fn is_lower(text: &[u8]) -> bool
 fn decl_of(alloc: Global, name: &str, value: &str) -> Result<Option<Decl>, NoMemory>
     ensures { IfOk result (λ d. d ≡ result_ok (read_declaration (map to_ascii_lowercase name.now) value.now)) }
 {
-    if is_lower(name.as_bytes()) {
-        return Ok(read(alloc, name, value).ok());
-    }
     let name = name.to_ascii_lowercase(alloc)?;
     Ok(read(alloc, name.as_str(), value).ok())
 }
@@ -86,8 +83,8 @@ fn text_of(bytes: &[u8]) -> Option<&str>
     }
 }
 
-/// The declaration of a name and a value.
-fn named(
+/// The declaration of a name in any case and a value.
+fn named_in_any_case(
     alloc: Global,
     important: bool,
     name: &[u8],
@@ -105,6 +102,25 @@ fn named(
         Some(decl) => Ok(Some(SheetDecl { decl, important })),
         None => Ok(None),
     }
+}
+
+/// The declaration of a name and a value.
+fn named(
+    alloc: Global,
+    important: bool,
+    name: &[u8],
+    value: &[u8],
+) -> Result<Option<SheetDecl>, NoMemory>
+    ensures { IfOk result (λ d. d ≡ named important name.now value.now) }
+{
+    // Most names have no capital, and what is read then is UTF-8.
+    if let Some(decl) = read_bytes(name, value) {
+        return Ok(Some(SheetDecl { decl, important }));
+    }
+    if is_lower(name) {
+        return Ok(None);
+    }
+    named_in_any_case(alloc, important, name, value)
 }
 
 fn weighed(alloc: Global, name: &[u8], value: &[u8]) -> Result<Option<SheetDecl>, NoMemory>

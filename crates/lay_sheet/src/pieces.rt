@@ -5,6 +5,8 @@ ghost use Rattle.lay_values.specs.Numbers.{leading, behind};
 ghost use Rattle.lay_values.specs.Reading.{trimmed};
 ghost use Rattle.lay_sheet.specs.Pieces.{is_other, block_to, behind_block, behind_at_rule, part_to, behind_part};
 
+use memchr::memchr3;
+
 /// A text without the white space at both its ends.
 pub(crate) fn trimmed(text: &[u8]) -> &[u8]
     ensures { result.now ≡ trimmed text.now }
@@ -78,6 +80,29 @@ pub(crate) struct Part<'a> {
 
 /// The first part of the block that a text begins in, up to the first `;` outside inner braces.
 pub(crate) fn split_part(text: &[u8]) -> Part<'_>
+    ensures part { result.text.now ≡ part_to 0 (block_to 0 text.now) }
+    ensures last { result.is_last ≡ true → (behind_part 0 (block_to 0 text.now) ≡ []) × (result.rest.now ≡ behind_block 0 text.now) }
+    ensures more { result.is_last ≡ false → (behind_part 0 (block_to 0 text.now) ≡ block_to 0 result.rest.now)
+        × (behind_block 0 text.now ≡ behind_block 0 result.rest.now) × (0 < length (block_to 0 text.now)) }
+    ensures shorter { length result.rest.now ≤ length text.now }
+    ensures shorter_more { result.is_last ≡ false → length result.rest.now < length text.now }
+{
+    let Some(end) = memchr3(b'{', b'}', b';', text) else {
+        return split_nested(text);
+    };
+    // Braces in a block are rare.
+    if text[end] == b'{' {
+        return split_nested(text);
+    }
+    Part {
+        text: &text[..end],
+        rest: &text[end + 1..],
+        is_last: text[end] == b'}',
+    }
+}
+
+/// The same, where inner braces may stand: they are counted.
+fn split_nested(text: &[u8]) -> Part<'_>
     ensures part { result.text.now ≡ part_to 0 (block_to 0 text.now) }
     ensures last { result.is_last ≡ true → (behind_part 0 (block_to 0 text.now) ≡ []) × (result.rest.now ≡ behind_block 0 text.now) }
     ensures more { result.is_last ≡ false → (behind_part 0 (block_to 0 text.now) ≡ block_to 0 result.rest.now)

@@ -1,11 +1,15 @@
 //! What is seen of a sheet's text.
 
-ghost use Rattle.std.specs.Prelude.{◌≡◌, ◌≤◌, ◌==◌, ◌||◌, [], ◌++◌, IfOk, OnOk, length};
+ghost use Rattle.std.specs.Prelude.{◌≡◌, ◌≤◌, ◌<◌, ℕ, false, [], ◌++◌, IfOk, OnOk, length, slice_index};
 ghost use Rattle.lay_sheet.specs.Lists.{with_found};
-ghost use Rattle.lay_sheet.specs.PlainText.{is_mark, begins_with, opens_comment, ends_comment, place_behind, seen_of, plain_from, plain_text};
+ghost use Rattle.lay_sheet.specs.PlainText.{is_mark, may_open, begins_with, opens_comment, ends_comment, place_behind, seen_of, plain_from, plain_text};
 
 use lay_units::NoMemory;
+use memchr::{memchr, memchr3};
 use std::alloc::Global;
+
+/// How much of a text is looked at together.
+const WINDOW: usize = 128;
 
 /// Where a byte stands in a sheet's text.
 #[derive(Clone, Copy)]
@@ -79,25 +83,23 @@ fn seen_of(place: Place, byte: u8, rest: &[u8]) -> Option<u8>
     }
 }
 
-/// Whether a byte may begin a string, an escape or a comment.
-fn may_open(byte: u8) -> bool
-    ensures { result ≡ (is_mark byte || (byte == 92) || (byte == 47)) }
+/// How many bytes of a text begin nothing else; all of them are seen.
+fn run_length(text: &[u8]) -> usize
+    ensures bound { result ≤ length text.now }
+    ensures seen { (k : ℕ) → k < result → may_open (slice_index text.now k) ≡ false }
 {
-    // Letters are told by the first comparison.
-    byte <= b'\\' && (byte == b'\\' || byte == b'/' || is_mark(byte))
+    let end = memchr3(b'"', b'\'', b'\\', text).unwrap_or(text.len());
+    memchr(b'/', &text[..end]).unwrap_or(end)
 }
 
-/// What a text begins with up to the first byte that may begin anything else, all of which is seen, and what stands behind it.
+/// What a text begins with, of which all is seen, and what stands behind it.
 fn split_run(text: &[u8]) -> (&[u8], &[u8])
     ensures seen { plain_text text.now ≡ result.0.now ++ plain_text result.1.now }
     ensures shorter { length result.1.now ≤ length text.now }
 {
-    for (i, b) in text.iter().enumerate() {
-        if may_open(*b) {
-            return text.split_at(i);
-        }
-    }
-    text.split_at(text.len())
+    // No further than that, so that a byte is looked at a few times at most where there are many marks of one kind alone.
+    let window = &text[..text.len().min(WINDOW)];
+    text.split_at(run_length(window))
 }
 
 /// Adds what is seen of a text as it stands, in one copy, and answers what is behind it.

@@ -12,7 +12,7 @@ use Rattle.lay_values.specs.Lengths.{suffix_name, all_suffixes, suffix_of, value
 use Rattle.lay_values.specs.Reading.{is_of_number, measure_of}
 use Rattle.lay_values.proofs.Digits.{leading_digits-are}
 
-joined : (kind : ℕ → Bool) (xs : List ℕ) → leading kind xs ++ behind kind xs ≡ xs
+pub joined : (kind : ℕ → Bool) (xs : List ℕ) → leading kind xs ++ behind kind xs ≡ xs
 joined kind [] = refl
 joined kind (x ∷ xs) = grind (arith, common_steps, joined kind xs)
 

@@ -40,3 +40,8 @@ pub find-begun : {X : Type 0} (name : X → List ℕ) (text : List ℕ) (xs : Li
     find (λ x. str_eq_ignore_ascii_case (name x) text) (filter (λ x. first_letter (name x) == first_letter text) xs) ≡ find (λ x. str_eq_ignore_ascii_case (name x) text) xs
 find-begun name text xs =
     find-kept (λ x. str_eq_ignore_ascii_case (name x) text) (λ x. first_letter (name x) == first_letter text) (λ x. same-letter (name x) text) xs
+
+-- what is spelled as it is written is so in any case too
+pub same_spelled : (xs ys : List ℕ) → bytes_eq xs ys ≡ true → str_eq_ignore_ascii_case xs ys ≡ true
+same_spelled xs ys same =
+    (bytes_eq-Decides (map to_ascii_lowercase xs) (map to_ascii_lowercase ys)).1 (ap (map to_ascii_lowercase) ((bytes_eq-Decides xs ys).0 same))

@@ -11,7 +11,7 @@ use Rattle.lay_style.specs.declared.property.Word.TheVariants as word
 use Rattle.lay_values.specs.Names.{name_of, all_properties, property_of}
 use Rattle.lay_values.specs.Words.{word_name, all_words, word_of}
 
-find-passes : {X : Type 0} (test : X → Bool) (xs : List X) (x : X) → find test xs ≡ Some x → test x ≡ true
+pub find-passes : {X : Type 0} (test : X → Bool) (xs : List X) (x : X) → find test xs ≡ Some x → test x ≡ true
 find-passes test [] x found = grind (arith, common_steps)
 find-passes test (y ∷ ys) x found = grind (arith, common_steps, find-passes test ys x)
 

@@ -1,6 +1,8 @@
 //! Properties by their names.
 
-ghost use Rattle.std.specs.Prelude.{◌≡◌};
+ghost use Rattle.std.specs.Prelude.{◌≡◌, true, IfSome, map};
+ghost use Rattle.std.specs.Str.{is_utf8};
+ghost use Rattle.std.specs.Char.{to_ascii_lowercase};
 ghost use Rattle.lay_values.specs.Names.{name_of, of_length, property_of};
 
 use lay_style::Property;
@@ -114,15 +116,25 @@ fn of_length(length: usize) -> &'static [Property]
     }
 }
 
-/// The property that has just this name.
-pub fn property_of(name: &str) -> Option<Property>
-    ensures { result ≡ property_of name.now }
+/// The property that has just this name, in bytes: those are UTF-8 then, without capitals.
+#[tactic(auto, using(crate::proofs::Ascii::property_same))]
+pub(crate) fn property_named(name: &[u8]) -> Option<Property>
+    ensures property { result ≡ property_of name.now }
+    ensures utf8 { IfSome result (λ _. is_utf8 name.now ≡ true) }
+    ensures small { IfSome result (λ _. map to_ascii_lowercase name.now ≡ name.now) }
 {
     let named = of_length(name.len());
     for property in named {
-        if name_of(*property) == name {
+        if name_of(*property).as_bytes() == name {
             return Some(*property);
         }
     }
     None
+}
+
+/// The property that has just this name.
+pub fn property_of(name: &str) -> Option<Property>
+    ensures { result ≡ property_of name.now }
+{
+    property_named(name.as_bytes())
 }

@@ -16,7 +16,7 @@ pub struct Decimal {
 }
 
 /// The digits that a text begins with, and what stands behind them.
-fn split_digits(text: &[u8]) -> (&[u8], &[u8])
+pub(crate) fn split_digits(text: &[u8]) -> (&[u8], &[u8])
     ensures digits { result.0.now ≡ leading is_digit text.now }
     ensures rest { result.1.now ≡ behind is_digit text.now }
 {
@@ -43,6 +43,28 @@ fn with_digit(value: u128, digit: u8) -> u128
     10 * value + u128::from(digit - b'0')
 }
 
+/// The same, of few digits.
+fn with_next(value: u64, digit: u8) -> u64
+    requires digit { is_digit digit ≡ true }
+    requires small { value < 10 ^ 9 }
+    ensures { result ≡ 10 * value + (digit - 48) }
+{
+    10 * value + u64::from(digit - b'0')
+}
+
+/// The number that up to nine digits spell.
+fn whole_value(digits: &[u8]) -> u64
+    requires digits { list_all is_digit digits.now ≡ true }
+    requires few { length digits.now ≤ 9 }
+    ensures { result ≡ value_after 0 digits.now }
+{
+    let mut value: u64 = 0;
+    for digit in digits {
+        value = with_next(value, *digit);
+    }
+    value
+}
+
 /// The number that digits spell, when this value stands before them.
 fn value_after(value: u128, digits: &[u8]) -> u128
     requires digits { list_all is_digit digits.now ≡ true }
@@ -65,11 +87,11 @@ fn value_of(whole: &[u8], fraction: &[u8]) -> u128
     ensures value { result ≡ value_after 0 (whole.now ++ fraction.now) }
     ensures small { result < 10 ^ (9 + length fraction.now) }
 {
-    value_after(value_after(0, whole), fraction)
+    value_after(whole_value(whole) as u128, fraction)
 }
 
 /// The number of digits alone.
-fn whole_number(whole: &[u8]) -> Option<Decimal>
+pub(crate) fn whole_number(whole: &[u8]) -> Option<Decimal>
     requires { list_all is_digit whole.now ≡ true }
     ensures value { result ≡ decimal_of whole.now [] }
     ensures short { IfSome result IsShort }
@@ -163,9 +185,9 @@ pub(crate) fn scaled(number: Decimal, numerator: u32, denominator: u32) -> i128
     requires denominator { denominator ≤ 10 ^ 3 }
     ensures { result ≡ scaled numerator denominator number }
 {
-    let divisor = denominator as u128 * 10u128.pow(number.places);
-    floor(
-        signed_product(number.negative, numerator, number.mantissa),
-        divisor,
-    )
+    let product = signed_product(number.negative, numerator, number.mantissa);
+    if number.places == 0 {
+        return floor(product, denominator as u128);
+    }
+    floor(product, denominator as u128 * 10u128.pow(number.places))
 }

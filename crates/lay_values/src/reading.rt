@@ -1,13 +1,16 @@
 //! The text of a property's value.
 
-ghost use Rattle.std.specs.Prelude.{◌≡◌};
+ghost use Rattle.std.specs.Prelude.{◌≡◌, [], true, false, IfSome, map, option_map};
+ghost use Rattle.std.specs.Str.{IsAscii, is_utf8};
+ghost use Rattle.std.specs.Char.{to_ascii_lowercase};
+ghost use Rattle.std.specs.Result.{result_ok};
 ghost use Rattle.lay_style.specs.declared.property.Property.TheVariants.{BorderSpacing};
-ghost use Rattle.lay_values.specs.Numbers.{leading, behind};
+ghost use Rattle.lay_values.specs.Numbers.{IsShort, leading, behind, number_of};
 ghost use Rattle.lay_values.specs.Reading.{without_front, trimmed, is_of_number, measure_of, one_length_of, spacing_of, spacings_of, is_of_word, numeric_of, begins_with_letter, value_of, declared_value, read_declaration};
 
 use crate::lengths::{suffix_of, value_with};
-use crate::names::property_of;
-use crate::numbers::number_of;
+use crate::names::{property_named, property_of};
+use crate::numbers::{Decimal, number_of, split_digits, whole_number};
 use crate::words::keyword_of;
 use lay_style::{Decl, Given, OneLength, Property};
 use std::alloc::Global;
@@ -30,9 +33,10 @@ fn without_front(text: &[u8]) -> &[u8]
 
 /// A text without the white space at both its ends.
 fn trimmed(text: &[u8]) -> &[u8]
-    ensures { result.now ≡ trimmed text.now }
+    ensures rest { result.now ≡ trimmed text.now }
+    ensures ascii { IsAscii result.now → IsAscii text.now }
 {
-    without_front(text).trim_ascii_end()
+    text.trim_ascii_start().trim_ascii_end()
 }
 
 fn is_of_number(byte: u8) -> bool
@@ -67,12 +71,37 @@ fn split_word(text: &[u8]) -> (&[u8], &[u8])
     text.split_at(text.len())
 }
 
+/// Whether a text goes on as a number.
+fn goes_on(text: &[u8]) -> bool
+    ensures { result ≡ false → (leading is_of_number text.now ≡ []) × (behind is_of_number text.now ≡ text.now) }
+{
+    match text {
+        [] => false,
+        [first, ..] => is_of_number(*first),
+    }
+}
+
+/// The number that the digits, signs and points at the front of a text are, and what stands behind them.
+#[tactic(auto, using(crate::proofs::Wholes::whole_number_is, crate::proofs::Wholes::digits_behind))]
+fn split_measure(text: &[u8]) -> Option<(Decimal, &[u8])>
+    ensures number { option_map (λ r. r.0) result ≡ number_of (leading is_of_number text.now) }
+    ensures short { IfSome result (λ r. IsShort r.0) }
+    ensures suffix { IfSome result (λ r. r.1.now ≡ behind is_of_number text.now) }
+{
+    let (digits, rest) = split_digits(text);
+    // Most numbers are digits alone.
+    if !goes_on(rest) {
+        return Some((whole_number(digits)?, rest));
+    }
+    let (number, suffix) = split_number(text);
+    Some((number_of(number)?, suffix))
+}
+
 /// A number, and then a unit, `%` or nothing.
 fn measure_of(property: Property, text: &[u8]) -> Option<Given>
     ensures { result ≡ measure_of property text.now }
 {
-    let (number, suffix) = split_number(text);
-    let number = number_of(number)?;
+    let (number, suffix) = split_measure(text)?;
     value_with(property, number, suffix_of(suffix)?)
 }
 
@@ -136,9 +165,26 @@ fn value_of(property: Property, text: &[u8]) -> Option<Given>
 }
 
 fn declared_value(property: Property, text: &[u8]) -> Option<Decl>
-    ensures { result ≡ declared_value property text.now }
+    ensures decl { result ≡ declared_value property text.now }
+    ensures utf8 { IfSome result (λ _. is_utf8 text.now ≡ true) }
 {
-    Decl::new(property, value_of(property, trimmed(text))?)
+    let Some(value) = value_of(property, trimmed(text)) else {
+        return None;
+    };
+    Decl::new(property, value)
+}
+
+/// The declaration that bytes give as a property's name and the text of its value: what `read` answers for them, or None where it
+/// answers a fault. Bytes that give one are UTF-8, and the name has no capital.
+pub fn read_bytes(name: &[u8], text: &[u8]) -> Option<Decl>
+    ensures decl { result ≡ result_ok (read_declaration name.now text.now) }
+    ensures name { IfSome result (λ _. is_utf8 name.now ≡ true) }
+    ensures small { IfSome result (λ _. map to_ascii_lowercase name.now ≡ name.now) }
+    ensures text { IfSome result (λ _. is_utf8 text.now ≡ true) }
+{
+    let property = property_named(name)?;
+    let decl = declared_value(property, text)?;
+    Some(decl)
 }
 
 /// The declaration that a property's name and the text of a value give (CSS 2.2, 4.1.8): `BadProperty`

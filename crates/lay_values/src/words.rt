@@ -147,9 +147,14 @@ fn beginning_with(letter: u8) -> &'static [Word]
 }
 
 /// Whether a text spells this word, in any case of its letters.
+#[tactic(auto, using(crate::proofs::Narrowed::same_spelled))]
 pub(crate) fn is_spelled(text: &[u8], word: &str) -> bool
     ensures { result ≡ str_eq_ignore_ascii_case word.now text.now }
 {
+    // Most are written as the standard writes them.
+    if word.as_bytes() == text {
+        return true;
+    }
     word.as_bytes().eq_ignore_ascii_case(text)
 }
 

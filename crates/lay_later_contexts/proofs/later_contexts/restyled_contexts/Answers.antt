@@ -1,7 +1,10 @@
-use Rattle.std.proofs.Common.{◌≡◌, ap, arith, length, subst, sym}
+use Rattle.std.proofs.Common.{◌≡◌, ◌∙◌, List, ℕ, ap, arith, length, subst, sym}
+use Rattle.lay_style.specs.declared.style.Style.{Style}
 use Rattle.lay_doc.proofs.NodeColumns.{length-parents}
 use Rattle.lay_contexts.specs.ListedContexts.{AreContextPlaces}
-use Rattle.lay_later_contexts.proofs.BuiltSteps.{from-within, until-within}
+use Rattle.lay_later_contexts.specs.Reach.{AreAlike, AreReachFlags, IsReach}
+use Rattle.lay_later_contexts.specs.Rebuilt.{AreRebuilt}
+use Rattle.lay_later_contexts.proofs.BuiltSteps.{from-within, rebuilt-of, until-within}
 use Rattle.lay_later_contexts.proofs.ElementPlaces.{context-places}
 use Rattle.lay_later_contexts.proofs.Restyling.{restyling-of, subject-there}
 use Rattle.lay_later_contexts.proofs.later_contexts.restyled_contexts.Goals as goal
@@ -33,3 +36,32 @@ reach_of-reach-requires-clause-node c = subject-there c.args.of.now.doc.now c.ar
 
 pub stays_seen-requires : goal.stays_seen-requires
 stays_seen-requires c = from-within c.args.of.now.doc.now c.args.of.now.was.now c.deref.result.now c.args.node.0 c.reach_of-reach.result c.reach_of-reach.ensures
+
+pub built-requires-clause-rebuilt : goal.built-requires-clause-rebuilt
+built-requires-clause-rebuilt c =
+    let d = c.args.of.now.doc.now in
+    let e = c.args.of.now.later.now in
+    let ss = c.args.of.now.was.now in
+    let ts = c.args.of.now.styles.now in
+    let r = c.reach_of-reach.result in
+    let placed : c.deref.result.now ≡ c.in_ok-places.places.items = c.deref.ensures.value in
+    let reach : IsReach d.nodes ss c.in_ok-places.places.items c.args.node.0 r =
+    subst (λ (places : List ℕ). IsReach d.nodes ss places c.args.node.0 r) placed c.reach_of-reach.ensures in
+    let alike : AreAlike ss ts r.from r.until =
+    subst (λ (xs : List Style). AreAlike xs ts r.from r.until) c.as_slice.ensures
+    (subst (λ (ys : List Style). AreAlike c.as_slice.result.now ys r.from r.until) c.as_slice-2.ensures (c.are_alike.ensures c.if-not-are_alike.false)) in
+    subst (λ (places : List ℕ). AreRebuilt d.nodes e.nodes ss ts c.args.before.now places c.in_ok-reached.reached.items) (sym c.deref-3.ensures.value)
+    (rebuilt-of d e ss ts c.args.of.now.edit.now c.args.before.now c.nodes.ensures.valid c.nodes-2.ensures.valid c.requires.edited c.requires.before
+    c.in_ok-places.places.items (c.in_ok-places.ensures {u = tt}) r
+    (record { id = c.args.node.0; change = c.requires.node; reach = reach; alike = alike; text = c.stays_seen.ensures c.if-not-stays_seen.false })
+    c.in_ok-reached.reached.items (length c.deref-2.result.now) (ap length c.deref-2.ensures.value)
+    (subst (λ (places : List ℕ). AreReachFlags r places c.in_ok-reached.reached.items (length c.deref-2.result.now)) c.deref-2.ensures.value (c.in_ok-reached.ensures {u = tt})))
+
+pub places_of-requires-clause-styles : goal.places_of-requires-clause-styles
+places_of-requires-clause-styles c = c.requires.edited.before.length_is ∙ length-parents c.args.of.now.doc.now.nodes
+
+pub built-requires-clause-styles : goal.built-requires-clause-styles
+built-requires-clause-styles c = c.requires.edited.before.length_is ∙ length-parents c.args.of.now.doc.now.nodes
+
+pub built-requires-clause-later_styles : goal.built-requires-clause-later_styles
+built-requires-clause-later_styles c = c.requires.edited.after.length_is ∙ length-parents c.args.of.now.later.now.nodes

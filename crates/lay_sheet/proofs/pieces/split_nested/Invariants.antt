@@ -1,6 +1,6 @@
 use Rattle.std.proofs.Common.{◌≡◌, ◌++◌, ◌≤◌, take, drop}
 use Rattle.lay_sheet.specs.Pieces.{block_to, behind_block, part_to, behind_part}
-use Rattle.lay_sheet.proofs.pieces.split_part.Given as goal
+use Rattle.lay_sheet.proofs.pieces.split_nested.Given as goal
 
 abbrev pub invariant-loop-i : goal.invariant-loop-i
 invariant-loop-i l = record {
