@@ -112,6 +112,7 @@ fn answer(alloc: Global, call: &str, text: &str) -> Result<String> {
         "winner" => borders::winning(alloc, text),
         "resolve" => borders::resolved(alloc, text),
         "tree-lines" => trees::lines(alloc, text),
+        "tree-piece" => trees::piece_line(alloc, text),
         _ => bail!("no call is named {call}"),
     }
 }

@@ -1,4 +1,4 @@
-//! The lines of a tree of one context, which has two pieces: its border box, and a text in it.
+//! A tree of one context, which has two pieces: its border box, and a text in it.
 
 ghost use Rattle.std.specs.Prelude.{◌≡◌, [], ◌∷◌, IfOk};
 ghost use Rattle.lay_frag.specs.Pieces.{IsTreeInRange};
@@ -7,19 +7,16 @@ ghost use Rattle.lay_box_cases.specs.Small.{IsShort, IsShortRect};
 use crate::cells::{Cells, ample};
 use anyhow::Result;
 use lay_doc::NodeId;
-use lay_frag::{Frag, FragKind, Pieces, Placed, Tree, text_of};
+use lay_frag::{Frag, FragKind, Pieces, Placed, Tree, push_frag, text_of};
 use lay_units::{Rect, Unit};
 use std::alloc::Global;
 use std::sync::Arc;
 
-/// The lines, with commas between them.
+/// Its lines, with commas between them.
 pub(crate) fn lines(alloc: Global, text: &str) -> Result<String> {
     let mut cells = Cells::new(text);
-    let own = rect(&mut cells)?;
-    let shift = px(cells.number()?);
-    let inner = rect(&mut cells)?;
+    let tree = read(alloc, &mut cells)?;
     cells.end()?;
-    let tree = tree(alloc, own, shift, inner)?;
     let lines = ample(text_of(alloc, &tree))?;
     let mut out = String::new(alloc);
     for line in lines.as_str().lines() {
@@ -29,6 +26,32 @@ pub(crate) fn lines(alloc: Global, text: &str) -> Result<String> {
         out.push_str(line)?;
     }
     Ok(out)
+}
+
+/// The line of its piece with a number; `none` where there is no such piece.
+pub(crate) fn piece_line(alloc: Global, text: &str) -> Result<String> {
+    let mut cells = Cells::new(text);
+    let tree = read(alloc, &mut cells)?;
+    let number: u16 = cells.number()?;
+    cells.end()?;
+    match tree.frag(number as usize) {
+        Some(frag) => line(alloc, &frag),
+        None => Ok(String::from_str(alloc, "none")?),
+    }
+}
+
+fn line(alloc: Global, frag: &Frag) -> Result<String> {
+    let mut line = String::new(alloc);
+    ample(push_frag(&mut line, frag))?;
+    Ok(String::from_str(alloc, line.as_str().trim_end())?)
+}
+
+/// The tree of the next cells.
+fn read(alloc: Global, cells: &mut Cells<'_>) -> Result<Tree> {
+    let own = rect(cells)?;
+    let shift = px(cells.number()?);
+    let inner = rect(cells)?;
+    tree(alloc, own, shift, inner)
 }
 
 /// The tree of a context with this border box and shift, and with a text that stands so inside it.
