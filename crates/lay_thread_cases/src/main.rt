@@ -10,7 +10,6 @@
 mod batches;
 mod calls;
 mod case;
-mod closing;
 mod core_calls;
 mod gates;
 mod shown;
