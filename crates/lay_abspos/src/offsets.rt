@@ -1,11 +1,11 @@
 //! Where absolutely positioned boxes stand.
 
 ghost use Rattle.std.specs.Prelude.{◌≡◌, ◌+ℤ◌, IfErr, IfOk};
+ghost use Rattle.lay_units.specs.Units.{IsBoxSize};
 ghost use Rattle.lay_abspos.specs.AbsoluteFits.{AxisFits};
 ghost use Rattle.lay_pieces.specs.Corners.{IsCornerNear};
 ghost use Rattle.lay_pieces.specs.declared.corner.Corner.{Corner};
 ghost use Rattle.lay_box_tree.specs.Kinds.{is_wrapper};
-ghost use Rattle.lay_sizes.specs.OwnBoxes.{IsBoxSize};
 ghost use Rattle.lay_abspos.specs.OffsetBounds.{IsStart};
 ghost use Rattle.lay_abspos.specs.Offsets.{IsOffset, axis_of_height};
 ghost use Rattle.lay_abspos.specs.AbsoluteSettings.{SettingFits};

@@ -1,9 +1,8 @@
 //! The root's own box.
 
 ghost use Rattle.std.specs.Prelude.{◌≡◌, ◌-ℤ◌};
-ghost use Rattle.lay_units.specs.Units.{IsUsed, IsUsedSize};
+ghost use Rattle.lay_units.specs.Units.{IsUsed, IsUsedSize, IsBoxSize};
 ghost use Rattle.lay_sizes.specs.BoxSizes.{border_width};
-ghost use Rattle.lay_sizes.specs.OwnBoxes.{IsBoxSize};
 ghost use Rattle.lay_sizes.specs.SizeBounds.{SizeFits};
 ghost use Rattle.lay_abspos.specs.ViewportBounds.{ViewportFits};
 ghost use Rattle.lay_abspos.specs.OneProof.{SizeFits-prop};

@@ -3,6 +3,7 @@
 -- its border box at its place. A float that lines met stands where they put it. What else stands in lines has no place here.
 use Rattle.std.specs.Prelude.{ℕ, ◌≡◌, ◌<◌, ◌==◌, ◌+ℤ◌, pos, List, [], ◌∷◌, ◌++◌, All, length, map, slice_index_or, if◌then◌else◌}
 use Rattle.lay_units.specs.declared.length.Unit.{Unit as Length}
+use Rattle.lay_units.specs.Units.{IsBoxSize, IsNear}
 use Rattle.lay_floats.specs.declared.requests.NodePlace.{NodePlace}
 use Rattle.lay_floats.specs.declared.requests.Place.{Place}
 use Rattle.lay_lines.specs.Lines.{RowWithin}
@@ -15,7 +16,6 @@ use Rattle.lay_blocks.specs.declared.flow_places.BoxPlace.{BoxPlace}
 use Rattle.lay_blocks.specs.Lengths.{no_length, length_at}
 use Rattle.lay_blocks.specs.Boxes.{box_at}
 use Rattle.lay_blocks.specs.BlockFloats.{Spot, no_place, place_at}
-use Rattle.lay_blocks.specs.BlockSizes.{IsBoxSize, IsNear}
 use Rattle.lay_blocks.specs.ContextFlow.{Flow, IsContextFlow}
 
 abbrev pub no_box_place : BoxPlace

@@ -1,11 +1,11 @@
 //! The heights of blocks whose content is known (CSS 2.2, 10.6.3, 10.6.7 and 10.7).
 
 ghost use Rattle.std.specs.Prelude.{◌≡◌, ◌-ℤ◌, ◌+ℤ◌, false, true, pos, IfSome};
-ghost use Rattle.lay_units.specs.Units.{IsPosition, IsUsedSize};
+ghost use Rattle.lay_units.specs.Units.{IsPosition, IsUsedSize, IsBoxSize, IsNear};
 ghost use Rattle.lay_heights.specs.AutoHeights.{EndsFit, auto_height_of, root_height_of};
 ghost use Rattle.lay_heights.specs.MinMax.{with_min_max_of};
 ghost use Rattle.lay_blocks.specs.BlockPositions.{border_height, given_or_auto, held_end, held_height, is_lines, is_solid, line_end};
-ghost use Rattle.lay_blocks.specs.BlockSizes.{BlockFits, IsBoxSize, IsLineDepth, IsNear};
+ghost use Rattle.lay_blocks.specs.BlockSizes.{BlockFits, IsLineDepth};
 
 use crate::block::Block;
 use crate::near::{Near, sum_of};

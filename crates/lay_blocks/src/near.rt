@@ -1,8 +1,7 @@
 //! Positions near the origin.
 
 ghost use Rattle.std.specs.Prelude.{◌≡◌, ◌-ℤ◌, ◌+ℤ◌};
-ghost use Rattle.lay_units.specs.Units.{IsPosition};
-ghost use Rattle.lay_blocks.specs.BlockSizes.{IsNear};
+ghost use Rattle.lay_units.specs.Units.{IsPosition, IsNear};
 
 use lay_units::Unit;
 

@@ -1,9 +1,8 @@
 //! Boxes as the floats of their block formatting context see them.
 
 ghost use Rattle.std.specs.Prelude.{◌≡◌, ◌+ℤ◌, None};
-ghost use Rattle.lay_units.specs.Units.{IsUsed};
+ghost use Rattle.lay_units.specs.Units.{IsUsed, IsBoxSize};
 ghost use Rattle.lay_blocks.specs.BlockFloats.{content_of, no_shape, shape_of};
-ghost use Rattle.lay_blocks.specs.BlockSizes.{IsBoxSize};
 ghost use Rattle.lay_blocks.specs.declared.flow_box.Across.{Across};
 ghost use Rattle.lay_blocks.specs.FlowBoxes.{KindFits};
 ghost use Rattle.lay_blocks.specs.Lengths.{no_length};

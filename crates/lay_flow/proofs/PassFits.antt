@@ -5,12 +5,12 @@ use Rattle.std.proofs.lemmas.Int.{ints}
 use Rattle.lay_blocks.specs.declared.flow_box.FlowBox.{FlowBox}
 use Rattle.lay_blocks.specs.Boxes.{parent_at, parents_of}
 use Rattle.lay_blocks.proofs.BoxTrees.{parent_before}
-use Rattle.lay_units.specs.Units.{IsPosition}
+use Rattle.lay_units.specs.Units.{IsPosition, IsBoxSize, IsNear}
 use Rattle.lay_units.specs.declared.length.Unit.{Unit as Length}
 use Rattle.lay_margins.specs.StrutValue.{StrutValue}
 use Rattle.lay_doc.specs.Tree.{IsTree}
 use Rattle.lay_blocks.specs.Lengths.{length_at}
-use Rattle.lay_blocks.specs.BlockSizes.{IsInset, IsBoxSize, IsNear}
+use Rattle.lay_blocks.specs.BlockSizes.{IsInset}
 use Rattle.lay_blocks.specs.Children.{flag_at}
 use Rattle.lay_blocks.specs.MarginRuns.{block_at, parts_tops}
 use Rattle.lay_blocks.specs.BlockPositions.{is_solid}

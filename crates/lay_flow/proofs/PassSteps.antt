@@ -5,6 +5,7 @@ use Rattle.lay_blocks.specs.declared.flow_box.FlowBox.{FlowBox}
 use Rattle.lay_blocks.specs.Boxes.{box_at, parent_at, parents_of}
 use Rattle.lay_blocks.proofs.BoxTrees.{parent_before}
 use Rattle.lay_units.specs.declared.length.Unit.{Unit as Length}
+use Rattle.lay_units.specs.Units.{IsBoxSize}
 use Rattle.lay_margins.specs.StrutValue.{StrutValue}
 use Rattle.lay_margins.specs.Collapse.{Holds, collapse}
 use Rattle.lay_lines.specs.Lines.{AreLines}
@@ -13,7 +14,6 @@ use Rattle.lay_floats.specs.SolidPlace.{IsSolidPlace}
 use Rattle.lay_floats.specs.Within.{IsWithin}
 use Rattle.lay_doc.specs.Tree.{IsTree}
 use Rattle.lay_blocks.specs.Lengths.{length_at}
-use Rattle.lay_blocks.specs.BlockSizes.{IsBoxSize}
 use Rattle.lay_blocks.specs.Children.{flag_at}
 use Rattle.lay_blocks.specs.MarginRuns.{block_at, parts_tops, joins_bottom, may_collapse_through, may_join_bottoms}
 use Rattle.lay_blocks.specs.BlockLayout.{BlockLayout, Extents}

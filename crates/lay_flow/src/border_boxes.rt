@@ -1,10 +1,9 @@
 //! The flow of a block formatting context: a place for each of its boxes.
 
 ghost use Rattle.std.specs.Prelude.{◌≡◌, ◌<◌, ◌+ℤ◌, pos, IfOk};
-ghost use Rattle.lay_units.specs.Units.{IsUsed};
+ghost use Rattle.lay_units.specs.Units.{IsUsed, IsNear};
 ghost use Rattle.lay_floats.specs.Within.{IsWithin};
 ghost use Rattle.lay_blocks.specs.Boxes.{box_at};
-ghost use Rattle.lay_blocks.specs.BlockSizes.{IsNear};
 ghost use Rattle.lay_blocks.specs.FlowBoxes.{FloatBoxFits};
 ghost use Rattle.lay_blocks.specs.FlowPlaces.{AreNearPlaces, IsFlowOf, IsNearPlace, border_box, float_box, own_place, corner_at};
 ghost use Rattle.lay_flow.specs.Pass.Columns.{AreBorderBoxes, AreNearColumns, IsFarPlace};

@@ -1,9 +1,8 @@
 //! Runs of margins that grow and end.
 
 ghost use Rattle.std.specs.Prelude.{◌≡◌, ℤ, ◌+ℤ◌, ◌-ℤ◌, List, ◌∷◌, ◌++◌, [], true, false};
-ghost use Rattle.lay_units.specs.Units.{IsUsed};
+ghost use Rattle.lay_units.specs.Units.{IsUsed, IsNear};
 ghost use Rattle.lay_margins.specs.Collapse.{Holds, collapse};
-ghost use Rattle.lay_blocks.specs.BlockSizes.{IsNear};
 ghost use Rattle.lay_flow.specs.Pass.Bounds.{IsCollapseNear, is_hanging, position_of};
 
 use crate::pass::RunStart;

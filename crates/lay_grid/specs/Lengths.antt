@@ -10,7 +10,3 @@ ArePositions lengths = All (λ (length : Unit). IsPosition length.0) lengths
 abbrev pub MayBePosition : Option Unit → Type 0
 MayBePosition None = ⊤
 MayBePosition (Some length) = IsPosition length.0
-
--- at most 2^n in absolute value
-abbrev pub IsWithin : ℕ → ℤ → Type 0
-IsWithin n v = (neg_ℤ (pos (2 ^ n)) ≤ℤ v) × (v ≤ℤ pos (2 ^ n))

@@ -1,7 +1,8 @@
 //! Widths of replaced elements.
 
 ghost use Rattle.std.specs.Prelude.{◌≡◌, pos, ◌≤ℤ◌, IfSome};
-ghost use Rattle.lay_widths.specs.Lengths.{IsSize, LenIsSize};
+ghost use Rattle.lay_units.specs.Units.{IsSize};
+ghost use Rattle.lay_widths.specs.Lengths.{LenIsSize};
 ghost use Rattle.lay_widths.specs.ReplacedFits.{ReplacedFits};
 ghost use Rattle.lay_measure.specs.ReplacedWidths.{length_or_auto, natural_size, replaced_of, replaced_width};
 ghost use Rattle.lay_measure.specs.Contributions.{limit_of, size_or_zero};

@@ -2,7 +2,8 @@
 //! entry each, which are left out for speed.
 
 ghost use Rattle.std.specs.Prelude.{◌≡◌, None, length, IfOk};
-ghost use Rattle.lay_sizes.specs.OwnBoxes.{IsBoxSize, OwnBoxFits, own_box};
+ghost use Rattle.lay_units.specs.Units.{IsBoxSize};
+ghost use Rattle.lay_sizes.specs.OwnBoxes.{OwnBoxFits, own_box};
 ghost use Rattle.lay_sizes.specs.SizeBounds.{SizeFits};
 ghost use Rattle.lay_sizes.specs.SizeColumns.{sizes_at};
 ghost use Rattle.lay_flow_boxes.specs.PlaceInputs.{HeightRuleFits};

@@ -1,10 +1,11 @@
 //! Where the boxes of one formatting context stand.
 
 ghost use Rattle.std.specs.Prelude.{◌≡◌, ◌<◌, true, false, length, IfOk};
+ghost use Rattle.lay_units.specs.Units.{IsNear};
 ghost use Rattle.lay_box_tree.specs.Roles.{role_at};
 ghost use Rattle.lay_relative.specs.MoveBounds.{IsMoveNear};
 ghost use Rattle.lay_flow_boxes.specs.ContextBlocks.{content_left, is_anchor};
-ghost use Rattle.lay_pieces.specs.Corners.{IsCornerNear, IsNear};
+ghost use Rattle.lay_pieces.specs.Corners.{IsCornerNear};
 ghost use Rattle.lay_pieces.specs.Standings.{AreNearStandings, IsStandingNear};
 ghost use Rattle.lay_placement.specs.BoxStandings.{border_height, corner_of_box, moved_corner, standing_of_box, standings_to};
 ghost use Rattle.lay_placement.specs.Counts.{HaveCounts};

@@ -1,12 +1,11 @@
 //! Padding boxes.
 
 ghost use Rattle.std.specs.Prelude.{◌≡◌, ◌<◌, ◌+ℤ◌, ◌-ℤ◌, IfOk, length};
-ghost use Rattle.lay_units.specs.Units.{IsUsedSize};
+ghost use Rattle.lay_units.specs.Units.{IsUsedSize, IsNear};
 ghost use Rattle.lay_style.specs.LengthValues.{size_of};
 ghost use Rattle.lay_sizes.specs.BoxSizes.{border_width};
 ghost use Rattle.lay_sizes.specs.SizeBounds.{SizeFits};
 ghost use Rattle.lay_sizes.specs.SizeColumns.{HaveSizeBounds, sizes_at};
-ghost use Rattle.lay_pieces.specs.Corners.{IsNear};
 ghost use Rattle.lay_pieces.specs.NearPieces.{IsRectNear};
 ghost use Rattle.lay_pieces.specs.Standings.{IsStandingNear};
 ghost use Rattle.lay_positioned.specs.PaddingBoxes.{borders_of, inside_borders, is_wrapper_at, padding_box};

@@ -1,8 +1,7 @@
 //! Boxes of replaced elements.
 
 ghost use Rattle.std.specs.Prelude.{◌≡◌, pos, ◌≤ℤ◌};
-ghost use Rattle.lay_units.specs.Units.{IsPosition, IsUsedSize};
-ghost use Rattle.lay_widths.specs.Lengths.{IsSize};
+ghost use Rattle.lay_units.specs.Units.{IsPosition, IsUsedSize, IsSize};
 ghost use Rattle.lay_widths.specs.ReplacedFits.{ReplacedFits};
 ghost use Rattle.lay_sizes.specs.ReplacedBoxes.{natural_length, replaced_of, replaced_size_of};
 

@@ -1,9 +1,9 @@
 //! Used lengths: percentages taken of the width or the height of the containing block.
 
 ghost use Rattle.std.specs.Prelude.{◌≡◌, ◌+ℤ◌, Option, IfSome};
-ghost use Rattle.lay_units.specs.Units.{IsPosition, IsUsedSize, percentage_of};
+ghost use Rattle.lay_units.specs.Units.{IsPosition, IsUsedSize, percentage_of, IsSize};
 ghost use Rattle.lay_style.specs.LengthValues.{length_of, size_of};
-ghost use Rattle.lay_widths.specs.Lengths.{BlockFits, IsSize, LenFits, LenIsSize};
+ghost use Rattle.lay_widths.specs.Lengths.{BlockFits, LenFits, LenIsSize};
 ghost use Rattle.lay_sizes.specs.SizeBounds.{AreInsets, IsInset};
 ghost use Rattle.lay_sizes.specs.UsedLengths.{or_zero, used_margin, used_vertical_margin, used_width, used_size, used_limit, used_height, used_min_height, used_max_height, definite_height, block_of, edge_of, edges_of};
 

@@ -1,8 +1,9 @@
 //! Where the boxes of a table stand.
 
 ghost use Rattle.std.specs.Prelude.{ℕ, ◌≡◌, ◌<◌, ◌==◌, length, slice_index, IfOk, OnOk, if◌then◌else◌};
+ghost use Rattle.lay_units.specs.Units.{IsNear};
 ghost use Rattle.lay_blocks.specs.FlowPlaces.{IsNearPlace, box_place_at};
-ghost use Rattle.lay_pieces.specs.Corners.{IsCornerNear, IsNear};
+ghost use Rattle.lay_pieces.specs.Corners.{IsCornerNear};
 ghost use Rattle.lay_pieces.specs.Standings.{AreNearStandings, IsStandingNear, standing_at};
 ghost use Rattle.lay_table_parts.specs.TableBoxes.{is_row_group};
 ghost use Rattle.lay_table.specs.Captions.{ArePlaces, captions_of};

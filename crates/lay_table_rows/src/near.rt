@@ -1,8 +1,7 @@
 //! Sums of lengths.
 
 ghost use Rattle.std.specs.Prelude.{◌≡◌, ◌+ℤ◌, ◌-ℤ◌, ◌*ℤ◌, pos, IfOk};
-ghost use Rattle.lay_units.specs.Units.{IsPosition};
-ghost use Rattle.lay_pieces.specs.Corners.{IsNear};
+ghost use Rattle.lay_units.specs.Units.{IsPosition, IsNear};
 
 use lay_pieces::near_position;
 use lay_units::{NoMemory, Unit};

@@ -1,10 +1,9 @@
 //! What the heights of rows depend on (CSS 2.2, 17.5.3).
 
 ghost use Rattle.std.specs.Prelude.{◌≡◌, ◌<◌, ◌≤◌, ◌++◌, length, None, All, IfOk, OnOk};
-ghost use Rattle.lay_units.specs.Units.{IsUsedSize};
+ghost use Rattle.lay_units.specs.Units.{IsUsedSize, IsNear};
 ghost use Rattle.lay_units.specs.declared.length.Unit.{Unit as Length};
 ghost use Rattle.lay_grid.specs.RowsFit.{RowsFit};
-ghost use Rattle.lay_pieces.specs.Corners.{IsNear};
 ghost use Rattle.lay_sizes.specs.OwnBoxes.{OwnBoxFits};
 ghost use Rattle.lay_sizes.specs.SizeBounds.{IsInset, SizeFits};
 ghost use Rattle.lay_sizes.specs.SizeColumns.{HaveSizeBounds, sizes_at};

@@ -1,8 +1,8 @@
 //! Rows below each other, and columns beside each other.
 
 ghost use Rattle.std.specs.Prelude.{◌≡◌, ◌+◌, ◌≤◌, ◌<◌, length, IfOk};
+ghost use Rattle.lay_units.specs.Units.{IsNear};
 ghost use Rattle.lay_blocks.specs.Lengths.{length_at};
-ghost use Rattle.lay_pieces.specs.Corners.{IsNear};
 ghost use Rattle.lay_table_rows.specs.Tracks.{end_of, extent_of, start_of};
 ghost use Rattle.lay_table_rows.specs.TrackStarts.{AreStarts};
 

@@ -1,8 +1,9 @@
 //! Replaced elements (CSS 2.2, 10.3.2, 10.6.2, and the table of 10.4).
 
 ghost use Rattle.std.specs.Prelude.{◌≡◌, ◌*ℤ◌, IfSome};
+ghost use Rattle.lay_units.specs.Units.{IsSize};
 ghost use Rattle.lay_heights.specs.MinMax.{at_least_min, at_most_max as at_most_max_of, with_min_max_of};
-ghost use Rattle.lay_widths.specs.Lengths.{IsSize, LenIsSize};
+ghost use Rattle.lay_widths.specs.Lengths.{LenIsSize};
 ghost use Rattle.lay_widths.specs.ReplacedFits.{ReplacedFits, ViolationFits};
 ghost use Rattle.lay_widths.specs.ReplacedSizes.{
   IsReplacedSize,

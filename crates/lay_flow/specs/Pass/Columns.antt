@@ -1,6 +1,7 @@
 -- The columns that a pass leaves, an entry for each box, and their bounds: marks, heights, places, lines, and the corners that
 -- lines give to the floats that they met.
 use Rattle.std.specs.Prelude.{ℕ, ◌≡◌, ◌<◌, pos, false, List, ◌∷◌, ◌++◌, length, map}
+use Rattle.lay_units.specs.Units.{IsBoxSize, IsNear}
 use Rattle.lay_floats.specs.declared.requests.Place.{Place}
 use Rattle.lay_floats.specs.Within.{IsWithin}
 use Rattle.lay_flow.specs.declared.flow_columns.FlowColumns.{FlowColumns}
@@ -11,7 +12,6 @@ use Rattle.lay_blocks.specs.Lengths.{length_at}
 use Rattle.lay_blocks.specs.MarginRuns.{block_at}
 use Rattle.lay_blocks.specs.BlockPositions.{is_solid}
 use Rattle.lay_blocks.specs.BlockFloats.{Spot}
-use Rattle.lay_blocks.specs.BlockSizes.{IsBoxSize, IsNear}
 use Rattle.lay_blocks.specs.ContextFlow.{AreContextPlaces}
 use Rattle.lay_blocks.specs.FlowPlaces.{AreNearRows, border_box, box_place_at, own_place, corner_at, AreCorners}
 
