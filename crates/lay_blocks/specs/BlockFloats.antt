@@ -11,6 +11,7 @@ use Rattle.std.specs.Int.{int_max}
 use Rattle.lay_blocks.specs.declared.flow_box.FlowBox.{FlowBox}
 use Rattle.lay_blocks.specs.Boxes.{no_across, box_at, parent_at}
 use Rattle.lay_units.specs.declared.length.Unit.{Unit as Length}
+use Rattle.lay_units.specs.Lengths.{no_length}
 use Rattle.lay_floats.specs.declared.placed.Placed.{Placed}
 use Rattle.lay_floats.specs.declared.requests.Clear.TheVariants.{None as clear_none}
 use Rattle.lay_floats.specs.declared.requests.Side.{Side}
@@ -25,7 +26,7 @@ use Rattle.lay_blocks.specs.declared.block.Inside.{Inside}
 use Rattle.lay_blocks.specs.declared.block.Inside.TheVariants.{Blocks as blocks_inside, Lines as lines_inside, Solid as solid_inside}
 use Rattle.lay_line_content.specs.LineContents.{LineContentValue}
 use Rattle.lay_lines.specs.Lines.{LinesValue, AreLines}
-use Rattle.lay_blocks.specs.Lengths.{no_length, length_at}
+use Rattle.lay_blocks.specs.Lengths.{length_at}
 use Rattle.lay_blocks.specs.MarginRuns.{block_at}
 
 -- the content edges of a box, and 0 of one in which no box stands

@@ -4,6 +4,7 @@
 use Rattle.std.specs.Prelude.{ℕ, ◌≡◌, ◌<◌, ◌==◌, ◌+ℤ◌, pos, List, [], ◌∷◌, ◌++◌, All, length, map, slice_index_or, if◌then◌else◌}
 use Rattle.lay_units.specs.declared.length.Unit.{Unit as Length}
 use Rattle.lay_units.specs.Units.{IsBoxSize, IsNear}
+use Rattle.lay_units.specs.Lengths.{no_length}
 use Rattle.lay_floats.specs.declared.requests.NodePlace.{NodePlace}
 use Rattle.lay_floats.specs.declared.requests.Place.{Place}
 use Rattle.lay_lines.specs.Lines.{RowWithin}
@@ -13,7 +14,7 @@ use Rattle.lay_blocks.specs.declared.flow_box.FloatBox.{FloatBox}
 use Rattle.lay_blocks.specs.declared.flow_box.FlowKind.{FlowKind}
 use Rattle.lay_blocks.specs.declared.flow_box.FlowKind.TheVariants.{Block as block, Lines as lines, Solid as solid, Float as float, LineFloat as line_float, Inline as inline}
 use Rattle.lay_blocks.specs.declared.flow_places.BoxPlace.{BoxPlace}
-use Rattle.lay_blocks.specs.Lengths.{no_length, length_at}
+use Rattle.lay_blocks.specs.Lengths.{length_at}
 use Rattle.lay_blocks.specs.Boxes.{box_at}
 use Rattle.lay_blocks.specs.BlockFloats.{Spot, no_place, place_at}
 use Rattle.lay_blocks.specs.ContextFlow.{Flow, IsContextFlow}

@@ -20,6 +20,7 @@ use Rattle.lay_blocks.specs.declared.flow_box.FlowBox.{FlowBox}
 use Rattle.lay_blocks.specs.Boxes.{box_at, parent_at}
 use Rattle.lay_units.specs.declared.records.Len.{Len}
 use Rattle.lay_units.specs.declared.records.Len.TheVariants.{Auto as auto, Of as of}
+use Rattle.lay_units.specs.Lengths.{no_length}
 use Rattle.lay_blocks.specs.declared.flow_box.BlockBox.{BlockBox}
 use Rattle.lay_blocks.specs.declared.flow_box.FlowKind.{FlowKind}
 use Rattle.lay_blocks.specs.declared.flow_box.FlowKind.TheVariants.{Block as block, Lines as lines, Solid as solid, Float as float, LineFloat as line_float, Inline as inline}
@@ -27,7 +28,6 @@ use Rattle.lay_blocks.specs.declared.block.Block.{Block}
 use Rattle.lay_blocks.specs.declared.block.Inside.{Inside}
 use Rattle.lay_blocks.specs.declared.block.Inside.TheVariants.{Blocks as blocks_inside, Lines as lines_inside, Solid as solid_inside}
 use Rattle.lay_blocks.specs.Children.{last_child, next_child, flag_at}
-use Rattle.lay_blocks.specs.Lengths.{no_length}
 
 abbrev pub no_block : Block
 no_block = record { margin_top = no_length; margin_bottom = no_length; edge_top = no_length; edge_bottom = no_length; height = auto; min_height = no_length; max_height = None; inside = blocks_inside }

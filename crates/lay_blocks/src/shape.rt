@@ -2,10 +2,10 @@
 
 ghost use Rattle.std.specs.Prelude.{◌≡◌, ◌+ℤ◌, None};
 ghost use Rattle.lay_units.specs.Units.{IsUsed, IsBoxSize};
+ghost use Rattle.lay_units.specs.Lengths.{no_length};
 ghost use Rattle.lay_blocks.specs.BlockFloats.{content_of, no_shape, shape_of};
 ghost use Rattle.lay_blocks.specs.declared.flow_box.Across.{Across};
 ghost use Rattle.lay_blocks.specs.FlowBoxes.{KindFits};
-ghost use Rattle.lay_blocks.specs.Lengths.{no_length};
 
 use crate::flow_box::{Across, BlockBox, FlowBox, FlowKind};
 use lay_floats::{Clear, Side};

@@ -6,13 +6,13 @@ use Rattle.lay_layout.specs.units.declared.records.Len.TheVariants.{Auto as auto
 use Rattle.lay_layout.specs.box_tree.declared.box_tree.BoxNode.{BoxNode}
 use Rattle.lay_layout.specs.measure.MeasureInValue.{no_widths}
 use Rattle.lay_layout.specs.sizes.OwnBoxes.{no_own_box}
-use Rattle.lay_layout.specs.sizes.UsedLengths.{no_length}
 use Rattle.lay_layout.specs.context_sizes.declared.setting.Setting.{Setting}
 use Rattle.lay_layout.specs.context_sizes.declared.setting.Setting.TheVariants.{Block}
 use Rattle.lay_layout.specs.context.declared.input.Input.{Input}
 use Rattle.lay_layout.specs.context.declared.input.Input.TheVariants as input
 use Rattle.lay_layout.specs.context.Local.{IsLocal}
 use Rattle.lay_layout.specs.context.Settings.{setting_in, sizes_in}
+use Rattle.lay_layout.specs.units.Lengths.{no_length}
 use Rattle.lay_cell_work.specs.declared.root_spot.RootSpot.{RootSpot}
 use Rattle.lay_cell_work.specs.CellColumns.{filled, masked}
 use Rattle.lay_cell_work.specs.CellInputs.{CellInput, RootInput}

@@ -3,13 +3,14 @@ use Rattle.std.proofs.Common.{◌≡◌, ℕ, zero, suc, ◌<◌, Bool, true, fa
 use Rattle.std.proofs.lemmas.Int.{ints}
 use Rattle.lay_units.specs.declared.length.Unit.{Unit as Length}
 use Rattle.lay_units.specs.Units.{IsNear}
+use Rattle.lay_units.specs.Lengths.{no_length}
 use Rattle.lay_frag.specs.declared.frag.Frag.{Frag}
 use Rattle.lay_box_tree.specs.declared.box_tree.BoxNode.{BoxNode}
 use Rattle.lay_box_tree.specs.BoxColumns.{box_styles}
 use Rattle.lay_box_tree.specs.InlineParts.{AreInlineParts, inline_part, no_part}
 use Rattle.lay_blocks.specs.declared.flow_box.BlockBox.{BlockBox}
 use Rattle.lay_blocks.specs.Boxes.{box_at}
-use Rattle.lay_blocks.specs.Lengths.{length_at, no_length}
+use Rattle.lay_blocks.specs.Lengths.{length_at}
 use Rattle.lay_sizes.specs.BoxSizes.{border_width}
 use Rattle.lay_sizes.specs.declared.own_boxes.OwnBox.{OwnBox}
 use Rattle.lay_sizes.specs.OwnBoxes.{OwnBoxFits, own_box}

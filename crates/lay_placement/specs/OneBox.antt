@@ -2,6 +2,7 @@
 -- content is 0 (CSS 2.2, 10.6.7). It has the height that is given, or that, within its bounds (10.7).
 use Rattle.std.specs.Prelude.{ℤ, pos, List}
 use Rattle.lay_units.specs.declared.length.Unit.{Unit as Length}
+use Rattle.lay_units.specs.Lengths.{no_length}
 use Rattle.lay_frag.specs.declared.frag.Frag.{Frag}
 use Rattle.lay_frag.specs.declared.frag.FragKind.TheVariants as kind
 use Rattle.lay_box_tree.specs.declared.box_tree.BoxNode.{BoxNode}
@@ -10,7 +11,6 @@ use Rattle.lay_blocks.specs.declared.block.Inside.TheVariants as inside
 use Rattle.lay_blocks.specs.declared.flow_box.HeightRule.{HeightRule}
 use Rattle.lay_blocks.specs.BlockPositions.{border_height}
 use Rattle.lay_sizes.specs.declared.sizing.BoxSizes.{BoxSizes}
-use Rattle.lay_sizes.specs.UsedLengths.{no_length}
 use Rattle.lay_pieces.specs.declared.standing.Standing.{Standing}
 use Rattle.lay_pieces.specs.Corners.{no_corner}
 use Rattle.lay_pieces.specs.Splicing.{border_box}

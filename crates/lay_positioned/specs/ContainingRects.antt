@@ -4,9 +4,10 @@
 -- context, and so it is found step by step from the outside.
 use Rattle.std.specs.Prelude.{ℕ, zero, suc, ◌<◌, ◌-ℤ◌, Bool, List, Option, None, Some}
 use Rattle.lay_units.specs.declared.records.Rect.{Rect}
+use Rattle.lay_units.specs.Lengths.{no_length}
 use Rattle.lay_box_tree.specs.declared.box_tree.BoxNode.{BoxNode}
 use Rattle.lay_sizes.specs.declared.sizing.ContainingBlock.{ContainingBlock}
-use Rattle.lay_sizes.specs.UsedLengths.{no_length, or_zero}
+use Rattle.lay_sizes.specs.UsedLengths.{or_zero}
 use Rattle.lay_contexts.specs.FormattingContexts.{FormattingContext, boxes_in, formatting_context_at}
 use Rattle.lay_pieces.specs.declared.corner.Corner.{Corner}
 use Rattle.lay_positioned.specs.Holders.{IsHolderFor, holder_for}

@@ -8,6 +8,7 @@ use Rattle.lay_units.specs.declared.records.Len.{Len}
 use Rattle.lay_units.specs.declared.records.Len.TheVariants.{Auto as auto, Of as of}
 use Rattle.lay_units.specs.declared.records.Sides.{Sides}
 use Rattle.lay_units.specs.declared.records.BlockIn.{BlockIn}
+use Rattle.lay_units.specs.Lengths.{no_length}
 use Rattle.lay_style.specs.declared.style.Style.{Style}
 use Rattle.lay_style.specs.declared.style_lengths.LengthPercentageOrAuto.{LengthPercentageOrAuto}
 use Rattle.lay_style.specs.declared.style_lengths.LengthPercentageOrAuto.TheVariants as or_auto
@@ -17,9 +18,6 @@ use Rattle.lay_style.specs.declared.style_lengths.LengthPercentageOrNone.{Length
 use Rattle.lay_style.specs.declared.style_lengths.LengthPercentageOrNone.TheVariants as or_none
 use Rattle.lay_style.specs.LengthValues.{length_of, size_of}
 use Rattle.lay_heights.specs.MinMax.{with_min_max_of}
-
-abbrev pub no_length : Length
-no_length = record { 0 = pos 0 }
 
 -- a margin beside the width of the containing block
 abbrev pub used_margin : Length → LengthPercentageOrAuto → Len

@@ -5,7 +5,8 @@ use Rattle.std.proofs.Math.Seq.{get_or-append_seam}
 use Rattle.std.proofs.lemmas.Bool.{cases_lt}
 use Rattle.lay_units.specs.declared.length.Unit.{Unit as Length}
 use Rattle.lay_units.specs.Units.{IsNear}
-use Rattle.lay_blocks.specs.Lengths.{length_at, no_length}
+use Rattle.lay_units.specs.Lengths.{no_length}
+use Rattle.lay_blocks.specs.Lengths.{length_at}
 use Rattle.lay_table_rows.specs.Tracks.{Tracks, start_of}
 use Rattle.lay_table_rows.specs.TrackStarts.{AreStarts}
 

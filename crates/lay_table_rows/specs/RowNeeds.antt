@@ -8,6 +8,7 @@ use Rattle.std.specs.Option.{unwrap_or}
 use Rattle.lay_units.specs.declared.length.Unit.{Unit as Length}
 use Rattle.lay_units.specs.declared.records.Len.{Len}
 use Rattle.lay_units.specs.declared.records.Len.TheVariants.{Auto as auto, Of as of}
+use Rattle.lay_units.specs.Lengths.{no_length}
 use Rattle.lay_style.specs.declared.style.Style.{Style}
 use Rattle.lay_style.specs.ComputedStyle.{style_at}
 use Rattle.lay_box_tree.specs.BoxColumns.{box_styles}
@@ -18,7 +19,7 @@ use Rattle.lay_sizes.specs.declared.own_boxes.OwnBox.{OwnBox}
 use Rattle.lay_sizes.specs.declared.sizing.BoxSizes.{BoxSizes}
 use Rattle.lay_sizes.specs.OwnBoxes.{own_box_at}
 use Rattle.lay_sizes.specs.SizeColumns.{no_edges, sizes_at}
-use Rattle.lay_sizes.specs.UsedLengths.{no_length, or_zero, used_height}
+use Rattle.lay_sizes.specs.UsedLengths.{or_zero, used_height}
 use Rattle.lay_table_parts.specs.declared.rows.TableRow.{TableRow}
 use Rattle.lay_table_borders.specs.declared.grid.TableCell.{TableCell}
 use Rattle.lay_table_borders.specs.TableGrid.{TableGridValue}

@@ -7,11 +7,12 @@ use Rattle.std.specs.Prelude.{◌≡◌, ℕ, ◌<◌, ◌==◌, ◌&&◌, ℤ, 
 use Rattle.std.specs.Int.{int_max}
 use Rattle.lay_units.specs.declared.length.Unit.{Unit as Length}
 use Rattle.lay_units.specs.declared.records.Sides.{Sides}
+use Rattle.lay_units.specs.Lengths.{no_length}
 use Rattle.lay_style.specs.declared.style.Style.{Style}
 use Rattle.lay_heights.specs.MinMax.{with_min_max_of}
 use Rattle.lay_box_tree.specs.declared.box_tree.BoxNode.{BoxNode}
 use Rattle.lay_measure.specs.Contributions.{bounded_width, given_or, limit_of, size_or_zero}
-use Rattle.lay_measure.specs.MeasureInValue.{no_length, no_widths}
+use Rattle.lay_measure.specs.MeasureInValue.{no_widths}
 use Rattle.lay_measure.specs.declared.preferred_widths.PreferredWidths.{PreferredWidths}
 use Rattle.lay_grid.specs.Columns.{AreOwn}
 use Rattle.lay_grid.specs.Shares.{own_at}

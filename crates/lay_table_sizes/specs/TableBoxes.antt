@@ -5,12 +5,13 @@ use Rattle.std.specs.Prelude.{ℕ, ◌+ℤ◌, ℤ, List, if◌then◌else◌}
 use Rattle.lay_units.specs.declared.length.Unit.{Unit as Length}
 use Rattle.lay_units.specs.declared.records.BlockIn.{BlockIn}
 use Rattle.lay_units.specs.declared.records.Sides.{Sides}
+use Rattle.lay_units.specs.Lengths.{no_length}
 use Rattle.lay_style.specs.ComputedStyle.{style_at}
 use Rattle.lay_style.specs.declared.style.Style.{Style}
 use Rattle.lay_style.specs.declared.style_lengths.LengthPercentage.{LengthPercentage}
 use Rattle.lay_box_tree.specs.BoxColumns.{box_styles}
 use Rattle.lay_box_tree.specs.declared.box_tree.BoxNode.{BoxNode}
-use Rattle.lay_sizes.specs.UsedLengths.{no_length, used_limit, used_margin, used_size, used_width}
+use Rattle.lay_sizes.specs.UsedLengths.{used_limit, used_margin, used_size, used_width}
 use Rattle.lay_measure.specs.Contributions.{size_or_zero}
 use Rattle.lay_table_borders.specs.TableGrid.{TableGridValue}
 

@@ -10,13 +10,14 @@ use Rattle.lay_units.specs.Units.{clamp_size_of}
 use Rattle.lay_units.specs.declared.length.Unit.{Unit as Length}
 use Rattle.lay_units.specs.declared.records.BlockIn.{BlockIn}
 use Rattle.lay_units.specs.declared.records.Len.TheVariants.{Auto as auto, Of as of}
+use Rattle.lay_units.specs.Lengths.{no_length}
 use Rattle.lay_style.specs.declared.style.Style.{Style}
 use Rattle.lay_box_tree.specs.declared.box_tree.BoxNode.{BoxNode}
 use Rattle.lay_widths.specs.BlockWidths.{IsHeld, IsUsedBlock}
 use Rattle.lay_widths.specs.declared.widths.BlockOut.{BlockOut}
 use Rattle.lay_sizes.specs.BoxSizes.{border_width, widths_beside}
 use Rattle.lay_sizes.specs.SizeColumns.{no_edges, no_sizes, sizes_at}
-use Rattle.lay_sizes.specs.UsedLengths.{no_length, used_height, used_margin, used_max_height, used_min_height, used_vertical_margin}
+use Rattle.lay_sizes.specs.UsedLengths.{used_height, used_margin, used_max_height, used_min_height, used_vertical_margin}
 use Rattle.lay_sizes.specs.declared.sizing.BoxSizes.{BoxSizes}
 use Rattle.lay_sizes.specs.declared.sizing.ContainingBlock.{ContainingBlock}
 use Rattle.lay_grid.specs.Columns.{AreColumns}

@@ -9,11 +9,12 @@ use Rattle.std.proofs.lemmas.Bool.{cases_lt}
 use Rattle.std.proofs.lemmas.List.FromFn.{get_or-map-range_with_len, length-map-range_with_len}
 use Rattle.lay_units.specs.Units.{IsPosition, IsWithinPower}
 use Rattle.lay_units.specs.declared.length.Unit.{Unit}
+use Rattle.lay_units.specs.Lengths.{no_length}
 use Rattle.lay_valign.specs.declared.parts.LineEdge.{LineEdge}
 use Rattle.lay_valign.specs.declared.parts.LineEdge.TheVariants.{TopEdge, BottomEdge}
 use Rattle.lay_valign.specs.declared.parts.LineShape.{LineShape}
 use Rattle.lay_valign.specs.declared.parts.Part.{Part}
-use Rattle.lay_valign.specs.Parts.{part_at, at, no_length, is_aligned}
+use Rattle.lay_valign.specs.Parts.{part_at, at, is_aligned}
 use Rattle.lay_valign.specs.Subtrees.{Subtrees, AreSubtrees}
 use Rattle.lay_valign.specs.LineShape.{IsAligned, IsLine, IsRaised, base_by, base_of, beyond, shift_of}
 use Rattle.lay_valign.specs.PartsFit.{PartsFit, ShapeFits}
