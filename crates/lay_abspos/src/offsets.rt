@@ -13,9 +13,9 @@ ghost use Rattle.lay_abspos.specs.AbsoluteSettings.{SettingFits};
 use crate::axes::{axis_down, content_height, wrapper_down};
 use crate::lengths::moved;
 use crate::setting::{AbsoluteSetting, block_in};
-use crate::sizes::{border_start, is_wrapper, own_axis_down, solved};
+use crate::sizes::{border_start, own_axis_down, solved};
 use crate::{Axis, ContentSize};
-use lay_box_tree::BoxNode;
+use lay_box_tree::{BoxNode, is_wrapper};
 use lay_pieces::{Corner, near_corner};
 use lay_units::{Len, NoMemory, Unit};
 

@@ -3,6 +3,7 @@
 -- together. In it the boxes of inner contexts and anchors, which are marked as inner, are leaves.
 use Rattle.lay_box_tree.specs.declared.box_tree.Flow.TheVariants.{InFlow}
 use Rattle.lay_box_tree.specs.declared.box_tree.BoxKind.TheVariants.{Block}
+use Rattle.lay_style.specs.ComputedStyle.{style_at}
 use Rattle.lay_style.specs.InitialStyle.{initial_style}
 use Rattle.std.specs.Prelude.{slice_index_or}
 use Rattle.std.specs.Prelude.{◌≡◌, ◌<◌, ℕ, Bool, false, List, length, map, slice_index, slice_index_or}
@@ -18,6 +19,10 @@ box_ids boxes = map (λ b. b.node.0) boxes
 
 abbrev pub box_styles : List BoxNode → List Style
 box_styles boxes = map (λ b. b.style) boxes
+
+-- the style of the box at a place
+abbrev pub style_of_box : List BoxNode → ℕ → Style
+style_of_box boxes k = style_at (box_styles boxes) k
 
 abbrev pub box_inner : List BoxNode → List Bool
 box_inner boxes = map (λ b. b.inner) boxes

@@ -2,6 +2,7 @@
 
 ghost use Rattle.std.specs.Prelude.{◌≡◌, ℕ, ◌+◌, ◌<◌, ◌≤◌, ◌==◌, ◌||◌, ◌-ℤ◌, not, nat_lt, length, true, false};
 ghost use Rattle.lay_units.specs.declared.length.Unit.{Unit};
+ghost use Rattle.lay_units.specs.Units.{IsUsed};
 ghost use Rattle.lay_margins.specs.Collapse.{Holds};
 ghost use Rattle.lay_flow.specs.declared.hypothetical_edge.Outset.{Outset};
 ghost use Rattle.lay_blocks.specs.Boxes.{parent_at};
@@ -11,7 +12,6 @@ ghost use Rattle.lay_blocks.specs.BlockLayout.{BlockLayout};
 ghost use Rattle.lay_blocks.specs.BlockPositions.{IsBlockLayout, start_before};
 ghost use Rattle.lay_flow.specs.Pass.LookAhead.{HasRead, IsOutermost, IsOutset, IsReading, reading};
 ghost use Rattle.lay_blocks.specs.MarginRuns.{block_at, has_top, margins, may_collapse_through, run_before};
-ghost use Rattle.lay_flow.specs.Pass.Bounds.{IsCollapseNear};
 ghost use Rattle.lay_flow.specs.Pass.Struts.{StrutFits};
 
 use crate::margin_place::BoxInRun;
@@ -59,7 +59,7 @@ pub(crate) fn hypothetical_edge(before: &BoxInRun<'_>, start: Near, used: UsedSt
         → Holds used.strut (margins (run_before before.now.at.boxes.list.now w.runs (parent_at before.now.at.boxes.list.now before.now.at.k) before.now.at.k)) → start.unit.0 ≡ start_before before.now.at.boxes.list.now w (parent_at before.now.at.boxes.list.now before.now.at.k) before.now.at.k
         → ((j : ℕ) → j < before.now.at.k → has_top j (run_before before.now.at.boxes.list.now w.runs (parent_at before.now.at.boxes.list.now before.now.at.k) before.now.at.k) ≡ not (nat_lt j before.now.first))
         → result.0 ≡ length_at w.places.marks before.now.at.k }
-    ensures near { IsCollapseNear (result.0 -ℤ start.unit.0) }
+    ensures near { IsUsed (result.0 -ℤ start.unit.0) }
 {
     let look = LookAhead {
         boxes: before.at.boxes,

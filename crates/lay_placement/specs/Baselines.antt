@@ -19,7 +19,7 @@ use Rattle.lay_box_tree.specs.declared.box_tree.BoxKind.{BoxKind}
 use Rattle.lay_box_tree.specs.declared.box_tree.BoxKind.TheVariants as kind
 use Rattle.lay_box_tree.specs.declared.box_tree.BoxNode.{BoxNode}
 use Rattle.lay_box_tree.specs.BoxColumns.{box_styles}
-use Rattle.lay_box_tree.specs.Kinds.{is_wrapper}
+use Rattle.lay_box_tree.specs.Kinds.{is_wrapper, is_cell}
 use Rattle.lay_box_tree.specs.Roles.{role_at}
 use Rattle.lay_lines.specs.declared.row.Ended.{Ended}
 use Rattle.lay_inlines.specs.LinePieces.{baseline_of}
@@ -69,10 +69,6 @@ first_baseline_to i places (suc k) = option_or (first_baseline_to i places k) (b
 abbrev pub is_visible : Overflow → Bool
 is_visible overflow.Visible = true
 is_visible _ = false
-
-abbrev pub is_cell : BoxKind → Bool
-is_cell (kind.Cell colspan rowspan) = true
-is_cell _ = false
 
 -- the own box is a table cell
 abbrev pub is_of_cell : List BoxNode → Bool

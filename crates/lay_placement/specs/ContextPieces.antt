@@ -19,6 +19,7 @@ use Rattle.lay_sizes.specs.BoxSizes.{border_width}
 use Rattle.lay_sizes.specs.OwnBoxes.{own_box_at}
 use Rattle.lay_sizes.specs.SizeColumns.{sizes_at}
 use Rattle.lay_box_tree.specs.ContextBoxes.{is_inner}
+use Rattle.lay_box_tree.specs.InlineParts.{id_at}
 use Rattle.lay_relative.specs.declared.offset.Offset.{Offset}
 use Rattle.lay_relative.specs.Moves.{move_at}
 use Rattle.lay_flow_boxes.specs.PlaceInputs.{PlaceInput}
@@ -29,9 +30,6 @@ use Rattle.lay_placement.specs.BoxStandings.{standing_of_box}
 use Rattle.lay_placement.specs.ContextPlaces.{ContextPlaces}
 use Rattle.lay_placement.specs.OnLines.{on_lines_of}
 
-abbrev pub id_of : List BoxNode → ℕ → ℕ
-id_of boxes k = slice_index (box_ids boxes) k
-
 -- a rectangle that is moved so far
 abbrev pub moved_rect : Offset → Rect → Rect
 moved_rect o r = record { x = record { 0 = o.right.0 +ℤ r.x.0 }; y = record { 0 = o.down.0 +ℤ r.y.0 }; w = r.w; h = r.h }
@@ -40,7 +38,7 @@ moved_rect o r = record { x = record { 0 = o.right.0 +ℤ r.x.0 }; y = record { 
 abbrev pub piece_as : PlaceInput → ContextPlaces → LinePiece → FragKind → Frag
 piece_as i p piece kind = record {
   kind = kind;
-  node = record { 0 = id_of i.boxes piece.node };
+  node = record { 0 = id_at i.boxes piece.node };
   part = 0;
   rect = moved_rect (move_at p.moves piece.node) piece.rect;
 }
@@ -63,7 +61,7 @@ pieces_on_line i p piece = painted i p piece piece.kind
 abbrev pub piece_of_box : PlaceInput → ContextPlaces → ℕ → Frag
 piece_of_box i p k = record {
   kind = kind.Box;
-  node = record { 0 = id_of i.boxes k };
+  node = record { 0 = id_at i.boxes k };
   part = 0;
   rect = border_box (record { 0 = border_width (sizes_at i.sizes k) }) (standing_of_box i p k);
 }

@@ -16,6 +16,7 @@ use Rattle.lay_style.specs.declared.style_lengths.LengthPercentageOrAuto.{Length
 use Rattle.lay_box_tree.specs.declared.box_tree.BoxKind.{BoxKind}
 use Rattle.lay_box_tree.specs.declared.box_tree.BoxKind.TheVariants as kind
 use Rattle.lay_box_tree.specs.declared.box_tree.BoxNode.{BoxNode}
+use Rattle.lay_box_tree.specs.BoxColumns.{style_of_box}
 use Rattle.lay_sizes.specs.UsedLengths.{used_size, used_width}
 use Rattle.lay_measure.specs.Contributions.{size_or_zero}
 use Rattle.lay_measure.specs.ReplacedWidths.{length_or_auto}
@@ -23,7 +24,7 @@ use Rattle.lay_grid.specs.declared.columns.ColumnsIn.{ColumnsIn}
 use Rattle.lay_grid.specs.declared.columns.FirstCell.{FirstCell}
 use Rattle.lay_table_borders.specs.TableGrid.{TableGridValue}
 use Rattle.lay_table_borders.specs.declared.grid.TableCell.{TableCell}
-use Rattle.lay_table_sizes.specs.TableBoxes.{inset, style_of_box}
+use Rattle.lay_table_sizes.specs.TableBoxes.{inset}
 
 -- a `width` and a padding beside the width of the table, which is None where it isn't known yet
 abbrev pub given_width : Option Length → LengthPercentageOrAuto → Len

@@ -11,6 +11,7 @@ use Rattle.lay_units.specs.Lengths.{no_length}
 use Rattle.lay_style.specs.declared.style.Style.{Style}
 use Rattle.lay_heights.specs.MinMax.{with_min_max_of}
 use Rattle.lay_box_tree.specs.declared.box_tree.BoxNode.{BoxNode}
+use Rattle.lay_box_tree.specs.BoxColumns.{style_of_box}
 use Rattle.lay_measure.specs.Contributions.{bounded_width, given_or, limit_of, size_or_zero}
 use Rattle.lay_measure.specs.MeasureInValue.{no_widths}
 use Rattle.lay_measure.specs.declared.preferred_widths.PreferredWidths.{PreferredWidths}
@@ -19,7 +20,7 @@ use Rattle.lay_grid.specs.Shares.{own_at}
 use Rattle.lay_table_borders.specs.TableGrid.{IsTableGrid, TableGridValue}
 use Rattle.lay_table_borders.specs.declared.grid.TableCell.{TableCell}
 use Rattle.lay_table_sizes.specs.ColumnWidths.{cell_edges, columns_in, with_spacings}
-use Rattle.lay_table_sizes.specs.TableBoxes.{preferred_edges, style_of_box, table_style}
+use Rattle.lay_table_sizes.specs.TableBoxes.{preferred_edges, table_style}
 
 -- the preferred widths at k
 abbrev pub widths_at : List PreferredWidths → ℕ → PreferredWidths

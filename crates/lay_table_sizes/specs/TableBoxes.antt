@@ -9,15 +9,11 @@ use Rattle.lay_units.specs.Lengths.{no_length}
 use Rattle.lay_style.specs.ComputedStyle.{style_at}
 use Rattle.lay_style.specs.declared.style.Style.{Style}
 use Rattle.lay_style.specs.declared.style_lengths.LengthPercentage.{LengthPercentage}
-use Rattle.lay_box_tree.specs.BoxColumns.{box_styles}
+use Rattle.lay_box_tree.specs.BoxColumns.{box_styles, style_of_box}
 use Rattle.lay_box_tree.specs.declared.box_tree.BoxNode.{BoxNode}
 use Rattle.lay_sizes.specs.UsedLengths.{used_limit, used_margin, used_size, used_width}
 use Rattle.lay_measure.specs.Contributions.{size_or_zero}
 use Rattle.lay_table_borders.specs.TableGrid.{TableGridValue}
-
--- the style of the box at k
-abbrev pub style_of_box : List BoxNode → ℕ → Style
-style_of_box boxes k = style_at (box_styles boxes) k
 
 -- the wrapper stands first
 abbrev pub wrapper_style : List BoxNode → Style

@@ -38,10 +38,6 @@ IsRunNear w v = (neg_ℤ (pos (2251799813685248 + 68719476736 * w + 4294967296))
 abbrev pub IsMarkNear : ℕ → ℤ → Type 0
 IsMarkNear w v = (neg_ℤ (pos (2251799813685248 + 68719476736 * w + 6442450944)) ≤ℤ v) × (v ≤ℤ pos (2251799813685248 + 68719476736 * w + 6442450944))
 
--- what margins collapse to
-abbrev pub IsCollapseNear : ℤ → Type 0
-IsCollapseNear v = (neg_ℤ limit ≤ℤ v) × (v ≤ℤ limit)
-
 pub record StateFits (boxes : List FlowBox) (now : PassState) (p m : ℕ) : Type 0 where
   pub parent : p < m
   pub within : m ≤ length boxes
