@@ -12,6 +12,7 @@ use Rattle.lay_style.specs.declared.style_words.Display.TheVariants as display
 use Rattle.lay_style.specs.declared.style_lengths.ZIndex.{ZIndex}
 use Rattle.lay_style.specs.declared.style_lengths.ZIndex.TheVariants as index
 use Rattle.lay_style.specs.ComputedStyle.{style_at}
+use Rattle.lay_style.specs.Positions.{is_positioned}
 use Rattle.lay_doc.specs.declared.node.Node.{Node}
 use Rattle.lay_doc.specs.declared.node.Kind.{Kind}
 use Rattle.lay_doc.specs.declared.node.Kind.TheVariants as kind
@@ -20,10 +21,6 @@ use Rattle.lay_anonymous_boxes.specs.Forms.{is_in_flow}
 use Rattle.lay_boxgen.specs.Display.{is_floated, flow_of, used_display_of}
 use Rattle.lay_hit.specs.declared.kinds.PaintKind.{PaintKind}
 use Rattle.lay_hit.specs.declared.kinds.PaintKind.TheVariants.{Stacking, Layered, Float, Atomic, Block, Inline}
-
-abbrev pub is_positioned : Position → Bool
-is_positioned position.Static = false
-is_positioned _ = true
 
 abbrev pub is_out_of_flow : Style → Bool
 is_out_of_flow s = not (is_in_flow (flow_of s))

@@ -8,13 +8,10 @@ use Rattle.lay_units.specs.declared.length.Unit.{Unit as Length}
 use Rattle.lay_style.specs.declared.style.Style.{Style}
 use Rattle.lay_widths.specs.declared.replaced.ReplacedIn.{ReplacedIn}
 use Rattle.lay_widths.specs.declared.replaced.ReplacedSize.{ReplacedSize}
-use Rattle.lay_widths.specs.ReplacedSizes.{sizes_for}
+use Rattle.lay_widths.specs.ReplacedSizes.{sizes_for, natural_length}
 use Rattle.lay_sizes.specs.declared.sizing.ContainingBlock.{ContainingBlock}
 use Rattle.lay_sizes.specs.declared.replaced.NaturalSize.{NaturalSize}
 use Rattle.lay_sizes.specs.UsedLengths.{used_width, used_size, used_limit, used_height, used_min_height, used_max_height}
-
-abbrev pub natural_length : Length → Length
-natural_length u = record { 0 = int_max (pos 1) (clamp_size_of u.0) }
 
 -- what the used size of a replaced element depends on
 abbrev pub replaced_of : ContainingBlock → NaturalSize → Style → ReplacedIn
