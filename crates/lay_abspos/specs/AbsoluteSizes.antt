@@ -32,7 +32,8 @@ own_axis_across s own preferred_minimum preferred =
     axis_across s own.style (block_across (block_in s) (natural_in own.kind) own.style) (shrinks preferred_minimum preferred)
 
 -- these are the used sizes of this box, whose content has these preferred widths, and its left border edge is there
-pub record IsAbsoluteSized (s : AbsoluteSetting) (own : BoxNode) (preferred_minimum preferred : Length) (z : BoxSizes) (left : Length) : Type 0 where
+pub record IsAbsoluteSized (s : AbsoluteSetting) (own : BoxNode) (preferred_minimum preferred : Length) (z : BoxSizes) (left : Length)
+    : Type 0 where
   pub out : AbsOut
   pub across : IsUsedAxis (own_axis_across s own preferred_minimum preferred) out
   pub left_is : left ≡ border_start out

@@ -5,7 +5,8 @@ ghost use Rattle.lay_units.specs.Units.{IsPosition, IsUsedSize};
 ghost use Rattle.lay_style.specs.LengthValues.{size_of};
 ghost use Rattle.lay_widths.specs.Lengths.{BlockFits, LenFits, LenIsSize};
 ghost use Rattle.lay_abspos.specs.AbsoluteFits.{AxisFits};
-ghost use Rattle.lay_abspos.specs.AbsoluteAxes.{axis_across, axis_down, block_across, block_down, content_height, natural_in, wrapper_across, wrapper_block, wrapper_down};
+ghost use Rattle.lay_abspos.specs.AbsoluteAxes.{axis_across, axis_down, block_across, block_down, content_height};
+ghost use Rattle.lay_abspos.specs.AbsoluteAxes.{natural_in, wrapper_across, wrapper_block, wrapper_down};
 ghost use Rattle.lay_abspos.specs.AbsoluteSettings.{SettingFits};
 
 use crate::lengths::inside;

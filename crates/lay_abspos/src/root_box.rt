@@ -23,7 +23,8 @@ pub(crate) struct RootBox {
 impl RootBox {
     /// Its left border edge where it stands at the right edge of the viewport.
     pub(crate) fn left_of_right(&self) -> Unit
-        ensures left { result ≡ record { 0 = self.now.viewport.width.0 -ℤ self.now.sizes.widths.margin_right.0 -ℤ border_width self.now.sizes } }
+        ensures left { result
+            ≡ record { 0 = self.now.viewport.width.0 -ℤ self.now.sizes.widths.margin_right.0 -ℤ border_width self.now.sizes } }
         ensures bounds { IsRootEdge result.0 }
     {
         let margin = self.sizes.widths.margin_right;

@@ -3,7 +3,9 @@
 ghost use Rattle.std.specs.Prelude.{◌≡◌, ◌++◌, List, OnOk, IfOk};
 ghost use Rattle.lay_anonymous_boxes.specs.declared.facts.Facts.{Facts};
 ghost use Rattle.lay_anonymous_boxes.specs.Boxes.{Tree, in_box};
-ghost use Rattle.lay_anonymous_boxes.specs.MissingParents.{is_cell_in_flow, row_of_cells, cells_in_rows, is_misparented_row, is_misparented_column, is_misparented_group_or_caption, is_misparented, table_round, parts_in_tables, parented};
+ghost use Rattle.lay_anonymous_boxes.specs.MissingParents.{is_cell_in_flow, row_of_cells, cells_in_rows, is_misparented_row};
+ghost use Rattle.lay_anonymous_boxes.specs.MissingParents.{is_misparented_column, is_misparented_group_or_caption};
+ghost use Rattle.lay_anonymous_boxes.specs.MissingParents.{is_misparented, table_round, parts_in_tables, parented};
 
 use crate::facts::{Facts, Form};
 use crate::forms::{

@@ -62,7 +62,9 @@ impl<'a> Reading<'a> {
     /// Reads the lines of the last tree.
     fn read_last_tree(&mut self, alloc: Global) -> Result<Verdict, NoMemory>
         requires { self.old.lines + length self.old.rest + 1 < 2 ^ 64 }
-        ensures { IfOk result (λ v. (basis : Basis) (text : List ℕ) → IsAtEnd basis text self.old.lines self.old.rest self.old.tree.contexts self.old.tree.text → IsVerdict basis text v) }
+        ensures { IfOk result
+            (λ v. (basis : Basis) (text : List ℕ)
+            → IsAtEnd basis text self.old.lines self.old.rest self.old.tree.contexts self.old.tree.text → IsVerdict basis text v) }
     {
         match compare(self.tree.text(), self.rest) {
             Ok((lines, rest)) => {
@@ -77,7 +79,9 @@ impl<'a> Reading<'a> {
     /// Reads the number of claims, and the end.
     fn read_laid(&self, alloc: Global) -> Result<Verdict, NoMemory>
         requires { self.now.lines + length self.now.rest + 1 < 2 ^ 64 }
-        ensures { IfOk result (λ v. (basis : Basis) (text : List ℕ) → IsAtEnd basis text self.now.lines self.now.rest self.now.tree.contexts [] → IsVerdict basis text v) }
+        ensures { IfOk result
+            (λ v. (basis : Basis) (text : List ℕ) → IsAtEnd basis text self.now.lines self.now.rest self.now.tree.contexts []
+            → IsVerdict basis text v) }
     {
         match behind_laid(alloc, self.tree.contexts(), self.rest)? {
             None => Ok(Verdict::No(self.lines + 1)),

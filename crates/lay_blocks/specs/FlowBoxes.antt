@@ -7,7 +7,8 @@ use Rattle.lay_doc.specs.Tree.{IsTree}
 use Rattle.lay_floats.specs.Within.{IsWithin}
 use Rattle.lay_blocks.specs.declared.flow_box.FlowBox.{FlowBox}
 use Rattle.lay_blocks.specs.declared.flow_box.FlowKind.{FlowKind}
-use Rattle.lay_blocks.specs.declared.flow_box.FlowKind.TheVariants.{Block as block, Lines as lines, Solid as solid, Float as float, LineFloat as line_float, Inline as inline}
+use Rattle.lay_blocks.specs.declared.flow_box.FlowKind.TheVariants.{Block as block, Lines as lines, Solid as solid}
+use Rattle.lay_blocks.specs.declared.flow_box.FlowKind.TheVariants.{Float as float, LineFloat as line_float, Inline as inline}
 use Rattle.lay_blocks.specs.declared.flow_box.BlockBox.{BlockBox}
 use Rattle.lay_blocks.specs.declared.flow_box.SolidBox.{SolidBox}
 use Rattle.lay_blocks.specs.declared.flow_box.FloatBox.{FloatBox}

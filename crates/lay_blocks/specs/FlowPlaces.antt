@@ -12,7 +12,8 @@ use Rattle.lay_lines.specs.declared.row.Ended.{Ended}
 use Rattle.lay_blocks.specs.declared.flow_box.FlowBox.{FlowBox}
 use Rattle.lay_blocks.specs.declared.flow_box.FloatBox.{FloatBox}
 use Rattle.lay_blocks.specs.declared.flow_box.FlowKind.{FlowKind}
-use Rattle.lay_blocks.specs.declared.flow_box.FlowKind.TheVariants.{Block as block, Lines as lines, Solid as solid, Float as float, LineFloat as line_float, Inline as inline}
+use Rattle.lay_blocks.specs.declared.flow_box.FlowKind.TheVariants.{Block as block, Lines as lines, Solid as solid}
+use Rattle.lay_blocks.specs.declared.flow_box.FlowKind.TheVariants.{Float as float, LineFloat as line_float, Inline as inline}
 use Rattle.lay_blocks.specs.declared.flow_places.BoxPlace.{BoxPlace}
 use Rattle.lay_blocks.specs.Lengths.{length_at}
 use Rattle.lay_blocks.specs.Boxes.{box_at}
@@ -86,7 +87,8 @@ border_box inline mark height place = no_box_place
 abbrev pub border_box_in : List FlowBox → Flow → ℕ → BoxPlace
 border_box_in boxes f k =
     let kind = (box_at boxes k).kind in
-    border_box kind (record { 0 = length_at f.layout.places.marks k }) (record { 0 = length_at f.layout.places.heights k }) (own_place kind (place_at f.places k) (place_in_lines f.places k))
+    border_box kind (record { 0 = length_at f.layout.places.marks k }) (record { 0 = length_at f.layout.places.heights k })
+    (own_place kind (place_at f.places k) (place_in_lines f.places k))
 
 -- these are the places of the boxes in a flow
 pub record ArePlacesOf (boxes : List FlowBox) (f : Flow) (out : FlowPlacesValue) : Type 0 where

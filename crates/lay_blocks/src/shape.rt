@@ -98,7 +98,16 @@ impl FlowBox {
 
 // A block box, whose size is known later.
 fn in_flow(around: Across, b: &BlockBox) -> Shape
-    ensures { result ≡ record { float = None; clear = b.now.clear; left = around.left; right = around.right; x = b.now.x; width = no_length; height = no_length } }
+    ensures { result
+        ≡ record {
+          float = None;
+          clear = b.now.clear;
+          left = around.left;
+          right = around.right;
+          x = b.now.x;
+          width = no_length;
+          height = no_length;
+        } }
 {
     Shape {
         clear: b.clear,

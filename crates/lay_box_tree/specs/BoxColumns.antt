@@ -38,7 +38,8 @@ pub record IsBoxTree (boxes : List BoxNode) : Type 0 where
 
 -- the box at a place, and one of no element behind the last
 abbrev pub no_box : BoxNode
-no_box = record { node = record { 0 = 0 }; parent = 0; kind = Block; flow = InFlow; anonymous = false; inner = false; style = initial_style }
+no_box =
+    record { node = record { 0 = 0 }; parent = 0; kind = Block; flow = InFlow; anonymous = false; inner = false; style = initial_style }
 
 abbrev pub box_at : List BoxNode → ℕ → BoxNode
 box_at boxes k = slice_index_or boxes k no_box

@@ -39,7 +39,8 @@ fn first_parts(
 ) -> Result<Vec<InlinePart>, NoMemory>
     requires { (id : ℕ) → IsLatest boxes.now 0 id (get nat_cmp latest.old id) }
     ensures count { IfOk result (λ v. length v.items ≡ length boxes.now) }
-    ensures each { IfOk result (λ v. (k : ℕ) → k < length boxes.now → (slice_index_or v.items k no_part).first ≡ is_first_part boxes.now k) }
+    ensures each { IfOk result
+        (λ v. (k : ℕ) → k < length boxes.now → (slice_index_or v.items k no_part).first ≡ is_first_part boxes.now k) }
     ensures latest { OnOk result ((id : ℕ) → IsLatest boxes.now (length boxes.now) id (get nat_cmp latest.new id)) }
 {
     let mut parts = Vec::with_capacity(alloc, boxes.len())?;

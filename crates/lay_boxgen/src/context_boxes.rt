@@ -55,7 +55,9 @@ pub(crate) fn boxes_of_tree(
     tree: Option<Subtree>,
 ) -> Result<Vec<BoxNode>, NoMemory>
     requires { tree ≡ cut_tree_at sources.nodes.now sources.styles.now place }
-    ensures boxes { IfOk result (λ v. v.items ≡ listed_part sources.entry.nodes.now sources.entry.styles.now (part sources.entry.nodes.now sources.entry.styles.now place)) }
+    ensures boxes { IfOk result
+        (λ v. v.items
+        ≡ listed_part sources.entry.nodes.now sources.entry.styles.now (part sources.entry.nodes.now sources.entry.styles.now place)) }
     ensures tree { IfOk result (λ v. IsBoxTree v.items) }
 {
     let _ = place;

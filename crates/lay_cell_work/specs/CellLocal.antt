@@ -47,8 +47,10 @@ abbrev pub masked_input : List (Option ℕ) → Option RootSpot → Input → In
 masked_input links around (input.Measure i) = input.Measure (record i { inner = masked no_widths links i.inner })
 masked_input links around input.Unmeasured = input.Unmeasured
 masked_input links around (input.Size i) = input.Size (record i { setting = masked_setting around i.setting })
-masked_input links around (input.Place i at) = input.Place (record i { inner = masked no_own_box links i.inner; pieces = masked [] links i.pieces }) at
-masked_input links around (input.PlaceTable i at) = input.PlaceTable (record i { inner = masked no_own_box links i.inner; pieces = masked [] links i.pieces }) at
+masked_input links around (input.Place i at) =
+    input.Place (record i { inner = masked no_own_box links i.inner; pieces = masked [] links i.pieces }) at
+masked_input links around (input.PlaceTable i at) =
+    input.PlaceTable (record i { inner = masked no_own_box links i.inner; pieces = masked [] links i.pieces }) at
 
 -- and with what these have in the value of the cell
 abbrev pub filled_input : List RootInput → CellValue → List (Option ℕ) → Option RootSpot → Input → Input
@@ -58,7 +60,8 @@ filled_input roots v links around (input.Size i) = input.Size (record i { settin
 filled_input roots v links around (input.Place i at) =
     input.Place (record i { inner = filled no_own_box (own_boxes v) links i.inner; pieces = filled [] (own_pieces v) links i.pieces }) at
 filled_input roots v links around (input.PlaceTable i at) =
-    input.PlaceTable (record i { inner = filled no_own_box (own_boxes v) links i.inner; pieces = filled [] (own_pieces v) links i.pieces }) at
+    input.PlaceTable
+    (record i { inner = filled no_own_box (own_boxes v) links i.inner; pieces = filled [] (own_pieces v) links i.pieces }) at
 
 -- what a root is given in all, where its cell answers this
 abbrev pub whole_input : List RootInput → CellValue → RootInput → Input

@@ -1,6 +1,7 @@
 //! The cells of a new shape: each takes what is kept under its key, or its number.
 
-ghost use Rattle.std.specs.Prelude.{◌≡◌, ◌≢◌, ◌⊎◌, ◌↔◌, ◌+◌, ◌-◌, ◌<◌, ◌≤◌, ◌^◌, ℕ, true, false, IsTrue, Some, IfSome, IfNone, length, map, slice_get, slice_set};
+ghost use Rattle.std.specs.Prelude.{◌≡◌, ◌≢◌, ◌⊎◌, ◌↔◌, ◌+◌, ◌-◌, ◌<◌, ◌≤◌, ◌^◌, ℕ, true, false};
+ghost use Rattle.std.specs.Prelude.{IsTrue, Some, IfSome, IfNone, length, map, slice_get, slice_set};
 ghost use Rattle.std.specs.BTreeSet.{contains};
 ghost use Rattle.lay_cells.specs.Kept.{ChangesAt, HasIndex, IsWired, wire_of};
 ghost use Rattle.lay_cells.specs.Looks.{IsAt, IsGone};
@@ -81,7 +82,9 @@ fn carried_from<W: Work>(
     key: W::Key,
 ) -> Option<usize>
     requires { IsWired W.Key.cmp index.now (map wire_of old.now) }
-    ensures some { IfSome result (λ i. (r : Row W.Key W.Input W.Value) × (contains W.Key.cmp fresh.now key ≡ false) × IsAt (map row_of old.now) key i r × (i < length old.now)) }
+    ensures some { IfSome result
+        (λ i. (r : Row W.Key W.Input W.Value) × (contains W.Key.cmp fresh.now key ≡ false)
+        × IsAt (map row_of old.now) key i r × (i < length old.now)) }
     ensures none { IfNone result ((contains W.Key.cmp fresh.now key ≡ true) ⊎ IsGone (map row_of old.now) key) }
 {
     if has_key::<W>(fresh, &key) {
@@ -96,7 +99,8 @@ fn is_to_mark<W: Work>(cells: &[CellOf<W>], place: usize, old: &[CellOf<W>], fro
     requires wired { HasIndex W.Key.cmp (map wire_of cells.now) }
     requires within { place < length cells.now }
     requires old_within { from < length old.now }
-    ensures { (b r : Row W.Key W.Input W.Value) × (slice_get (map row_of cells.now) place ≡ Some b) × (slice_get (map row_of old.now) from ≡ Some r)
+    ensures { (b r : Row W.Key W.Input W.Value) × (slice_get (map row_of cells.now) place ≡ Some b)
+        × (slice_get (map row_of old.now) from ≡ Some r)
         × IsToMark (map row_of cells.now) b r result }
 {
     let needs = cell_at::<W>(cells, place).needs.as_slice();
@@ -116,7 +120,8 @@ fn take_over<W: Work>(
     requires wired { HasIndex W.Key.cmp (map wire_of cells.old.items) }
     requires within { place < length cells.old.items }
     requires old_within { from < length old.old.items }
-    ensures rows { (b r : Row W.Key W.Input W.Value) × (slice_get (map row_of cells.old.items) place ≡ Some b) × (slice_get (map row_of old.old.items) from ≡ Some r)
+    ensures rows { (b r : Row W.Key W.Input W.Value) × (slice_get (map row_of cells.old.items) place ≡ Some b)
+        × (slice_get (map row_of old.old.items) from ≡ Some r)
         × TakesOver (map row_of cells.old.items) place b r (map row_of cells.new.items) }
     ensures wires { map wire_of cells.new.items ≡ map wire_of cells.old.items }
     ensures old { ChangesAt old.old.items old.new.items from (λ b q. q.key ≡ b.key) }
@@ -149,7 +154,8 @@ fn settle_at<W: Work>(
     requires within { place < length cells.old.items }
     requires old_wired { IsWired W.Key.cmp origins.now.index.now (map wire_of old.old.items) }
     requires few { draws < 2 ^ 64 - 1 }
-    ensures rows { Settles (map row_of old.old.items) (λ k. contains W.Key.cmp origins.now.fresh.now k ≡ true) (map row_of cells.old.items) place draws
+    ensures rows { Settles (map row_of old.old.items) (λ k. contains W.Key.cmp origins.now.fresh.now k ≡ true)
+        (map row_of cells.old.items) place draws
         (map row_of cells.new.items) (map row_of old.new.items) result }
     ensures wires { map wire_of cells.new.items ≡ map wire_of cells.old.items }
     ensures old_wires { map wire_of old.new.items ≡ map wire_of old.old.items }

@@ -4,7 +4,8 @@ ghost use Rattle.std.specs.Prelude.{◌≡◌, ◌+ℤ◌, if◌then◌else◌};
 ghost use Rattle.lay_units.specs.Units.{IsPosition};
 ghost use Rattle.lay_units.specs.Lengths.{no_length};
 ghost use Rattle.lay_sizes.specs.SizeBounds.{SizeFits};
-ghost use Rattle.lay_content.specs.InlineBoxes.{end_at, end_in, extent_at, has_left_edges, has_right_edges, has_vertical_edges, start_at, start_in};
+ghost use Rattle.lay_content.specs.InlineBoxes.{end_at, end_in, extent_at, has_left_edges};
+ghost use Rattle.lay_content.specs.InlineBoxes.{has_right_edges, has_vertical_edges, start_at, start_in};
 
 use crate::box_measures::BoxMeasures;
 use crate::line_heights::extent_of;

@@ -97,7 +97,8 @@ IsAxisAcross false s own widths width out = IsUsedAxis (own_axis_across s own wi
 pub record StandsIn (p : PageLayout) (i : ℕ) (s : AbsoluteSetting) : Type 0 where
   pub across : AbsOut
   pub down : AbsOut
-  pub is_across : IsAxisAcross (is_table (boxes_in p.contexts i)) s (box_at (boxes_in p.contexts i) 0) (widths_in p.workings.widths i).widths
+  pub is_across
+      : IsAxisAcross (is_table (boxes_in p.contexts i)) s (box_at (boxes_in p.contexts i) 0) (widths_in p.workings.widths i).widths
       (sizes_at (sizes_in p.workings.sizes i).boxes 0).widths.width across
   pub is_down : IsUsedAxis (axis_of_height (is_wrapper (box_at (boxes_in p.contexts i) 0).kind) s (box_at (boxes_in p.contexts i) 0)
       (placement_in p.workings.places i).own.height) down

@@ -101,10 +101,14 @@ impl Reading {
     /// Keeps a piece of the wanted tree.
     fn keep(&mut self, line: &Line) -> Result<(), Stop>
         requires { IsLine line.now }
-        ensures same { (self.new.place ≡ self.old.place) × (self.new.count ≡ self.old.count) × (self.new.wanted ≡ self.old.wanted) × (self.new.text ≡ self.old.text) }
-        ensures shown { OnOk result (self.new.is_shown ≡ (if self.old.is_open then self.old.is_shown else self.old.is_shown || shows self.old.wanted line.now)) }
-        ensures open { OnOk result (self.new.is_open ≡ (if self.old.is_open then is_piece line.now else not self.old.is_shown && shows self.old.wanted line.now)) }
-        ensures pieces { OnOk result (self.new.pieces.items ≡ self.old.pieces.items ++ (if self.old.is_open then piece_in line.now else [])) }
+        ensures same { (self.new.place ≡ self.old.place) × (self.new.count ≡ self.old.count)
+            × (self.new.wanted ≡ self.old.wanted) × (self.new.text ≡ self.old.text) }
+        ensures shown { OnOk result
+            (self.new.is_shown ≡ (if self.old.is_open then self.old.is_shown else self.old.is_shown || shows self.old.wanted line.now)) }
+        ensures open { OnOk result
+            (self.new.is_open ≡ (if self.old.is_open then is_piece line.now else not self.old.is_shown && shows self.old.wanted line.now)) }
+        ensures pieces { OnOk result
+            (self.new.pieces.items ≡ self.old.pieces.items ++ (if self.old.is_open then piece_in line.now else [])) }
         ensures err { IfErr result (λ e. e ≡ Stop.NoMemory) }
     {
         if self.is_open {

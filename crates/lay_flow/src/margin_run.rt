@@ -42,7 +42,8 @@ pub(crate) fn no_margin() -> UsedStrut
 pub(crate) fn end_of(start: RunStart, used: UsedStrut) -> Unit
     requires { IsNear (position_of start) }
     ensures hanging { is_hanging start ≡ true → result.0 ≡ position_of start }
-    ensures value { is_hanging start ≡ false → (margins : List ℤ) → Holds used.strut margins → result.0 ≡ position_of start +ℤ collapse margins }
+    ensures value { is_hanging start ≡ false → (margins : List ℤ) → Holds used.strut margins
+        → result.0 ≡ position_of start +ℤ collapse margins }
     ensures near { IsUsed (result.0 -ℤ position_of start) }
 {
     match start {

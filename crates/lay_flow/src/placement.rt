@@ -41,7 +41,8 @@ pub(crate) fn place_up_to(
     requires known { ArePlaced of.now.boxes.list.now of.now.marks.now placing.old (length placing.old.places.items) }
     ensures placed { OnOk result (GoesOn of.now.boxes.list.now of.now.marks.now placing.old placing.new) }
     ensures count { OnOk result (length placing.new.places.items ≡ m) }
-    ensures kept { OnOk result (AreExtentsKept of.now.boxes.list.now (length placing.old.places.items) placing.old.extents.items placing.new.extents.items) }
+    ensures kept { OnOk result
+        (AreExtentsKept of.now.boxes.list.now (length placing.old.places.items) placing.old.extents.items placing.new.extents.items) }
 {
     for k in placing.places.len()..m {
         let at = BoxAt { boxes: of.boxes, k };

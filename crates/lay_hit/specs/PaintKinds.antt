@@ -3,7 +3,8 @@
 -- positioned descendants and descendants which actually create a new stacking context" are of the context around it. Floats
 -- and inline blocks and inline tables are painted "as if [they] generated a new stacking context" with the same exception;
 -- so is a replaced element that is inline. The others are blocks, with the parts of tables, and inline boxes and texts.
-use Rattle.std.specs.Prelude.{ℕ, ℤ, pos, Bool, true, false, ◌==◌, not, List, map, slice_index_or, Option, Some, None, unwrap_or, is_some, if◌then◌else◌}
+use Rattle.std.specs.Prelude.{ℕ, ℤ, pos, Bool, true, false, ◌==◌, not, List, map, slice_index_or}
+use Rattle.std.specs.Prelude.{Option, Some, None, unwrap_or, is_some, if◌then◌else◌}
 use Rattle.lay_style.specs.declared.style.Style.{Style}
 use Rattle.lay_style.specs.declared.style_words.Position.{Position}
 use Rattle.lay_style.specs.declared.style_words.Position.TheVariants as position

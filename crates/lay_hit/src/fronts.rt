@@ -101,7 +101,9 @@ pub(crate) fn front_at(q: &Question<'_>, fronts: &[Waiting], k: usize) -> usize
 fn is_reached(fronts: &[Waiting], noted: &NodePieces, k: usize) -> bool
     requires fronts { k < length fronts.now }
     requires noted { k < length noted.now }
-    ensures { result ≡ (is_some (slice_index_or noted.now k None) || (not ((slice_index_or fronts.now k nobody).group == 0) || not ((slice_index_or fronts.now k nobody).owner == 0))) }
+    ensures { result
+        ≡ (is_some (slice_index_or noted.now k None)
+        || (not ((slice_index_or fronts.now k nobody).group == 0) || not ((slice_index_or fronts.now k nobody).owner == 0))) }
 {
     let here = waiting_at(fronts, k);
     noted.has(k) | ((here.group != 0) | (here.owner != 0))

@@ -109,7 +109,8 @@ pub fn clean_widths(
     style: &TextStyle,
     text: &str,
 ) -> Result<Option<WidthList>, NoMemory>
-    ensures { IfOk result (λ o. IfSome o (λ l. IsClean false text.now × (l ≡ gathered text.now (widths_of face.now (setting_of style.now) text.now)))) }
+    ensures { IfOk result
+        (λ o. IfSome o (λ l. IsClean false text.now × (l ≡ gathered text.now (widths_of face.now (setting_of style.now) text.now)))) }
 {
     if text.len() > MOST_TEXT {
         return Ok(None);

@@ -3,7 +3,8 @@
 ghost use Rattle.std.specs.Prelude.{◌≡◌, ◌≤◌, ◌+ℤ◌, ◌∷◌, length, take, IsTrue};
 ghost use Rattle.lay_units.specs.Units.{IsPosition};
 ghost use Rattle.lay_units.specs.TabStops.{next_stop};
-ghost use Rattle.lay_line_content.specs.Pens.{blank, went, moved, spaced, hung, over, over_all, past, start_of, pen_to, PenFits, PensFit, ContentFits};
+ghost use Rattle.lay_line_content.specs.Pens.{blank, went, moved, spaced, hung, over, over_all};
+ghost use Rattle.lay_line_content.specs.Pens.{past, start_of, pen_to, PenFits, PensFit, ContentFits};
 
 use crate::arithmetic::{plus, wide_minus};
 use crate::content::{Part, Stretch};

@@ -1,7 +1,8 @@
 //! What a box takes of the preferred widths of what is around it.
 
 ghost use Rattle.std.specs.Prelude.{◌≡◌, slice_get, IfOk};
-ghost use Rattle.lay_measure.specs.Contributions.{around_border, bounded_width, given_or, left_edges, limit_of, margin_box, margin_or_zero, right_edges, size_or_zero};
+ghost use Rattle.lay_measure.specs.Contributions.{around_border, bounded_width, given_or, left_edges, limit_of};
+ghost use Rattle.lay_measure.specs.Contributions.{margin_box, margin_or_zero, right_edges, size_or_zero};
 ghost use Rattle.lay_measure.specs.LineParts.{contribution, contribution_at};
 ghost use Rattle.lay_style.specs.LengthValues.{size_of};
 

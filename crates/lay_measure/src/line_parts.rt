@@ -1,7 +1,8 @@
 //! What stands in lines, by its widths.
 
 ghost use Rattle.std.specs.Prelude.{◌≡◌, ◌++◌, ◌∷◌, [], slice_get, OnOk, IfOk};
-ghost use Rattle.lay_measure.specs.LineParts.{cluster_part, end_in, end_of, has_left_edges, has_right_edges, has_vertical_edges, line_parts, part_between, parts_at, parts_of, start_in, start_of, text_parts};
+ghost use Rattle.lay_measure.specs.LineParts.{cluster_part, end_in, end_of, has_left_edges, has_right_edges, has_vertical_edges};
+ghost use Rattle.lay_measure.specs.LineParts.{line_parts, part_between, parts_at, parts_of, start_in, start_of, text_parts};
 
 use crate::contributions::{
     contribution_at, left_edges, margin_or_zero, right_edges, size_of, size_or_zero,

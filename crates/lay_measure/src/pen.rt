@@ -2,7 +2,8 @@
 
 ghost use Rattle.std.specs.Prelude.{◌≡◌, ◌+ℤ◌, ◌*ℤ◌, IfOk};
 ghost use Rattle.lay_units.specs.TabStops.{next_stop};
-ghost use Rattle.lay_measure.specs.LineWidths.{begun, ends_line, float_sum, hung, line_width, moved, over, over_all, spaced, went, widest_float, width_for};
+ghost use Rattle.lay_measure.specs.LineWidths.{begun, ends_line, float_sum, hung, line_width, moved};
+ghost use Rattle.lay_measure.specs.LineWidths.{over, over_all, spaced, went, widest_float, width_for};
 
 use crate::line_parts::LinePart;
 use crate::preferred_widths::PreferredWidths;

@@ -1,6 +1,7 @@
 //! Sinks over memory.
 
-ghost use Rattle.std.specs.Prelude.{◌≡◌, ℕ, ◌+◌, ◌-◌, ◌<◌, ◌≤◌, ◌↔◌, ◌^◌, ◌⊎◌, ◌++◌, List, [], Option, Some, length, take, IfOk, OnErr, OnOk, IsErr, IsTrue, min};
+ghost use Rattle.std.specs.Prelude.{◌≡◌, ℕ, ◌+◌, ◌-◌, ◌<◌, ◌≤◌, ◌↔◌, ◌^◌, ◌⊎◌, ◌++◌, List, [], Option};
+ghost use Rattle.std.specs.Prelude.{Some, length, take, IfOk, OnErr, OnOk, IsErr, IsTrue, min};
 ghost use Rattle.lay_outside.specs.Outside.{Rose, Took};
 ghost use Rattle.lay_outside.specs.Memory.{Room, Drain, is_listed};
 
@@ -100,7 +101,15 @@ impl Model for MemSink {
 
     ghost Value = { Drain };
 
-    ghost view = { λ s. record { bytes = s.bytes.items; room = s.room - vec_len s.bytes; step = s.step; fail = s.fail.items; calls = s.calls; faults = s.faults } };
+    ghost view = { λ s.
+        record {
+          bytes = s.bytes.items;
+          room = s.room - vec_len s.bytes;
+          step = s.step;
+          fail = s.fail.items;
+          calls = s.calls;
+          faults = s.faults;
+        } };
 
     ghost invariant = { λ s. (vec_len s.bytes ≤ s.room) × (s.room ≤ vec_capacity s.bytes) × (0 < s.step) };
 }
@@ -143,7 +152,8 @@ impl Sink for MemSink {
         ensures failed { OnErr result (Rose self.old.faults self.new.faults) }
         ensures never_falls { self.old.faults ≤ self.new.faults }
 
-        ensures fails_only { self.old.calls < 2 ^ 64 - 1 → IsErr result → IsTrue (is_listed self.old.fail self.old.calls) ⊎ ((self.old.room ≡ 0) × (0 < length piece.now)) }
+        ensures fails_only { self.old.calls < 2 ^ 64 - 1 → IsErr result
+            → IsTrue (is_listed self.old.fail self.old.calls) ⊎ ((self.old.room ≡ 0) × (0 < length piece.now)) }
         ensures fails_where_listed { self.old.calls < 2 ^ 64 - 1 → IsTrue (is_listed self.old.fail self.old.calls) → IsErr result }
         ensures fails_where_full { self.old.room ≡ 0 → 0 < length piece.now → IsErr result }
         ensures amount { IfOk result (λ n. n ≡ min (length piece.now) (min self.old.step self.old.room)) }

@@ -6,7 +6,8 @@
 -- seen is treated as not there (9.4.2), and what floats or is in another formatting context has lines of its own, which don't
 -- count. Of those the rows of a block-level table in flow alone count for a cell. It is counted downward from the top border
 -- edge of the own box.
-use Rattle.std.specs.Prelude.{ℕ, zero, suc, ◌+ℤ◌, ◌&&◌, Bool, true, false, List, map, length, reverse, slice_index_or, Option, None, if◌then◌else◌}
+use Rattle.std.specs.Prelude.{ℕ, zero, suc, ◌+ℤ◌, ◌&&◌, Bool, true, false, List, map}
+use Rattle.std.specs.Prelude.{length, reverse, slice_index_or, Option, None, if◌then◌else◌}
 use Rattle.std.specs.List.{find, flat_map}
 use Rattle.std.specs.Option.{option_map, option_or}
 use Rattle.lay_units.specs.declared.length.Unit.{Unit as Length}

@@ -2,7 +2,8 @@
 
 ghost use Rattle.std.specs.Prelude.{◌≡◌, ◌<◌, length, IfOk, IfSome};
 ghost use Rattle.lay_sizes.specs.OwnBoxes.{IsBaseline};
-ghost use Rattle.lay_placement.specs.Baselines.{baseline_in, first_baseline, first_baseline_to, is_of_cell, is_solid, is_table_in_flow, table_baseline};
+ghost use Rattle.lay_placement.specs.Baselines.{baseline_in, first_baseline, first_baseline_to};
+ghost use Rattle.lay_placement.specs.Baselines.{is_of_cell, is_solid, is_table_in_flow, table_baseline};
 ghost use Rattle.lay_placement.specs.Counts.{HaveCounts};
 
 use crate::baselines::{baseline_below, baseline_of};

@@ -10,7 +10,8 @@ ghost use Rattle.lay_pieces.specs.PieceParts.{with_pieces};
 ghost use Rattle.lay_pieces.specs.Standings.{IsStandingNear};
 ghost use Rattle.lay_relative.specs.MoveBounds.{IsMoveNear};
 ghost use Rattle.lay_placement.specs.BoxStandings.{standing_of_box};
-ghost use Rattle.lay_placement.specs.ContextPieces.{moved_rect, piece_as, piece_of_box, pieces_of_box, pieces_on_line, pieces_to, spliced_at};
+ghost use Rattle.lay_placement.specs.ContextPieces.{moved_rect, piece_as, piece_of_box, pieces_of_box};
+ghost use Rattle.lay_placement.specs.ContextPieces.{pieces_on_line, pieces_to, spliced_at};
 ghost use Rattle.lay_placement.specs.Paintings.{IsPainting};
 
 use crate::columns::{own_box_at, sizes_at, sum_of};
@@ -87,7 +88,8 @@ fn push_lines(
     on_lines: &[LinePiece],
 ) -> Result<(), NoMemory>
     requires { IsPainting of.now.input.now of.now.places.now of.now.on_lines.now of.now.standings.now }
-    ensures { OnOk result (pieces.new ≡ with_pieces pieces.old (flat_map (pieces_on_line of.now.input.now of.now.places.now) on_lines.now)) }
+    ensures { OnOk result
+        (pieces.new ≡ with_pieces pieces.old (flat_map (pieces_on_line of.now.input.now of.now.places.now) on_lines.now)) }
 {
     for k in 0..on_lines.len() {
         push_line_piece(pieces, of, on_lines[k])?;

@@ -42,7 +42,8 @@ OneHolder = (contexts : List FormattingContext) (i : ℕ) (x y : Option Holder) 
 
 -- and one containing block
 abbrev pub OneContainingRect : Type 0
-OneContainingRect = (viewport : ContainingBlock) (is_fixed : Bool) (contexts : List FormattingContext) (laid : ℕ → Layout) (i k : ℕ) (x y : Rect)
+OneContainingRect =
+    (viewport : ContainingBlock) (is_fixed : Bool) (contexts : List FormattingContext) (laid : ℕ → Layout) (i k : ℕ) (x y : Rect)
     → IsContainingRect viewport is_fixed contexts laid i k x → IsContainingRect viewport is_fixed contexts laid i k y → x ≡ y
 
 -- what is on the way of an absolutely positioned one has a lower level
@@ -52,7 +53,8 @@ WaysLeadDown = (contexts : List FormattingContext) (levels : List ℕ) (i j : �
 
 -- and stands before it
 abbrev pub WaysLeadOut : Type 0
-WaysLeadOut = (contexts : List FormattingContext) (i j : ℕ) → AreFormattingContexts contexts → i < length contexts → IsOnWay contexts i j → j < i
+WaysLeadOut = (contexts : List FormattingContext) (i j : ℕ) → AreFormattingContexts contexts
+    → i < length contexts → IsOnWay contexts i j → j < i
 
 -- An absolutely positioned one is given one setting, and the same one among other formatting contexts with other values, wherever it
 -- and those on its way are alike and those answer the same.
@@ -63,5 +65,6 @@ SettingsComeOfWays = (viewport : ContainingBlock) (a b : List FormattingContext)
 
 -- it is the value of `absolute_setting`
 abbrev pub SettingsAreValues : Type 0
-SettingsAreValues = (viewport : ContainingBlock) (contexts : List FormattingContext) (laid : ℕ → Layout) (i : ℕ) → AreFormattingContexts contexts
+SettingsAreValues = (viewport : ContainingBlock) (contexts : List FormattingContext) (laid : ℕ → Layout) (i : ℕ)
+    → AreFormattingContexts contexts
     → i < length contexts → IsSetting viewport contexts laid i (absolute_setting viewport contexts laid i)

@@ -26,9 +26,12 @@ abbrev pub root_setting : ContainingBlock → AbsoluteSetting
 root_setting viewport = record { rect = viewport_rect viewport; static_left = no_length; static_top = no_length }
 
 -- what the formatting context with the number i, which isn't the root's, is given
-pub record IsInnerSetting (viewport : ContainingBlock) (contexts : List FormattingContext) (laid : ℕ → Layout) (i : ℕ) (s : AbsoluteSetting) : Type 0 where
+pub record IsInnerSetting (viewport : ContainingBlock) (contexts : List FormattingContext) (laid : ℕ → Layout) (i : ℕ) (s : AbsoluteSetting)
+    : Type 0 where
   pub rect : Rect
-  pub containing : IsContainingRect viewport (is_fixed contexts i) contexts laid (formatting_context_at contexts i).outer (formatting_context_at contexts i).outer_box rect
+  pub containing
+      : IsContainingRect viewport (is_fixed contexts i) contexts laid (formatting_context_at contexts i).outer
+      (formatting_context_at contexts i).outer_box rect
   pub setting_is : s ≡ setting_beside rect (standing_of contexts laid i).corner
 
 -- what the absolutely positioned one with the number i is given
@@ -41,4 +44,5 @@ abbrev pub absolute_setting : ContainingBlock → List FormattingContext → (�
 absolute_setting viewport contexts laid zero = root_setting viewport
 absolute_setting viewport contexts laid (suc i) =
     let c = formatting_context_at contexts (suc i) in
-    setting_beside (containing_in (suc i) viewport (is_fixed contexts (suc i)) contexts laid c.outer c.outer_box) (standing_of contexts laid (suc i)).corner
+    setting_beside (containing_in (suc i) viewport (is_fixed contexts (suc i)) contexts laid c.outer c.outer_box)
+    (standing_of contexts laid (suc i)).corner

@@ -24,9 +24,9 @@ pub(crate) struct Anchor {
     pub(crate) place: usize,
 }
 
-/// The containing block of an absolutely positioned box that has its anchor there, counted as where the anchor stands. The formatting contexts from there out to that of the containing block
-/// are laid out. NoMemory is the answer where one is more than 2^60 units from another, which it is in no document within
-/// the limits.
+/// The containing block of an absolutely positioned box that has its anchor there, counted as where the anchor stands. The
+/// formatting contexts from there out to that of the containing block are laid out. NoMemory is the answer where one is more
+/// than 2^60 units from another, which it is in no document within the limits.
 pub(crate) fn containing_rect<L: Layouts>(
     viewport: ContainingBlock,
     is_fixed: bool,

@@ -89,7 +89,8 @@ fn is_top_over(next: &[usize], end: usize, parts: &[usize]) -> bool
 
 /// The topmost of these parts, if it stands behind the place `parent`.
 fn nearest(parts: &[usize], parent: usize) -> Option<usize>
-    ensures { MatchOption result ((i : ℕ) → i + 1 ≡ length parts.now → slice_index parts.now i ≤ parent) (λ p. (i : ℕ) × (i + 1 ≡ length parts.now) × (slice_index parts.now i ≡ p) × (parent < p)) }
+    ensures { MatchOption result ((i : ℕ) → i + 1 ≡ length parts.now → slice_index parts.now i ≤ parent)
+        (λ p. (i : ℕ) × (i + 1 ≡ length parts.now) × (slice_index parts.now i ≡ p) × (parent < p)) }
 {
     match parts.len() {
         0 => None,

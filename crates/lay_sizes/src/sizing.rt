@@ -5,7 +5,8 @@ ghost use Rattle.lay_units.specs.Units.{IsPosition, IsUsedSize, clamp_of, IsSize
 ghost use Rattle.lay_widths.specs.BlockWidths.{IsHeld};
 ghost use Rattle.lay_widths.specs.Lengths.{BlockFits, LenIsSize};
 ghost use Rattle.lay_sizes.specs.UsedLengths.{block_of, or_zero};
-ghost use Rattle.lay_sizes.specs.BoxSizes.{IsSized, IsUsedWidth, border_width, content_block, height_of, max_height_of, min_height_of, natural_of, widths_beside, with_width};
+ghost use Rattle.lay_sizes.specs.BoxSizes.{IsSized, IsUsedWidth, border_width, content_block, height_of};
+ghost use Rattle.lay_sizes.specs.BoxSizes.{max_height_of, min_height_of, natural_of, widths_beside, with_width};
 ghost use Rattle.lay_sizes.specs.SizeBounds.{SizeFits};
 
 use crate::replaced::{NaturalSize, replaced_size_of};

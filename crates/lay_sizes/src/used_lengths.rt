@@ -5,7 +5,8 @@ ghost use Rattle.lay_units.specs.Units.{IsPosition, IsUsedSize, percentage_of, I
 ghost use Rattle.lay_style.specs.LengthValues.{length_of, size_of};
 ghost use Rattle.lay_widths.specs.Lengths.{BlockFits, LenFits, LenIsSize};
 ghost use Rattle.lay_sizes.specs.SizeBounds.{AreInsets, IsInset};
-ghost use Rattle.lay_sizes.specs.UsedLengths.{or_zero, used_margin, used_vertical_margin, used_width, used_size, used_limit, used_height, used_min_height, used_max_height, definite_height, block_of, edge_of, edges_of};
+ghost use Rattle.lay_sizes.specs.UsedLengths.{or_zero, used_margin, used_vertical_margin, used_width, used_size, used_limit, used_height};
+ghost use Rattle.lay_sizes.specs.UsedLengths.{used_min_height, used_max_height, definite_height, block_of, edge_of, edges_of};
 
 use lay_heights::with_min_max;
 use lay_style::{LengthPercentage, LengthPercentageOrAuto, LengthPercentageOrNone, Style};

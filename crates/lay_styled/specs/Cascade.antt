@@ -20,7 +20,8 @@ use Rattle.lay_styled.specs.Weights.{is_lighter}
 use Rattle.lay_styled.specs.Winners.{sheet_candidate, restyled}
 
 -- the rule set at r has, for the property p of the node at k, this declaration by its selector at s; a text has none
-pub record IsBy (rules : List RuleValue) (nodes : List Node) (names : List Names) (k : ℕ) (p : Property) (e : Entry) (c : Candidate) : Type 0 where
+pub record IsBy (rules : List RuleValue) (nodes : List Node) (names : List Names) (k : ℕ) (p : Property) (e : Entry) (c : Candidate)
+    : Type 0 where
   pub rule : RuleValue
   pub selector : List Step
   pub place : ℕ
@@ -44,12 +45,14 @@ pub record IsGreatest (Holds : Candidate → Type 0) (found : Option Candidate) 
   pub greatest : (c d : Candidate) → found ≡ Some c → Holds d → is_lighter c.weight d.weight ≡ false
 
 -- these are the greatest of the sheet's for the node at k, by the numbers of the 46 properties
-pub record AreWinners (rules : List RuleValue) (nodes : List Node) (names : List Names) (k : ℕ) (winners : List (Option Candidate)) : Type 0 where
+pub record AreWinners (rules : List RuleValue) (nodes : List Node) (names : List Names) (k : ℕ) (winners : List (Option Candidate))
+    : Type 0 where
   pub count : length winners ≡ 46
   pub each : (p : Property) → IsGreatest (IsInSheet rules nodes names k p) (slice_index_or winners (number_of p) None)
 
 -- the same for each of the first n nodes
-pub record AreAllWinners (rules : List RuleValue) (nodes : List Node) (names : List Names) (n : ℕ) (winners : List (List (Option Candidate))) : Type 0 where
+pub record AreAllWinners (rules : List RuleValue) (nodes : List Node) (names : List Names) (n : ℕ)
+    (winners : List (List (Option Candidate))) : Type 0 where
   pub count : length winners ≡ n
   pub each : (k : ℕ) → k < n → AreWinners rules nodes names k (slice_index_or winners k [])
 

@@ -8,7 +8,8 @@ ghost use Rattle.lay_sizes.specs.SizeBounds.{IsInset, SizeFits};
 ghost use Rattle.lay_sizes.specs.SizeColumns.{sizes_at};
 ghost use Rattle.lay_table.specs.Captions.{ArePlaces, captions_of};
 ghost use Rattle.lay_table.specs.PlaceBounds.{AllFit};
-ghost use Rattle.lay_table.specs.WrapperFlow.{box_inside, boxes_in_wrapper, caption_inside, captions_inside, places_in_wrapper, table_box, wrapper_box};
+ghost use Rattle.lay_table.specs.WrapperFlow.{box_inside, boxes_in_wrapper, caption_inside};
+ghost use Rattle.lay_table.specs.WrapperFlow.{captions_inside, places_in_wrapper, table_box, wrapper_box};
 
 use crate::captions::Captions;
 use lay_blocks::{

@@ -20,7 +20,8 @@ use Rattle.lay_table_sizes.specs.CellSizes.{IsCellSized}
 use Rattle.lay_table_sizes.specs.TableSizesValue.{cell_at}
 use Rattle.lay_table_rows.specs.declared.cell_align.CellAlign.{CellAlign}
 use Rattle.lay_table_rows.specs.declared.cell_align.CellAlign.TheVariants.{Baseline, Top, Middle, Bottom}
-use Rattle.lay_table_rows.specs.RowNeeds.{align_of, cell_baseline, cell_of, least_height, natural_box, needs_of, row_cell, rows_in, style_of, table_sizes}
+use Rattle.lay_table_rows.specs.RowNeeds.{align_of, cell_baseline, cell_of, least_height, natural_box}
+use Rattle.lay_table_rows.specs.RowNeeds.{needs_of, row_cell, rows_in, style_of, table_sizes}
 use Rattle.lay_table_rows.specs.TableInputs.{TableInput, grid_of}
 use Rattle.lay_table_rows.specs.Tracks.{Tracks, end_of, extent_of}
 
@@ -103,7 +104,8 @@ own_baseline i rows c = cell_baseline (natural_box i c) (sizes_at rows.cells c).
 
 abbrev pub shift_of : TableInput → TableRows → ℕ → Length
 shift_of i rows c =
-    shift_by (align_of i c) (row_baseline rows (cell_of i c).row) (own_baseline i rows c) (natural_box i c).height (cell_height i rows.tracks c)
+    shift_by (align_of i c) (row_baseline rows (cell_of i c).row) (own_baseline i rows c)
+    (natural_box i c).height (cell_height i rows.tracks c)
 
 -- The height of the content of the table box: its rows and the spacings, or without rows what the table asks for.
 abbrev pub table_content : BoxSizes → Tracks → Length

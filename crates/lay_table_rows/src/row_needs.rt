@@ -8,7 +8,9 @@ ghost use Rattle.lay_sizes.specs.OwnBoxes.{OwnBoxFits};
 ghost use Rattle.lay_sizes.specs.SizeBounds.{IsInset, SizeFits};
 ghost use Rattle.lay_sizes.specs.SizeColumns.{HaveSizeBounds, sizes_at};
 ghost use Rattle.lay_table_rows.specs.NeedBounds.{NeedFits, NeedsFit};
-ghost use Rattle.lay_table_rows.specs.RowNeeds.{align_of, baseline_if, border_height, cell_baseline, cell_of, least_height, left_for_rows, natural_box, need_by_content, needs_of, needs_of_cell, own_height, own_heights, row_cell, row_spacing, row_style, rows_in};
+ghost use Rattle.lay_table_rows.specs.RowNeeds.{align_of, baseline_if, border_height, cell_baseline, cell_of, least_height};
+ghost use Rattle.lay_table_rows.specs.RowNeeds.{left_for_rows, natural_box, need_by_content, needs_of, needs_of_cell};
+ghost use Rattle.lay_table_rows.specs.RowNeeds.{own_height, own_heights, row_cell, row_spacing, row_style, rows_in};
 
 use crate::cell_align::CellAlign;
 use crate::cells::{align_of, cell_of, natural_box, sizes_at, style_of, table_sizes};

@@ -30,7 +30,8 @@ impl Model for Tracks {
 
     ghost view = { λ t. record { lengths = t.lengths.items; spacing = t.spacing } };
 
-    ghost invariant = { λ t. AreStarts (record { lengths = t.lengths.items; spacing = t.spacing }) (length t.lengths.items) t.starts.items };
+    ghost invariant = { λ t.
+        AreStarts (record { lengths = t.lengths.items; spacing = t.spacing }) (length t.lengths.items) t.starts.items };
 }
 
 impl Tracks {

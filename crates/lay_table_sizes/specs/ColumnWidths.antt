@@ -5,7 +5,8 @@
 -- yet, one of a `width` counts as `auto` and one of a padding as 0.
 --
 -- A table of 6400 units whose first cell has the `width` 50% and paddings of 64 units: its column is 3328 units wide.
-use Rattle.std.specs.Prelude.{ℕ, zero, suc, ◌+◌, ◌==◌, ℤ, pos, ◌+ℤ◌, ◌*ℤ◌, Option, Some, None, List, [], ◌∷◌, ◌++◌, slice_get, if◌then◌else◌}
+use Rattle.std.specs.Prelude.{ℕ, zero, suc, ◌+◌, ◌==◌, ℤ, pos, ◌+ℤ◌, ◌*ℤ◌, Option, Some}
+use Rattle.std.specs.Prelude.{None, List, [], ◌∷◌, ◌++◌, slice_get, if◌then◌else◌}
 use Rattle.lay_units.specs.declared.length.Unit.{Unit as Length}
 use Rattle.lay_units.specs.declared.records.Len.{Len}
 use Rattle.lay_units.specs.declared.records.Len.TheVariants.{Auto as auto, Of as of}

@@ -54,7 +54,8 @@ abbrev pub own_or : Option Length → PreferredWidths → PreferredWidths
 own_or None content = content
 own_or (Some width) content = record { minimum = width; preferred = width }
 
-pub record AreColumnWidths (boxes : List BoxNode) (inner : List PreferredWidths) (g : TableGridValue) (columns : List PreferredWidths) : Type 0 where
+pub record AreColumnWidths (boxes : List BoxNode) (inner : List PreferredWidths) (g : TableGridValue) (columns : List PreferredWidths)
+    : Type 0 where
   pub owns : List (Option Length)
   pub are_own : AreOwn (columns_in None boxes g no_length) owns
   pub count : length columns ≡ g.columns
@@ -74,7 +75,8 @@ all_beside (w ∷ ws) = beside w (all_beside ws)
 -- a width of a table's content, or its `width` where that is a greater length, between its bounds
 abbrev pub bounded_content : Style → ℤ → ℤ
 bounded_content s content =
-    with_min_max_of (int_max content (given_or s.sizing.width no_length).0) (size_or_zero s.sizing.min_width).0 (limit_of s.sizing.max_width)
+    with_min_max_of (int_max content (given_or s.sizing.width no_length).0) (size_or_zero s.sizing.min_width).0
+    (limit_of s.sizing.max_width)
 
 -- the width of the border box of a table whose columns come to so much
 abbrev pub table_part : TableGridValue → Style → Length → Length

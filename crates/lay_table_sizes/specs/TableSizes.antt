@@ -109,7 +109,8 @@ AreAutoWidths containing boxes g t wanted widths =
     HasAutoWidth containing boxes g t wanted × AreAutoColumns t.columns (wanted.0 -ℤ spaces g) widths
 
 -- `wanted` is the width that the table is to have and `widths` are those of its columns, before they are held
-abbrev pub AreTableWidthsAs : (is_fixed : Bool) → Length → List BoxNode → TableGridValue → TableBoundsValue → (wanted : Length) → List Length → Type 0
+abbrev pub AreTableWidthsAs : (is_fixed : Bool) → Length → List BoxNode → TableGridValue → TableBoundsValue
+    → (wanted : Length) → List Length → Type 0
 AreTableWidthsAs true containing boxes g t wanted widths = AreFixedWidths containing boxes g wanted widths
 AreTableWidthsAs false containing boxes g t wanted widths =
     AreAutoWidths containing boxes g (bounds_of_columns g.columns t) wanted widths
@@ -119,7 +120,8 @@ AreTableWidths containing boxes g t wanted widths =
     AreTableWidthsAs (is_fixed (wrapper_style boxes)) containing boxes g t wanted widths
 
 -- the used sizes of the boxes of a table's formatting context, and its columns and cells
-pub record HasTableSizes (containing : ContainingBlock) (rule : TableRule) (bounds : TableBoundsValue) (boxes : List BoxNode) (sizes : List BoxSizes) (t : TableSizesValue) : Type 0 where
+pub record HasTableSizes (containing : ContainingBlock) (rule : TableRule) (bounds : TableBoundsValue)
+    (boxes : List BoxNode) (sizes : List BoxSizes) (t : TableSizesValue) : Type 0 where
   pub grid : IsTableGrid boxes t.grid
   pub wanted : Length
   pub widths : List Length

@@ -1,6 +1,7 @@
 //! The sizes of cells.
 
-ghost use Rattle.std.specs.Prelude.{◌≡◌, ◌≢◌, ◌<◌, ◌≤◌, ◌+◌, ◌-◌, ◌^◌, ◌*ℤ◌, ℕ, Some, IfOk, OnOk, All, drop, length, pos, slice_get, slice_index_or, None};
+ghost use Rattle.std.specs.Prelude.{◌≡◌, ◌≢◌, ◌<◌, ◌≤◌, ◌+◌, ◌-◌, ◌^◌, ◌*ℤ◌, ℕ, Some, IfOk, OnOk};
+ghost use Rattle.std.specs.Prelude.{All, drop, length, pos, slice_get, slice_index_or, None};
 ghost use Rattle.lay_units.specs.Units.{IsUsedSize};
 ghost use Rattle.lay_grid.specs.Shares.{sum_of};
 ghost use Rattle.lay_table_borders.specs.GridBounds.{CellFits};
@@ -23,7 +24,8 @@ pub(crate) fn cells_of(
 ) -> Result<Vec<Option<CellSize>>, NoMemory>
     requires { length columns.now ≡ grid.now.columns }
     ensures count { IfOk result (λ v. length v.items ≡ count) }
-    ensures cells { IfOk result (λ v. (k : ℕ) → k < count → slice_index_or v.items k None ≡ cell_size_at grid.now.spacing.across columns.now grid.now.cells k) }
+    ensures cells { IfOk result
+        (λ v. (k : ℕ) → k < count → slice_index_or v.items k None ≡ cell_size_at grid.now.spacing.across columns.now grid.now.cells k) }
 {
     let mut sizes = Vec::from_elem(alloc, None, count)?;
     let last = grid.cells().len();

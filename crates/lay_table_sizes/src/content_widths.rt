@@ -25,7 +25,8 @@ pub(crate) fn content_widths(
 ) -> Result<Vec<PreferredWidths>, NoMemory>
     requires { ArePlaced (length boxes.now) grid.now.cells }
     ensures count { IfOk result (λ v. length v.items ≡ grid.now.columns) }
-    ensures each { IfOk result (λ v. (i : ℕ) → i < grid.now.columns → widths_at v.items i ≡ content_widths boxes.now inner.now grid.now.cells i) }
+    ensures each { IfOk result
+        (λ v. (i : ℕ) → i < grid.now.columns → widths_at v.items i ≡ content_widths boxes.now inner.now grid.now.cells i) }
 {
     let mut widths = Vec::from_elem(alloc, NO_WIDTHS, grid.columns() as usize)?;
     let last = grid.cells().len();

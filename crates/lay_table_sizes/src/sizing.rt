@@ -9,7 +9,8 @@ ghost use Rattle.lay_sizes.specs.SizeColumns.{HaveSizeBounds, sizes_at};
 ghost use Rattle.lay_table_borders.specs.GridBounds.{PlacesAreBelow};
 ghost use Rattle.lay_table_sizes.specs.Bounds.{most_columns};
 ghost use Rattle.lay_table_sizes.specs.TableBoxes.{table_style, wrapper_style};
-ghost use Rattle.lay_table_sizes.specs.TableSizes.{AreAutoWidths, AreFixedWidths, AreTableWidths, AreTableWidthsAs, HasTableSizes, IsWrapperSized, held, held_width, sizes_of_box, table_box, table_width};
+ghost use Rattle.lay_table_sizes.specs.TableSizes.{AreAutoWidths, AreFixedWidths, AreTableWidths, AreTableWidthsAs, HasTableSizes};
+ghost use Rattle.lay_table_sizes.specs.TableSizes.{IsWrapperSized, held, held_width, sizes_of_box, table_box, table_width};
 
 use crate::cells::{cells_of, sum_of};
 use crate::column_widths::columns_in;

@@ -44,4 +44,5 @@ pub record AreNearColumns (boxes : List FlowBox) (out : FlowColumns) : Type 0 wh
 pub record AreBorderBoxes (boxes : List FlowBox) (columns : FlowColumns) (out : List BoxPlace) : Type 0 where
   pub count : length out ≡ length boxes
   pub each : (k : ℕ) → k < length boxes → box_place_at out k
-      ≡ border_box (box_at boxes k).kind (record { 0 = length_at columns.tops.items k }) (record { 0 = length_at columns.heights.items k }) (own_place (box_at boxes k).kind (corner_at columns.places.items k) (corner_at columns.corners.items k))
+      ≡ border_box (box_at boxes k).kind (record { 0 = length_at columns.tops.items k }) (record { 0 = length_at columns.heights.items k })
+      (own_place (box_at boxes k).kind (corner_at columns.places.items k) (corner_at columns.corners.items k))
