@@ -1,6 +1,6 @@
 //! What the equations of an absolutely positioned box stand over.
 
-ghost use Rattle.std.specs.Prelude.{◌≡◌, ◌-ℤ◌};
+ghost use Rattle.std.specs.Prelude.{◌≡◌};
 ghost use Rattle.lay_units.specs.Units.{IsPosition, IsUsedSize};
 ghost use Rattle.lay_style.specs.LengthValues.{size_of};
 ghost use Rattle.lay_widths.specs.Lengths.{BlockFits, LenFits, LenIsSize};

@@ -1,6 +1,6 @@
 //! Where absolutely positioned boxes stand.
 
-ghost use Rattle.std.specs.Prelude.{◌≡◌, ◌+ℤ◌, IfErr, IfOk};
+ghost use Rattle.std.specs.Prelude.{◌≡◌, IfErr, IfOk};
 ghost use Rattle.lay_units.specs.Units.{IsBoxSize};
 ghost use Rattle.lay_abspos.specs.AbsoluteFits.{AxisFits};
 ghost use Rattle.lay_pieces.specs.Corners.{IsCornerNear};

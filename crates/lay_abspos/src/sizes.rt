@@ -1,12 +1,12 @@
 //! The used sizes of absolutely positioned boxes.
 
-ghost use Rattle.std.specs.Prelude.{◌≡◌, ◌+ℤ◌, Option, IfSome};
-ghost use Rattle.lay_units.specs.Units.{IsUsed, IsUsedSize};
+ghost use Rattle.std.specs.Prelude.{◌≡◌, IfSome};
+ghost use Rattle.lay_units.specs.Units.{IsUsedSize};
 ghost use Rattle.lay_abspos.specs.AbsoluteAxis.{IsUsedAxis};
 ghost use Rattle.lay_abspos.specs.AbsoluteFits.{AxisFits};
 ghost use Rattle.lay_sizes.specs.BoxSizes.{natural_of};
 ghost use Rattle.lay_sizes.specs.SizeBounds.{SizeFits};
-ghost use Rattle.lay_abspos.specs.AbsoluteSizes.{IsAbsoluteSized, IsAxisSize, IsStretchedHeight, border_start};
+ghost use Rattle.lay_abspos.specs.AbsoluteSizes.{IsAbsoluteSized, IsStretchedHeight, border_start};
 ghost use Rattle.lay_abspos.specs.AbsoluteSizes.{is_auto, is_stretched, own_axis_across, own_axis_down, widths_in};
 ghost use Rattle.lay_abspos.specs.OffsetBounds.{AbsOutFits, IsStart};
 ghost use Rattle.lay_abspos.specs.AbsoluteSettings.{SettingFits};

@@ -1,6 +1,6 @@
 //! The audit of a report.
 
-ghost use Rattle.std.specs.Prelude.{◌≡◌, [], IfOk, IfNone, IfSome, List, string_bytes, ℕ};
+ghost use Rattle.std.specs.Prelude.{[], IfOk, IfNone, IfSome, List, ℕ};
 ghost use Rattle.lay_doc.specs.Document.{Document};
 ghost use Rattle.lay_audit.specs.Readings.{IsRead, IsSteady, NoStep, basis_of};
 ghost use Rattle.lay_audit.specs.Verdicts.{IsFirstBad, IsVerdict};

@@ -3,7 +3,7 @@
 ghost use Rattle.std.specs.Prelude.{◌≡◌, ◌+◌, ◌<◌, ◌^◌, ◌++◌, [], IfOk, IfSome, IsSomeAnd, List, None, Some, codes, length, ℕ};
 ghost use Rattle.std.specs.Fmt.{decimal};
 ghost use Rattle.lay_doc.specs.Document.{Document};
-ghost use Rattle.lay_report.specs.Report.{final_line, laid_line};
+ghost use Rattle.lay_report.specs.Report.{laid_line};
 ghost use Rattle.lay_audit.specs.LegalReports.{Basis};
 ghost use Rattle.lay_audit.specs.Readings.{IsAtEnd, IsFinalNext, IsLaidNext, IsRead, IsSteady, NoStep, basis_of};
 ghost use Rattle.lay_audit.specs.Verdicts.{IsVerdict};

@@ -4,7 +4,6 @@ ghost use Rattle.std.specs.Prelude.{◌≡◌, ◌+◌, ◌<◌, ◌≤◌, ◌^
 ghost use Rattle.lay_doc.specs.Document.{Document};
 ghost use Rattle.lay_edits.specs.declared.command.Cmd.{Cmd};
 ghost use Rattle.lay_face.specs.FaceValue.{FaceValue};
-ghost use Rattle.lay_audit.specs.LegalReports.{Basis};
 ghost use Rattle.lay_audit.specs.Lines.{behind_line};
 ghost use Rattle.lay_audit.specs.NextLines.{StandsNext};
 ghost use Rattle.lay_audit.specs.Presents.{shown_in};

@@ -1,5 +1,5 @@
 -- Which lengths the calls are given: sizes, that is from 0 on and below 2^62.
-use Rattle.std.specs.Prelude.{◌^◌, ℤ, pos, ◌≤ℤ◌, ◌<ℤ◌, List, All, Option, Some, None, ⊤}
+use Rattle.std.specs.Prelude.{List, All, Option, Some, None, ⊤}
 use Rattle.lay_units.specs.declared.length.Unit.{Unit}
 use Rattle.lay_units.specs.Units.{IsSize}
 

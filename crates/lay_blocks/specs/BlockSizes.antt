@@ -1,5 +1,5 @@
 -- Bounds of the sizes of boxes.
-use Rattle.std.specs.Prelude.{ℤ, pos, neg_ℤ, ◌+ℤ◌, ◌≤ℤ◌}
+use Rattle.std.specs.Prelude.{ℤ, pos, ◌+ℤ◌, ◌≤ℤ◌}
 use Rattle.lay_units.specs.Units.{IsUsed, IsUsedSize, IsNear}
 use Rattle.lay_floats.specs.Within.{IsWithin}
 use Rattle.lay_blocks.specs.declared.block.Block.{Block}

@@ -1,6 +1,6 @@
 //! First and last parts of inline boxes (CSS 2.2, 9.2.1.1).
 
-ghost use Rattle.std.specs.Prelude.{◌≡◌, ◌≢◌, ◌<◌, ◌+◌, ℕ, Some, Bool, not, length, slice_index_or, IfOk, OnOk, is_some};
+ghost use Rattle.std.specs.Prelude.{◌≡◌, ◌≢◌, ◌<◌, ◌+◌, ℕ, Some, length, slice_index_or, IfOk, OnOk};
 ghost use Rattle.std.specs.BTreeMap.{get};
 ghost use Rattle.std.specs.Ordering.{nat_cmp};
 ghost use Rattle.lay_box_tree.specs.InlineParts.{AreInlineParts, id_at, is_first_part, is_inline_at, is_last_part, no_part};

@@ -1,6 +1,6 @@
 //! The boxes of a context.
 
-ghost use Rattle.std.specs.Prelude.{◌≡◌, ◌<◌, ◌≤◌, [], IfOk, length};
+ghost use Rattle.std.specs.Prelude.{◌≡◌, ◌<◌, ◌≤◌, IfOk, length};
 ghost use Rattle.lay_units.specs.Limits.{most_nodes};
 ghost use Rattle.lay_box_tree.specs.BoxColumns.{IsBoxTree};
 ghost use Rattle.lay_boxgen.specs.CutTrees.{cut_tree_at, generated_cut};

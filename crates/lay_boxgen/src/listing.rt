@@ -1,7 +1,7 @@
 //! The trees of a part as a list of boxes.
 
-ghost use Rattle.std.specs.Prelude.{◌≡◌, ◌++◌, ◌∷◌, [], ℕ, List, OnOk, IfOk, IfSome, length};
-ghost use Rattle.lay_anonymous_boxes.specs.Boxes.{Tree, trees_of};
+ghost use Rattle.std.specs.Prelude.{◌≡◌, ◌++◌, ◌∷◌, [], OnOk, IfOk, IfSome, length};
+ghost use Rattle.lay_anonymous_boxes.specs.Boxes.{trees_of};
 ghost use Rattle.lay_boxgen.specs.Listing.{text_at, box_style, kind_of, style_of, style_below, box_node, listed, all_listed, listed_part};
 ghost use Rattle.lay_boxgen.specs.Parts.{put, all_put, put_list, nothing};
 

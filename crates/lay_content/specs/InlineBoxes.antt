@@ -2,9 +2,8 @@
 -- margin, border and padding where it starts, and of its right ones where it ends. Where blocks broke it into parts, its
 -- left edges stand on the first part and its right ones on the last. 9.4.2 speaks of inline elements "with non-zero
 -- margins, padding, or borders": such an edge makes its line seen, one above or below each line that the box is on.
-use Rattle.std.specs.Prelude.{ℕ, ◌==◌, ℤ, pos, negsuc, ◌+ℤ◌, Bool, true, not, ◌&&◌, ◌||◌, List, [], ◌∷◌}
+use Rattle.std.specs.Prelude.{ℕ, ◌+ℤ◌, Bool, ◌&&◌, ◌||◌, List, [], ◌∷◌}
 use Rattle.std.specs.Prelude.{◌++◌, zero, suc, length, Option, Some, None, slice_get, if◌then◌else◌}
-use Rattle.lay_units.specs.declared.length.Unit.{Unit as Length}
 use Rattle.lay_units.specs.Lengths.{is_nonzero, no_length}
 use Rattle.lay_style.specs.declared.style.TextStyle.{TextStyle}
 use Rattle.lay_box_tree.specs.Roles.{role_of}

@@ -1,7 +1,6 @@
 //! The used sizes of boxes in block flow, from outer to inner boxes.
 
 ghost use Rattle.std.specs.Prelude.{◌≡◌, ◌<◌, true, false, length, slice_get, IfOk};
-ghost use Rattle.lay_units.specs.Units.{IsPosition};
 ghost use Rattle.lay_units.specs.Lengths.{no_length};
 ghost use Rattle.lay_sizes.specs.SizeBounds.{SizeFits};
 ghost use Rattle.lay_sizes.specs.SizeColumns.{HaveSizeBounds, no_sizes, sizes_at};

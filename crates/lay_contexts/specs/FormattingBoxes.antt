@@ -3,12 +3,9 @@
 -- what is in it belongs to that. So a root stands in two lists, and another box in one.
 use Rattle.lay_box_tree.specs.BoxColumns.{box_at}
 use Rattle.std.specs.Prelude.{ℕ, zero, suc, ◌+◌, ◌==◌, ◌||◌, Bool, false, List, ◌∷◌}
-use Rattle.std.specs.Prelude.{length, map, slice_index, slice_index_or, if◌then◌else◌}
+use Rattle.std.specs.Prelude.{length, map, slice_index, if◌then◌else◌}
 use Rattle.std.specs.List.{filter, range_with_len}
-use Rattle.lay_style.specs.InitialStyle.{initial_style}
-use Rattle.lay_box_tree.specs.declared.box_tree.BoxKind.TheVariants.{Block}
 use Rattle.lay_box_tree.specs.declared.box_tree.BoxNode.{BoxNode}
-use Rattle.lay_box_tree.specs.declared.box_tree.Flow.TheVariants.{InFlow}
 use Rattle.lay_contexts.specs.Homes.{is_root}
 
 -- the box at k is at home in the root r

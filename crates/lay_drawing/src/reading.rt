@@ -1,7 +1,6 @@
 //! A report that is read byte by byte: where it is, and the pieces of the wanted tree so far.
-ghost use Rattle.std.specs.Prelude.{◌≡◌, ◌+◌, ◌∷◌, [], ◌++◌, ◌&&◌, ◌||◌, not, if◌then◌else◌, OnOk, OnErr, IfErr, IfOk, ℕ, List};
-ghost use Rattle.std.specs.List.{All};
-ghost use Rattle.lay_drawing.specs.Lines.{IsLine, IsPiece};
+ghost use Rattle.std.specs.Prelude.{◌≡◌, ◌+◌, ◌∷◌, [], ◌++◌, ◌&&◌, ◌||◌, not, if◌then◌else◌, OnOk, OnErr, IfErr, ℕ, List};
+ghost use Rattle.lay_drawing.specs.Lines.{IsLine};
 ghost use Rattle.lay_drawing.specs.Reports.{is_piece, piece_in, shows};
 ghost use Rattle.lay_drawing.specs.States.{HasRead, Adds, CantAdd, IsNext, Reads, Stops, WasReport, StopsAtEnd};
 

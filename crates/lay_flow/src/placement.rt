@@ -1,6 +1,6 @@
 //! Floats, solid boxes and lines find their places, in document order, once their marks are known.
 
-ghost use Rattle.std.specs.Prelude.{◌≡◌, ◌+◌, ◌-ℤ◌, ◌+ℤ◌, ◌<◌, ◌≤◌, ◌++◌, ◌∷◌, [], length, true, OnOk, Some};
+ghost use Rattle.std.specs.Prelude.{◌≡◌, ◌+◌, ◌<◌, ◌≤◌, ◌++◌, ◌∷◌, [], length, true, OnOk, Some};
 ghost use Rattle.std.specs.Int.{int_max};
 ghost use Rattle.lay_blocks.specs.BlockFloats.{ceiling, float_request, solid_request, no_place, shape_at};
 ghost use Rattle.lay_blocks.specs.BlockPositions.{is_lines, is_solid};

@@ -1,5 +1,5 @@
 -- Which lengths the calls are given and answer, and bounds of sums of them.
-use Rattle.std.specs.Prelude.{ℕ, ◌^◌, ℤ, pos, neg_ℤ, ◌≤ℤ◌, List, All, Option, Some, None, ⊤}
+use Rattle.std.specs.Prelude.{List, All, Option, Some, None, ⊤}
 use Rattle.lay_units.specs.declared.length.Unit.{Unit}
 use Rattle.lay_units.specs.Units.{IsPosition}
 

@@ -1,7 +1,7 @@
 //! The heights of the rows of a table (CSS 2.2, 17.5.3).
 
-ghost use Rattle.std.specs.Prelude.{◌≡◌, [], ℕ, ◌+◌, ◌-◌, ◌^◌, ◌<◌, ◌≤◌, ℤ, ◌+ℤ◌, ◌≤ℤ◌};
-ghost use Rattle.std.specs.Prelude.{length, drop, IfOk, All};
+ghost use Rattle.std.specs.Prelude.{◌≡◌, [], ◌+◌, ◌-◌, ◌^◌, ◌<◌, ◌≤◌};
+ghost use Rattle.std.specs.Prelude.{length, drop, IfOk};
 ghost use Rattle.lay_units.specs.Units.{IsPosition, IsWithinPower};
 ghost use Rattle.lay_grid.specs.Shares.{sum_of};
 ghost use Rattle.lay_grid.specs.Heights.{AreHeights, AreLowest, IsLowest, room_above};

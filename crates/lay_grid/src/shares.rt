@@ -1,6 +1,6 @@
 //! Columns that share a width (CSS 2.2, 17.5.2.1).
 
-ghost use Rattle.std.specs.Prelude.{◌≡◌, ◌+◌, ◌^◌, ◌<◌, ◌≤◌, ℤ, pos, ◌+ℤ◌, ◌-ℤ◌, true, false};
+ghost use Rattle.std.specs.Prelude.{◌≡◌, ◌+◌, ◌^◌, ◌<◌, pos, ◌+ℤ◌, ◌-ℤ◌, true, false};
 ghost use Rattle.std.specs.Prelude.{length, IfOk, All, List};
 ghost use Rattle.std.specs.Int.{int_max};
 ghost use Rattle.lay_units.specs.declared.length.Unit.{Unit};

@@ -1,6 +1,6 @@
 //! Of each node the frontmost of the nodes that it paints in which a piece holds the point.
 
-ghost use Rattle.std.specs.Prelude.{◌≡◌, ◌<◌, ◌+◌, ◌==◌, ◌||◌, not, true, None, is_some, length, slice_index_or, IfOk};
+ghost use Rattle.std.specs.Prelude.{◌≡◌, ◌<◌, ◌+◌, ◌==◌, ◌||◌, not, None, is_some, length, slice_index_or, IfOk};
 ghost use Rattle.lay_doc.specs.Document.{IsDocument};
 ghost use Rattle.lay_frag.specs.Pieces.{frags_of};
 ghost use Rattle.lay_hit.specs.Questions.{AreNoted, page};

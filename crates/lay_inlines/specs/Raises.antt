@@ -2,7 +2,7 @@
 -- strut, of the inline boxes that are open at its start, outermost first, and of each inline box that starts on it and
 -- each atomic box, in order. A text stands on the baseline of the innermost inline box that holds it, and on the
 -- strut's where none does.
-use Rattle.std.specs.Prelude.{ℕ, ◌-◌, pos, List, [], ◌∷◌, ◌++◌, length, take, drop, slice_index_or}
+use Rattle.std.specs.Prelude.{ℕ, ◌-◌, List, [], ◌∷◌, ◌++◌, length, take, drop, slice_index_or}
 use Rattle.lay_units.specs.declared.length.Unit.{Unit}
 use Rattle.lay_units.specs.Lengths.{no_length}
 use Rattle.lay_line_content.specs.declared.content.Part.{Part}

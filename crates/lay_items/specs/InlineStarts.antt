@@ -2,7 +2,7 @@
 -- box of the first line box in which the element appears has the left margin, left border and left padding". So the first
 -- part of an inline box takes room where it starts if one of these isn't 0, and a later one never does. That is asked of
 -- their computed values, since content is known before used ones are: a percentage other than 0% may come to nothing.
-use Rattle.std.specs.Prelude.{ℕ, ◌==◌, ℤ, pos, negsuc, Bool, true, false, not, ◌&&◌, ◌||◌, List}
+use Rattle.std.specs.Prelude.{ℕ, Bool, false, ◌&&◌, ◌||◌, List}
 use Rattle.lay_units.specs.Lengths.{is_nonzero}
 use Rattle.lay_style.specs.declared.style.Style.{Style}
 use Rattle.lay_style.specs.declared.style_lengths.LengthPercentage.{LengthPercentage}

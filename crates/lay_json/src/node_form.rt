@@ -1,6 +1,6 @@
 //! The forms of a node's fields.
 
-ghost use Rattle.std.specs.Prelude.{◌≡◌, ◌≤◌, [], option_map, IfOk};
+ghost use Rattle.std.specs.Prelude.{◌≡◌, ◌≤◌, [], IfOk};
 ghost use Rattle.serde_json.specs.View.{view, members_view};
 ghost use Rattle.lay_doc.specs.NewNodes.{IsNodeForm};
 ghost use Rattle.lay_json.specs.Fields.{map_read};

@@ -1,9 +1,8 @@
 -- How far the content of a line has come after some of it (CSS 2.2, 9.4.2 and 16.6). Places are counted from
 -- the left content edge of the container, since tab stops are. A collapsible space at the start of a line is
 -- removed, and a space at its end doesn't count for what fits.
-use Rattle.std.specs.Prelude.{ℕ, zero, suc, ℤ, pos, negsuc, ◌+ℤ◌, ◌-ℤ◌, ◌*ℤ◌, Bool, true, false}
+use Rattle.std.specs.Prelude.{ℕ, zero, suc, ℤ, pos, ◌+ℤ◌, ◌-ℤ◌, Bool, true, false}
 use Rattle.std.specs.Prelude.{◌||◌, if◌then◌else◌, List, [], ◌∷◌, Option, Some, None, slice_get, ◌≡◌}
-use Rattle.std.specs.Int.{int_div_euclid}
 use Rattle.lay_units.specs.Units.{IsPosition}
 use Rattle.lay_units.specs.TabStops.{next_stop}
 use Rattle.lay_line_content.specs.declared.content.Part.{Part}

@@ -1,6 +1,6 @@
 //! How far the content of a line has come.
 
-ghost use Rattle.std.specs.Prelude.{◌≡◌, ◌≤◌, ◌+ℤ◌, ◌∷◌, length, take, IsTrue};
+ghost use Rattle.std.specs.Prelude.{◌≡◌, ◌≤◌, length};
 ghost use Rattle.lay_units.specs.Units.{IsPosition};
 ghost use Rattle.lay_units.specs.TabStops.{next_stop};
 ghost use Rattle.lay_line_content.specs.Pens.{blank, went, moved, spaced, hung, over, over_all};

@@ -1,9 +1,9 @@
 //! How far a line has come in its room.
 
-ghost use Rattle.std.specs.Prelude.{◌≡◌, ◌↔◌, ◌+◌, ◌<◌, ◌≤◌, ℤ, IsTrue, List, length};
+ghost use Rattle.std.specs.Prelude.{◌≡◌, ◌↔◌, ◌+◌, ◌<◌, ◌≤◌, IsTrue, length};
 ghost use Rattle.lay_units.specs.Units.{IsPosition};
 ghost use Rattle.lay_line_content.specs.Pens.{seen_to};
-ghost use Rattle.lay_lines.specs.Meeting.{HasRoom, RoomsFit, IsLineRoom};
+ghost use Rattle.lay_lines.specs.Meeting.{HasRoom, RoomsFit};
 ghost use Rattle.lay_lines.specs.Filling.{HasFit, TakesNoRoom};
 ghost use Rattle.lay_lines.specs.Reaching.{IsPen, IsReach};
 

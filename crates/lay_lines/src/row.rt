@@ -1,6 +1,6 @@
 //! One line.
 
-ghost use Rattle.std.specs.Prelude.{◌≡◌, ◌<◌, ◌≤◌, ◌+ℤ◌, ◌||◌, true, if◌then◌else◌, IsFalse, ℕ, List, length, slice_get, Some, IfOk, IfErr};
+ghost use Rattle.std.specs.Prelude.{◌≡◌, ◌<◌, ◌≤◌, ◌+ℤ◌, ◌||◌, if◌then◌else◌, IsFalse, ℕ, length, slice_get, Some, IfOk, IfErr};
 ghost use Rattle.lay_units.specs.Units.{IsPosition};
 ghost use Rattle.lay_line_content.specs.declared.content.Stretch.{Stretch as StretchValue};
 ghost use Rattle.lay_valign.specs.LineShape.{IsShape};
@@ -9,7 +9,7 @@ ghost use Rattle.lay_line_content.specs.Extents.{any_shows, parts_to, reading_to
 ghost use Rattle.lay_lines.specs.Filling.{IsTop};
 ghost use Rattle.lay_lines.specs.Meeting.{State, state_of, Meets, CanMeetAll, RoomsFit, IsFront};
 ghost use Rattle.lay_lines.specs.Reaching.{IsReach};
-ghost use Rattle.lay_lines.specs.Rows.{OpensNone, Position, Row, IsFilled, IsRow, CanRow, position_of, row_of};
+ghost use Rattle.lay_lines.specs.Rows.{OpensNone, Row, IsFilled, IsRow, CanRow, position_of, row_of};
 
 use crate::arithmetic::plus;
 use crate::line::Line;

@@ -1,7 +1,7 @@
 -- What stands in the lines of a block container, by its widths (CSS 2.2, 9.4.2, 16.6 and 16.6.1): the grapheme
 -- clusters of its texts, the starts and ends of its inline boxes with their edges, atomic boxes and floats with what
 -- they take, and between them the places where lines may or have to break.
-use Rattle.std.specs.Prelude.{ℕ, ◌+◌, ◌==◌, ℤ, pos, negsuc, Bool, true, false, not, ◌&&◌, ◌||◌}
+use Rattle.std.specs.Prelude.{ℕ, ◌+◌, ◌==◌, Bool, false, ◌&&◌, ◌||◌}
 use Rattle.std.specs.Prelude.{List, [], ◌∷◌, ◌++◌, Option, Some, None, slice_get, if◌then◌else◌}
 use Rattle.lay_units.specs.declared.length.Unit.{Unit as Length}
 use Rattle.lay_units.specs.declared.records.ClusterWidth.{ClusterWidth}

@@ -5,9 +5,9 @@
 -- they break wherever they may, or of the widest float. Spaces at the start and the end of a line don't count
 -- (16.6.1). A `text-indent` that is a length comes before the first line where that is seen; a first line that isn't
 -- seen (9.4.2) is the only one.
-use Rattle.std.specs.Prelude.{zero, suc, ℤ, pos, negsuc, ◌+ℤ◌, ◌*ℤ◌, Bool, true, false, List, [], ◌∷◌, ◌++◌, if◌then◌else◌}
+use Rattle.std.specs.Prelude.{ℤ, pos, ◌+ℤ◌, ◌*ℤ◌, Bool, true, false, List, [], ◌∷◌, ◌++◌, if◌then◌else◌}
 use Rattle.std.specs.List.{list_any}
-use Rattle.std.specs.Int.{int_max, int_div_euclid}
+use Rattle.std.specs.Int.{int_max}
 use Rattle.lay_units.specs.declared.length.Unit.{Unit as Length}
 use Rattle.lay_units.specs.Lengths.{no_length}
 use Rattle.lay_units.specs.TabStops.{next_stop}

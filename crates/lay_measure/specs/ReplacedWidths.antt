@@ -2,8 +2,7 @@
 -- the rules for replaced elements, where a percentage of `width` and `height` counts as `auto`, one of `min-width`
 -- and `min-height` as 0, and one of `max-width` and `max-height` as `none`. It is both preferred widths of the
 -- element. Natural sizes are from 1 unit on.
-use Rattle.std.specs.Prelude.{ℤ, pos}
-use Rattle.std.specs.Int.{int_max}
+use Rattle.std.specs.Prelude.{ℤ}
 use Rattle.lay_units.specs.Units.{clamp_size_of}
 use Rattle.lay_units.specs.declared.length.Unit.{Unit as Length}
 use Rattle.lay_units.specs.declared.records.Len.{Len}

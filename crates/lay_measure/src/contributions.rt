@@ -1,6 +1,6 @@
 //! What a box takes of the preferred widths of what is around it.
 
-ghost use Rattle.std.specs.Prelude.{◌≡◌, slice_get, IfOk};
+ghost use Rattle.std.specs.Prelude.{◌≡◌, IfOk};
 ghost use Rattle.lay_measure.specs.Contributions.{around_border, bounded_width, given_or, left_edges, limit_of};
 ghost use Rattle.lay_measure.specs.Contributions.{margin_box, margin_or_zero, right_edges, size_or_zero};
 ghost use Rattle.lay_measure.specs.LineParts.{contribution, contribution_at};

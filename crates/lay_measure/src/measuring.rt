@@ -1,6 +1,6 @@
 //! The preferred widths of a context.
 
-ghost use Rattle.std.specs.Prelude.{ℕ, List, ◌≡◌, ◌≢◌, ◌<◌, ◌≤◌, ◌+◌, ◌++◌, drop, length, slice_get, Some, IfOk, OnOk};
+ghost use Rattle.std.specs.Prelude.{ℕ, List, ◌≡◌, ◌≢◌, ◌<◌, ◌≤◌, ◌+◌, drop, length, slice_get, Some, IfOk, OnOk};
 ghost use Rattle.lay_doc.specs.Tree.{IsTree};
 ghost use Rattle.lay_box_tree.specs.BoxColumns.{box_parents};
 ghost use Rattle.lay_box_tree.specs.Containers.{box_parent};

@@ -1,8 +1,8 @@
 //! Sinks over memory.
 
-ghost use Rattle.std.specs.Prelude.{◌≡◌, ℕ, ◌+◌, ◌-◌, ◌<◌, ◌≤◌, ◌↔◌, ◌^◌, ◌⊎◌, ◌++◌, List, [], Option};
+ghost use Rattle.std.specs.Prelude.{◌≡◌, ◌+◌, ◌-◌, ◌<◌, ◌≤◌, ◌↔◌, ◌^◌, ◌⊎◌, ◌++◌, []};
 ghost use Rattle.std.specs.Prelude.{Some, length, take, IfOk, OnErr, OnOk, IsErr, IsTrue, min};
-ghost use Rattle.lay_outside.specs.Outside.{Rose, Took};
+ghost use Rattle.lay_outside.specs.Outside.{Rose};
 ghost use Rattle.lay_outside.specs.Memory.{Room, Drain, is_listed};
 
 use crate::{Failed, Sink};
@@ -20,7 +20,7 @@ pub struct FixedSink {
 }
 
 impl Model for FixedSink {
-    ghost use Rattle.std.specs.Prelude.{List, ℕ, ◌-◌, ◌≤◌, length, vec_len, vec_capacity};
+    ghost use Rattle.std.specs.Prelude.{◌-◌, ◌≤◌, length, vec_len, vec_capacity};
     ghost use Rattle.lay_outside.specs.Memory.{Room};
 
     ghost Value = { Room };
@@ -96,7 +96,7 @@ pub struct MemSink {
 }
 
 impl Model for MemSink {
-    ghost use Rattle.std.specs.Prelude.{List, ℕ, ◌-◌, ◌≤◌, ◌<◌, length, vec_len, vec_capacity};
+    ghost use Rattle.std.specs.Prelude.{◌-◌, ◌≤◌, ◌<◌, length, vec_len, vec_capacity};
     ghost use Rattle.lay_outside.specs.Memory.{Drain};
 
     ghost Value = { Drain };

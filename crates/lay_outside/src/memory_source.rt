@@ -1,7 +1,7 @@
 //! Sources over memory.
 
-ghost use Rattle.std.specs.Prelude.{◌≡◌, ℕ, ◌+◌, ◌-◌, ◌<◌, ◌≤◌, ◌↔◌, ◌^◌, List, [], Option, Some};
-ghost use Rattle.std.specs.Prelude.{length, take, drop, IfOk, OnErr, OnOk, IsErr, IsOk, IsTrue, min};
+ghost use Rattle.std.specs.Prelude.{◌≡◌, ℕ, ◌+◌, ◌-◌, ◌<◌, ◌≤◌, ◌↔◌, ◌^◌, List, [], Some};
+ghost use Rattle.std.specs.Prelude.{length, drop, IfOk, OnErr, OnOk, IsErr, IsOk, IsTrue, min};
 ghost use Rattle.lay_outside.specs.Outside.{Rose, GivesNext};
 ghost use Rattle.lay_outside.specs.Memory.{Feed, is_listed};
 

@@ -1,5 +1,5 @@
 -- Corners of border boxes, beside each other in a column with an entry for each box, and within which bounds they are.
-use Rattle.std.specs.Prelude.{ℕ, ◌<◌, ℤ, pos, neg_ℤ, ◌≤ℤ◌, List, length, slice_index_or}
+use Rattle.std.specs.Prelude.{ℕ, ◌<◌, List, length, slice_index_or}
 use Rattle.lay_units.specs.Units.{IsNear}
 use Rattle.lay_units.specs.Lengths.{no_length}
 use Rattle.lay_pieces.specs.declared.corner.Corner.{Corner}

@@ -16,7 +16,6 @@ use Rattle.lay_style.specs.declared.style_words.Overflow.TheVariants as overflow
 use Rattle.lay_style.specs.ComputedStyle.{style_at}
 use Rattle.lay_box_tree.specs.declared.box_role.Role.{Role}
 use Rattle.lay_box_tree.specs.declared.box_role.Role.TheVariants as role
-use Rattle.lay_box_tree.specs.declared.box_tree.BoxKind.{BoxKind}
 use Rattle.lay_box_tree.specs.declared.box_tree.BoxKind.TheVariants as kind
 use Rattle.lay_box_tree.specs.declared.box_tree.BoxNode.{BoxNode}
 use Rattle.lay_box_tree.specs.BoxColumns.{box_styles}

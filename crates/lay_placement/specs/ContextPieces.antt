@@ -3,14 +3,12 @@
 -- boxes and its texts (CSS 2.2, 9.2.1, 9.4.1 and 9.4.2). The boxes of elements inside it that have formatting contexts of their
 -- own are pieces of those. An anonymous one is of the same element, and its pieces stand where its box does: in box order, or
 -- on its line. An anonymous box is a piece of the nearest element. On a line without anything seen nothing is.
-use Rattle.std.specs.Prelude.{ℕ, zero, suc, ◌+ℤ◌, List, [], ◌∷◌, slice_index, if◌then◌else◌}
+use Rattle.std.specs.Prelude.{ℕ, zero, suc, ◌+ℤ◌, List, [], ◌∷◌, if◌then◌else◌}
 use Rattle.std.specs.List.{flat_map}
 use Rattle.lay_units.specs.declared.records.Rect.{Rect}
 use Rattle.lay_frag.specs.declared.frag.Frag.{Frag}
 use Rattle.lay_frag.specs.declared.frag.FragKind.{FragKind}
 use Rattle.lay_frag.specs.declared.frag.FragKind.TheVariants as kind
-use Rattle.lay_box_tree.specs.declared.box_tree.BoxNode.{BoxNode}
-use Rattle.lay_box_tree.specs.BoxColumns.{box_ids}
 use Rattle.lay_box_tree.specs.Roles.{is_inline_level, role_at}
 use Rattle.lay_inlines.specs.declared.line_piece.LinePiece.{LinePiece}
 use Rattle.lay_inlines.specs.declared.line_piece.LinePieceKind.{LinePieceKind}

@@ -2,24 +2,17 @@
 -- and its offset. What it is given comes of the formatting contexts on the way to its containing block alone, and they have lower
 -- levels.
 use Rattle.std.specs.Prelude.{ℕ, ◌≡◌, ◌<◌, Bool, true, List, length, slice_index, Option}
-use Rattle.lay_units.specs.declared.length.Unit.{Unit as Length}
 use Rattle.lay_units.specs.declared.records.Rect.{Rect}
-use Rattle.lay_style.specs.declared.style.Style.{Style}
 use Rattle.lay_box_tree.specs.declared.box_tree.BoxNode.{BoxNode}
-use Rattle.lay_sizes.specs.declared.sizing.BoxSizes.{BoxSizes}
 use Rattle.lay_sizes.specs.declared.sizing.ContainingBlock.{ContainingBlock}
 use Rattle.lay_contexts.specs.FormattingContexts.{AreFormattingContexts, FormattingContext}
-use Rattle.lay_pieces.specs.declared.corner.Corner.{Corner}
 use Rattle.lay_abspos.specs.declared.setting.AbsoluteSetting.{AbsoluteSetting}
 use Rattle.lay_positioned.specs.Absolute.{is_absolute}
-use Rattle.lay_abspos.specs.AbsoluteSizes.{IsAbsoluteSized, IsStretchedHeight}
-use Rattle.lay_abspos.specs.AbsoluteTables.{IsTableLeft}
 use Rattle.lay_positioned.specs.ContainingRects.{IsContainingRect}
 use Rattle.lay_positioned.specs.Holders.{IsNearestHolder}
 use Rattle.lay_positioned.specs.HoldersOutward.{Holder, IsHolderOf}
 use Rattle.lay_positioned.specs.Layouts.{Layout}
 use Rattle.lay_positioned.specs.Levels.{HasLevels, IsLevelCount}
-use Rattle.lay_abspos.specs.Offsets.{IsOffset}
 use Rattle.lay_positioned.specs.Settings.{IsSetting, absolute_setting}
 use Rattle.lay_positioned.specs.Ways.{AreAlikeAt, IsOnWay}
 

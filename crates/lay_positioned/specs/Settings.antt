@@ -2,9 +2,7 @@
 -- in flow, its static position. The containing block is a rectangle that is counted as where the anchor stands; the static position
 -- is counted from the corner of that. Where the root is absolutely positioned, both are the viewport's.
 use Rattle.std.specs.Prelude.{ℕ, zero, suc, ◌≡◌, ◌-ℤ◌, List}
-use Rattle.lay_units.specs.Units.{IsPosition}
 use Rattle.lay_units.specs.declared.records.Rect.{Rect}
-use Rattle.lay_units.specs.declared.records.Len.TheVariants.{Of as of}
 use Rattle.lay_units.specs.Lengths.{no_length}
 use Rattle.lay_sizes.specs.declared.sizing.ContainingBlock.{ContainingBlock}
 use Rattle.lay_contexts.specs.FormattingContexts.{FormattingContext, formatting_context_at}

@@ -1,12 +1,10 @@
 //! The containing blocks of absolutely positioned boxes.
 
-ghost use Rattle.std.specs.Prelude.{◌≡◌, ◌<◌, None, IfOk, length};
-ghost use Rattle.lay_units.specs.Units.{IsUsedSize};
+ghost use Rattle.std.specs.Prelude.{◌≡◌, ◌<◌, IfOk, length};
 ghost use Rattle.lay_sizes.specs.UsedLengths.{or_zero};
-ghost use Rattle.lay_contexts.specs.FormattingContexts.{boxes_in, formatting_context_at};
+ghost use Rattle.lay_contexts.specs.FormattingContexts.{boxes_in};
 ghost use Rattle.lay_pieces.specs.NearPieces.{IsRectNear};
 ghost use Rattle.lay_positioned.specs.ContainingRects.{IsContainingRect, viewport_rect};
-ghost use Rattle.lay_positioned.specs.Holders.{IsHolderFor};
 ghost use Rattle.lay_abspos.specs.ViewportBounds.{ViewportFits};
 
 use crate::holders::holder_for;

@@ -1,5 +1,5 @@
 -- Moves within bounds.
-use Rattle.std.specs.Prelude.{ℕ, ◌<◌, ℤ, pos, neg_ℤ, ◌≤ℤ◌, List, length}
+use Rattle.std.specs.Prelude.{ℕ, ◌<◌, List, length}
 use Rattle.lay_units.specs.Units.{IsNear}
 use Rattle.lay_relative.specs.declared.offset.Offset.{Offset}
 use Rattle.lay_relative.specs.Moves.{move_at}

@@ -6,7 +6,7 @@ ghost use Rattle.lay_box_tree.specs.InlineParts.{is_inline_at};
 ghost use Rattle.lay_box_tree.specs.BoxColumns.{box_parents};
 ghost use Rattle.lay_relative.specs.FormerParents.{AreFormerParents, IsFormerParent};
 ghost use Rattle.lay_relative.specs.OpenParts.{AreNextPlaces, AreOpen, GoesOn};
-ghost use Rattle.lay_relative.specs.SubtreeEnds.{AreEnds, IsEnd};
+ghost use Rattle.lay_relative.specs.SubtreeEnds.{IsEnd};
 
 use crate::next_place::{is_inline_at, next_places};
 use crate::subtree_end::{box_parent, subtree_ends};

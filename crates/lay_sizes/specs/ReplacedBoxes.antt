@@ -1,10 +1,7 @@
 -- The used size of the box of a replaced element beside its containing block (CSS 2.2, 10.3.2, 10.3.4, 10.4, 10.6.2
 -- and 10.7): percentages are of the containing block, those of heights where its height doesn't depend on what is in
 -- it. Natural sizes are from 1 unit on. An image of 300 by 150 px whose `width` is 50% beside 200 px is 100 by 50 px.
-use Rattle.std.specs.Prelude.{pos}
-use Rattle.std.specs.Int.{int_max}
 use Rattle.lay_units.specs.Units.{clamp_size_of}
-use Rattle.lay_units.specs.declared.length.Unit.{Unit as Length}
 use Rattle.lay_style.specs.declared.style.Style.{Style}
 use Rattle.lay_widths.specs.declared.replaced.ReplacedIn.{ReplacedIn}
 use Rattle.lay_widths.specs.declared.replaced.ReplacedSize.{ReplacedSize}

@@ -1,7 +1,7 @@
 -- What margins, borders, paddings, widths and heights are used as (CSS 2.2, 8.3, 8.4, 8.5.1, 10.2, 10.4, 10.5 and
 -- 10.7): a percentage is taken of the width or the height of the containing block, rounded down, and a used length is
 -- held within its bounds. A percentage of 12.5% of 51,200 units is 6,400 units.
-use Rattle.std.specs.Prelude.{◌+ℤ◌, pos, Option, Some, None}
+use Rattle.std.specs.Prelude.{◌+ℤ◌, Option, Some, None}
 use Rattle.lay_units.specs.Units.{percentage_of}
 use Rattle.lay_units.specs.declared.length.Unit.{Unit as Length}
 use Rattle.lay_units.specs.declared.records.Len.{Len}

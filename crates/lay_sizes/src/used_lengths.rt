@@ -1,6 +1,6 @@
 //! Used lengths: percentages taken of the width or the height of the containing block.
 
-ghost use Rattle.std.specs.Prelude.{◌≡◌, ◌+ℤ◌, Option, IfSome};
+ghost use Rattle.std.specs.Prelude.{◌≡◌, IfSome};
 ghost use Rattle.lay_units.specs.Units.{IsPosition, IsUsedSize, percentage_of, IsSize};
 ghost use Rattle.lay_style.specs.LengthValues.{length_of, size_of};
 ghost use Rattle.lay_widths.specs.Lengths.{BlockFits, LenFits, LenIsSize};

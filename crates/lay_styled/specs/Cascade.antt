@@ -1,10 +1,9 @@
 -- The cascade (CSS 2.2, 6.4). A sheet has a declaration for a node where a selector of its rule set matches the node. Among
 -- those for one property the greatest weight decides. A node's own declaration stands above those of the sheet that aren't
 -- important, and below those that are.
-use Rattle.std.specs.Prelude.{ℕ, ◌≡◌, ◌<◌, List, [], ◌∷◌, length, Bool, true, false, Option, Some, None, slice_index_or, option_map}
+use Rattle.std.specs.Prelude.{ℕ, ◌≡◌, ◌<◌, List, [], length, true, false, Option, Some, None, slice_index_or}
 use Rattle.std.specs.List.{slice_get}
 use Rattle.lay_style.specs.declared.property.Property.{Property}
-use Rattle.lay_style.specs.declared.property.Given.{Given}
 use Rattle.lay_style.specs.PropertyNumbers.{number_of, is_same_property}
 use Rattle.lay_doc.specs.declared.node.Node.{Node}
 use Rattle.lay_doc.specs.Document.{Document, is_text_at}

@@ -7,7 +7,7 @@ ghost use Rattle.lay_sheet.specs.declared.selector.Step.{Step as StepValue};
 ghost use Rattle.lay_cascade.specs.Rising.{IsNamed};
 ghost use Rattle.lay_cascade.specs.Specificity.{specificity_of};
 ghost use Rattle.lay_styled.specs.declared.entry.Entry.{Entry as EntryValue};
-ghost use Rattle.lay_styled.specs.Index.{listed, of_classes, IsIndexed};
+ghost use Rattle.lay_styled.specs.Index.{of_classes, IsIndexed};
 ghost use Rattle.lay_styled.specs.Cascade.{AreWinners};
 ghost use Rattle.lay_styled.specs.Seen.{AreWinnersOf};
 

@@ -4,8 +4,6 @@ use Rattle.std.specs.Prelude.{ℕ, zero, suc, ◌+◌, ◌<◌, ◌&&◌, Bool, 
 use Rattle.lay_style.specs.declared.style_words.CaptionSide.{CaptionSide}
 use Rattle.lay_style.specs.declared.style_words.CaptionSide.TheVariants as side
 use Rattle.lay_style.specs.ComputedStyle.{style_at}
-use Rattle.lay_box_tree.specs.declared.box_tree.BoxKind.{BoxKind}
-use Rattle.lay_box_tree.specs.declared.box_tree.BoxKind.TheVariants as kind
 use Rattle.lay_box_tree.specs.declared.box_tree.BoxNode.{BoxNode}
 use Rattle.lay_box_tree.specs.BoxColumns.{box_styles}
 use Rattle.lay_box_tree.specs.Kinds.{is_caption}

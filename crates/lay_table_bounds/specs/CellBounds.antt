@@ -9,9 +9,8 @@ use Rattle.std.specs.Prelude.{ℕ, ℤ, ◌+ℤ◌, List, map, slice_index_or}
 use Rattle.std.specs.Int.{int_max}
 use Rattle.lay_units.specs.declared.records.Sides.{Sides}
 use Rattle.lay_units.specs.Lengths.{no_length}
-use Rattle.lay_style.specs.ComputedStyle.{style_at}
 use Rattle.lay_style.specs.declared.style.Style.{Style}
-use Rattle.lay_box_tree.specs.BoxColumns.{box_styles, style_of_box}
+use Rattle.lay_box_tree.specs.BoxColumns.{style_of_box}
 use Rattle.lay_box_tree.specs.declared.box_tree.BoxNode.{BoxNode}
 use Rattle.lay_measure.specs.Contributions.{given_or, size_or_zero}
 use Rattle.lay_measure.specs.MeasureInValue.{no_widths}

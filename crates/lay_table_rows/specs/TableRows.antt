@@ -1,7 +1,7 @@
 -- The rows of a table: their used heights and their baselines (CSS 2.2, 17.5.3), beside the used sizes of the cells. The baseline of a
 -- row is the one that its cells on the baseline share. "If a row has no cell box aligned to its baseline, the baseline of that row is
 -- the bottom content edge of the lowest cell in the row." A row in which no cell begins has it at its bottom.
-use Rattle.std.specs.Prelude.{ℕ, zero, suc, ◌≡◌, ◌<◌, pos, ◌-ℤ◌, List, [], ◌∷◌, ◌++◌, length, map, slice_index_or, Option, Some, None}
+use Rattle.std.specs.Prelude.{ℕ, zero, suc, ◌≡◌, ◌<◌, ◌-ℤ◌, List, [], ◌∷◌, ◌++◌, length, map, Option, Some}
 use Rattle.std.specs.Option.{option_or, unwrap_or}
 use Rattle.lay_units.specs.Units.{clamp_size_of, half_of}
 use Rattle.lay_units.specs.declared.length.Unit.{Unit as Length}
@@ -11,7 +11,6 @@ use Rattle.lay_grid.specs.declared.heights.RowCell.{RowCell}
 use Rattle.lay_grid.specs.declared.heights.RowsIn.{RowsIn}
 use Rattle.lay_grid.specs.Heights.{AreHeights}
 use Rattle.lay_grid.specs.RowBaselines.{AreRowBaselines, baseline_at}
-use Rattle.lay_sizes.specs.declared.own_boxes.OwnBox.{OwnBox}
 use Rattle.lay_sizes.specs.declared.sizing.BoxSizes.{BoxSizes}
 use Rattle.lay_sizes.specs.BoxSizes.{content_block}
 use Rattle.lay_sizes.specs.SizeColumns.{no_edges, sizes_at}

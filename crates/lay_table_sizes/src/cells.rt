@@ -1,12 +1,12 @@
 //! The sizes of cells.
 
-ghost use Rattle.std.specs.Prelude.{◌≡◌, ◌≢◌, ◌<◌, ◌≤◌, ◌+◌, ◌-◌, ◌^◌, ◌*ℤ◌, ℕ, Some, IfOk, OnOk};
-ghost use Rattle.std.specs.Prelude.{All, drop, length, pos, slice_get, slice_index_or, None};
+ghost use Rattle.std.specs.Prelude.{◌≡◌, ◌≢◌, ◌<◌, ◌≤◌, ◌+◌, ◌-◌, ℕ, Some, IfOk};
+ghost use Rattle.std.specs.Prelude.{length, slice_get, slice_index_or, None};
 ghost use Rattle.lay_units.specs.Units.{IsUsedSize};
 ghost use Rattle.lay_grid.specs.Shares.{sum_of};
 ghost use Rattle.lay_table_borders.specs.GridBounds.{CellFits};
 ghost use Rattle.lay_table_sizes.specs.Bounds.{ArePlaced};
-ghost use Rattle.lay_table_sizes.specs.CellSizes.{cell_size, cell_size_at, columns_width};
+ghost use Rattle.lay_table_sizes.specs.CellSizes.{cell_size, cell_size_at};
 
 use crate::cell_size::CellSize;
 use crate::spaces::spacings;

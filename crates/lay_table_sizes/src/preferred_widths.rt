@@ -1,7 +1,6 @@
 //! The preferred widths of a table of the fixed layout.
 
-ghost use Rattle.std.specs.Prelude.{◌≡◌, ◌<◌, ◌≤◌, ◌+ℤ◌, ℕ, IfOk, length, drop};
-ghost use Rattle.std.specs.Int.{int_max};
+ghost use Rattle.std.specs.Prelude.{◌≡◌, ◌<◌, ◌≤◌, IfOk, length};
 ghost use Rattle.lay_grid.specs.Shares.{own_at};
 ghost use Rattle.lay_table_borders.specs.GridBounds.{PlacesAreBelow};
 ghost use Rattle.lay_table_borders.specs.TableGrid.{IsTableGrid};

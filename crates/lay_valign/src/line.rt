@@ -1,9 +1,8 @@
 //! The shape of a line (CSS 2.2, 10.8.1).
 
-ghost use Rattle.std.specs.Prelude.{◌≡◌, pos, ◌^◌, ◌<◌, ◌≤ℤ◌, ◌-ℤ◌, length, IfOk};
+ghost use Rattle.std.specs.Prelude.{◌≡◌, pos, ◌<◌, ◌≤ℤ◌, ◌-ℤ◌, length, IfOk};
 ghost use Rattle.std.specs.Int.{int_max};
 ghost use Rattle.lay_units.specs.Units.{IsPosition, IsWithinPower};
-ghost use Rattle.lay_valign.specs.Parts.{at, shift_at};
 ghost use Rattle.lay_valign.specs.LineShape.{IsAligned, IsLine, IsRaised, IsShape, base_by};
 ghost use Rattle.lay_valign.specs.LineShape.{base_of, beyond, shift_of};
 ghost use Rattle.lay_valign.specs.PartsFit.{PartsFit};

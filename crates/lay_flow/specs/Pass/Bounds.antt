@@ -1,11 +1,11 @@
 -- How large the numbers of a pass become, by the weight w of the boxes so far. Between a mark and the next lie at most a height
 -- and what a run's margins collapse to, or a float, which together are less than 2^36 units; lines reach at most 2^36 units
 -- further for each weight of theirs; and the first float lies within 2^51 units.
-use Rattle.std.specs.Prelude.{ℕ, ◌≡◌, ◌+◌, ◌*◌, ◌<◌, ◌≤◌, ℤ, pos, neg_ℤ, ◌+ℤ◌, ◌≤ℤ◌, ◌==◌, ◌&&◌, nat_lt}
+use Rattle.std.specs.Prelude.{ℕ, ◌≡◌, ◌+◌, ◌*◌, ◌<◌, ◌≤◌, ℤ, pos, neg_ℤ, ◌≤ℤ◌, ◌==◌, ◌&&◌, nat_lt}
 use Rattle.std.specs.Prelude.{Bool, true, false, List, length, map, is_some, Option, Some, None}
 use Rattle.lay_blocks.specs.declared.flow_box.FlowBox.{FlowBox}
 use Rattle.lay_blocks.specs.Boxes.{parent_at}
-use Rattle.lay_units.specs.Units.{limit, IsBoxSize, IsNear}
+use Rattle.lay_units.specs.Units.{IsBoxSize, IsNear}
 use Rattle.lay_units.specs.declared.length.Unit.{Unit as Length}
 use Rattle.lay_units.specs.Lengths.{no_length}
 use Rattle.lay_flow.specs.declared.pass.Pass.{Pass}

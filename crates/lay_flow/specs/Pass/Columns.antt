@@ -1,6 +1,6 @@
 -- The columns that a pass leaves, an entry for each box, and their bounds: marks, heights, places, lines, and the corners that
 -- lines give to the floats that they met.
-use Rattle.std.specs.Prelude.{ℕ, ◌≡◌, ◌<◌, pos, false, List, ◌∷◌, ◌++◌, length, map}
+use Rattle.std.specs.Prelude.{ℕ, ◌≡◌, ◌<◌, pos, false, List, length, map}
 use Rattle.lay_units.specs.Units.{IsBoxSize, IsNear}
 use Rattle.lay_floats.specs.declared.requests.Place.{Place}
 use Rattle.lay_floats.specs.Within.{IsWithin}

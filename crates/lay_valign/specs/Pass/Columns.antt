@@ -1,5 +1,5 @@
 -- The roots and the rises of the first n parts, and bounds of sums of lengths.
-use Rattle.std.specs.Prelude.{ℕ, ◌≡◌, ◌*◌, ◌^◌, ◌<◌, ◌≤◌, ℤ, pos, neg_ℤ, ◌≤ℤ◌, List, length}
+use Rattle.std.specs.Prelude.{ℕ, ◌≡◌, ◌*◌, ◌<◌, ◌≤◌, ℤ, pos, neg_ℤ, ◌≤ℤ◌, List, length}
 use Rattle.std.specs.Prelude.{slice_index, All}
 use Rattle.lay_units.specs.Units.{IsWithinPower}
 use Rattle.lay_valign.specs.declared.parts.Part.{Part}
