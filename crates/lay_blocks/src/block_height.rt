@@ -8,9 +8,9 @@ ghost use Rattle.lay_blocks.specs.BlockPositions.{border_height, given_or_auto, 
 ghost use Rattle.lay_blocks.specs.BlockSizes.{BlockFits, IsLineDepth};
 
 use crate::block::Block;
-use crate::near::{Near, sum_of};
+use crate::near::Near;
 use lay_heights::{FlowEnds, auto_height_flow, auto_height_root, with_min_max};
-use lay_units::{Len, Unit};
+use lay_units::{Len, Unit, sum_of};
 
 /// A block whose content is known, and its mark.
 #[derive(Clone, Copy)]

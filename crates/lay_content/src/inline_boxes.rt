@@ -9,12 +9,11 @@ ghost use Rattle.lay_content.specs.InlineBoxes.{has_right_edges, has_vertical_ed
 
 use crate::box_measures::BoxMeasures;
 use crate::line_heights::extent_of;
-use crate::sums::sum_of;
 use crate::vertical_alignment::shift_at;
 use lay_box_tree::InlinePart;
 use lay_line_content::{Extent, InlineEnd, InlineStart};
 use lay_sizes::BoxSizes;
-use lay_units::{Unit, is_nonzero};
+use lay_units::{Unit, is_nonzero, sum_of};
 use lay_valign::Shift;
 
 /// The start of the inline box at a place.

@@ -7,9 +7,9 @@ ghost use Rattle.lay_flow.specs.Pass.Bounds.{is_hanging, position_of};
 
 use crate::pass::RunStart;
 use crate::used_strut::UsedStrut;
-use lay_blocks::{Near, sum_of};
+use lay_blocks::Near;
 use lay_margins::Strut;
-use lay_units::Unit;
+use lay_units::{Unit, sum_of};
 
 /// The strut with one more margin.
 pub(crate) fn with_margin(used: UsedStrut, margin: Unit) -> UsedStrut

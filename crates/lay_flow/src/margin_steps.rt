@@ -14,8 +14,8 @@ use crate::marked_boxes::MarkedBoxes;
 use crate::pass::{Pass, RunStart};
 use crate::placement::place_up_to;
 use crate::settling::EndedRun;
-use lay_blocks::{ChildAt, Near, StandingBlock, sum_of};
-use lay_units::{NoMemory, Unit};
+use lay_blocks::{ChildAt, Near, StandingBlock};
+use lay_units::{NoMemory, Unit, sum_of};
 
 /// Reads the clearance and the top margin of the box, which is then the innermost open one.
 pub(crate) fn open(child: &ChildAt<'_>, flow: &mut Pass) -> Result<(), NoMemory>

@@ -12,10 +12,10 @@ ghost use Rattle.lay_flow.specs.Pass.Placed.{IsCeilingNear};
 
 use crate::columns::{length_at, write_at};
 use crate::marked_boxes::{MarkedBox, MarkedBoxes};
-use lay_blocks::{BoxAt, Near, Shape, sum_of};
+use lay_blocks::{BoxAt, Near, Shape};
 use lay_floats::{FloatReq, Floats, Place, Side, SolidReq};
 use lay_lines::{NodePlaceList, RowList};
-use lay_units::{NoMemory, Unit};
+use lay_units::{NoMemory, Unit, sum_of};
 use std::alloc::Global;
 
 /// What a pass keeps of floats, solid boxes and lines: the depths of boxes as far as they are known, the floats that

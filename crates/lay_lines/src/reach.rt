@@ -7,11 +7,11 @@ ghost use Rattle.lay_lines.specs.Meeting.{HasRoom, RoomsFit};
 ghost use Rattle.lay_lines.specs.Filling.{HasFit, TakesNoRoom};
 ghost use Rattle.lay_lines.specs.Reaching.{IsPen, IsReach};
 
-use crate::arithmetic::{are_same, is_at_most, wide_minus, wide_plus};
+use crate::arithmetic::{are_same, is_at_most, wide_plus};
 use crate::line::Line;
 use lay_floats::{Floats, one_room};
 use lay_line_content::Pen;
-use lay_units::Unit;
+use lay_units::{Unit, wide_minus};
 
 /// How far the first stretches of a line come, in the room between two edges.
 #[derive(Clone, Copy)]

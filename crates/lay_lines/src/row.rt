@@ -11,7 +11,6 @@ ghost use Rattle.lay_lines.specs.Meeting.{State, state_of, Meets, CanMeetAll, Ro
 ghost use Rattle.lay_lines.specs.Reaching.{IsReach};
 ghost use Rattle.lay_lines.specs.Rows.{OpensNone, Row, IsFilled, IsRow, CanRow, position_of, row_of};
 
-use crate::arithmetic::plus;
 use crate::line::Line;
 use crate::meeting::meet_all;
 use crate::met::Met;
@@ -21,7 +20,7 @@ use crate::taking::take;
 use crate::top::{Beginning, line_top};
 use lay_floats::{Floats, one_float_place, one_room};
 use lay_line_content::{Extent, InlineStart, any_shows, line_shape};
-use lay_units::{NoMemory, Unit};
+use lay_units::{NoMemory, Unit, plus};
 use lay_valign::{LineShape, ShiftList};
 use std::alloc::Global;
 use std::mem;

@@ -5,13 +5,13 @@ ghost use Rattle.lay_measure.specs.LineParts.{cluster_part, end_in, end_of, has_
 ghost use Rattle.lay_measure.specs.LineParts.{line_parts, part_between, parts_at, parts_of, start_in, start_of, text_parts};
 
 use crate::contributions::{
-    contribution_at, left_edges, margin_or_zero, right_edges, size_of, size_or_zero,
+    contribution_at, left_edges, margin_or_zero, right_edges, size_or_zero,
 };
 use crate::measure_in::MeasureIn;
 use crate::preferred_widths::PreferredWidths;
 use lay_box_tree::InlinePart;
 use lay_space::{ClusterKind, Item, Mode, Segment, cluster_kind, next_place};
-use lay_style::Style;
+use lay_style::{Style, size_of};
 use lay_units::{ClusterWidth, NoMemory, Unit, is_nonzero};
 use std::alloc::Global;
 

@@ -7,8 +7,8 @@ ghost use Rattle.lay_widths.specs.ReplacedFits.{ReplacedFits};
 ghost use Rattle.lay_measure.specs.ReplacedWidths.{length_or_auto, replaced_of, replaced_width};
 ghost use Rattle.lay_measure.specs.Contributions.{limit_of, size_or_zero};
 
-use crate::contributions::{limit_of, size_of, size_or_zero};
-use lay_style::{LengthPercentage, LengthPercentageOrAuto, LengthPercentageOrNone, Style};
+use crate::contributions::{limit_of, size_or_zero};
+use lay_style::{LengthPercentage, LengthPercentageOrAuto, LengthPercentageOrNone, Style, size_of};
 use lay_units::{Len, Unit};
 use lay_widths::{ReplacedIn, natural_length, replaced_size};
 

@@ -14,7 +14,7 @@ ghost use Rattle.lay_placement.specs.ContextPieces.{moved_rect, piece_as, piece_
 ghost use Rattle.lay_placement.specs.ContextPieces.{pieces_on_line, pieces_to, spliced_at};
 ghost use Rattle.lay_placement.specs.Paintings.{IsPainting};
 
-use crate::columns::{own_box_at, sizes_at, sum_of};
+use crate::columns::{own_box_at, sizes_at};
 use crate::context_places::{BoxPlaces, move_of};
 use crate::on_lines::on_lines_at;
 use lay_box_tree::BoxNode;
@@ -25,7 +25,7 @@ use lay_inlines::{LinePiece, LinePieceKind, LinePieceList};
 use lay_pieces::{PieceList, Standing, near_position};
 use lay_relative::Offset;
 use lay_sizes::border_width;
-use lay_units::{NoMemory, Rect, Unit};
+use lay_units::{NoMemory, Rect, Unit, sum_of};
 use std::alloc::Global;
 
 /// What pieces are made of: what the placement is given, where its boxes stand, and what stands on the lines of each.

@@ -14,7 +14,7 @@ ghost use Rattle.lay_placement.specs.Restings.{IsResting};
 ghost use Rattle.lay_placement.specs.StaticPositions.{static_position};
 
 use crate::anchor_lines::anchor_lines;
-use crate::columns::{length_at, own_box_at, place_at, sizes_at, sum_of};
+use crate::columns::{length_at, own_box_at, place_at, sizes_at};
 use crate::context_places::{BoxPlaces, move_of};
 use crate::corners::{corner_in_flow, corners_of};
 use lay_box_tree::Role;
@@ -22,7 +22,7 @@ use lay_flow_boxes::PlaceInput;
 use lay_inlines::LinePieceList;
 use lay_pieces::{Corner, Standing, near_corner};
 use lay_relative::Offset;
-use lay_units::{NoMemory, Unit};
+use lay_units::{NoMemory, Unit, sum_of};
 use std::alloc::Global;
 
 /// Where boxes come to rest: what the placement is given, where the flow and lines put its boxes, and the tops of the lines

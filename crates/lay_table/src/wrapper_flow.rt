@@ -20,9 +20,9 @@ use lay_floats::Clear;
 use lay_flow::flow;
 use lay_sizes::{BoxSizes, OwnBox, own_box};
 use lay_table_rows::{
-    TableInput, Tracks, border_height, own_box_at, sizes_at, sum_of, table_content, table_sizes,
+    TableInput, Tracks, border_height, own_box_at, sizes_at, table_content, table_sizes,
 };
-use lay_units::{NoMemory, Unit};
+use lay_units::{NoMemory, Unit, sum_of};
 use std::alloc::Global;
 
 /// Where the boxes of the wrapper's context stand. NoMemory is also the answer for more captions than 2^23, which no

@@ -14,14 +14,14 @@ ghost use Rattle.lay_table_rows.specs.RowNeeds.{own_height, own_heights, row_cel
 
 use crate::cell_align::CellAlign;
 use crate::cells::{align_of, cell_of, natural_box, sizes_at, style_of, table_sizes};
-use crate::near::{near_difference, near_product, sum_of};
+use crate::near::{near_difference, near_product};
 use crate::table_input::TableInput;
 use lay_grid::{RowCell, RowCells, RowsIn};
 use lay_heights::with_min_max;
 use lay_sizes::{BoxSizes, OwnBox};
 use lay_style::{LengthPercentageOrAuto, Style};
 use lay_table_borders::{TableCell, TableGrid};
-use lay_units::{Len, NoMemory, Unit, UnitList, clamp_size};
+use lay_units::{Len, NoMemory, Unit, UnitList, clamp_size, sum_of};
 use std::alloc::Global;
 
 /// What the heights of the rows depend on, where these are the used sizes of the cells. NoMemory is also the answer for more

@@ -10,6 +10,7 @@ mod length;
 mod limits;
 mod memory;
 mod records;
+mod sums;
 mod text;
 mod unit_list;
 
@@ -17,5 +18,6 @@ pub use length::{Percent, Unit, clamp, clamp_size, half, is_nonzero, percent_of}
 pub use limits::{LONGEST_TEXT, MOST_DEPTH, MOST_NODES, MOST_TEXT};
 pub use memory::NoMemory;
 pub use records::{AbsOut, BlockIn, ClusterWidth, Len, Rect, Sides, WidthList};
+pub use sums::{plus, sum_of, wide_minus};
 pub use text::Text;
 pub use unit_list::UnitList;
