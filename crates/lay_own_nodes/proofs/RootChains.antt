@@ -16,6 +16,7 @@ use Rattle.lay_box_tree.specs.declared.box_tree.BoxNode.{BoxNode}
 use Rattle.lay_box_tree.specs.declared.box_tree.Flow.{Flow}
 use Rattle.lay_box_tree.specs.declared.box_tree.Flow.TheVariants.{InFlow}
 use Rattle.lay_box_tree.specs.Kinds.{is_wrapper}
+use Rattle.lay_box_tree.proofs.BoxForests.{length-parents}
 use Rattle.lay_boxgen.specs.Contexts.{IsContextAt, box_at, is_marked}
 use Rattle.lay_boxgen.specs.Laws.{inner_boxes}
 use Rattle.lay_boxgen.specs.Listing.{box_node, box_style, kind_of, listed_part, style_of, text_at}
@@ -48,7 +49,7 @@ use Rattle.lay_own_nodes.proofs.OwnList.{around-before}
 use Rattle.lay_own_nodes.proofs.PartLeaves.{place-of}
 use Rattle.lay_own_nodes.proofs.StrayForms.{or-left, or-right}
 use Rattle.lay_own_nodes.proofs.TableChains.{anonymous-by, chain, differ, none-at-own, or-cases, root-flag, root-kinds, table-kind}
-use Rattle.lay_own_nodes.proofs.TableMarks.{Marked, is_table_box, length-parents, marked-part}
+use Rattle.lay_own_nodes.proofs.TableMarks.{Marked, is_table_box, marked-part}
 
 abbrev pub Is : (Flow → BoxKind → Style → Bool) → BoxNode → Bool
 Is S b = S b.flow b.kind b.style

@@ -16,6 +16,7 @@ use Rattle.lay_box_tree.specs.BoxColumns.{box_at, box_parents, no_box}
 use Rattle.lay_box_tree.specs.declared.box_tree.BoxKind.TheVariants as kind
 use Rattle.lay_box_tree.specs.declared.box_tree.BoxNode.{BoxNode}
 use Rattle.lay_box_tree.specs.Kinds.{is_wrapper}
+use Rattle.lay_box_tree.proofs.BoxForests.{length-parents, parents-append}
 use Rattle.lay_boxgen.specs.Listing.{all_listed, box_node, box_style, kind_of, listed, listed_part, style_of, text_at}
 use Rattle.lay_own_nodes.specs.AnonymousTables.{AllInside, EachInside, IsInStrayPart, IsKnownInside, ListInside, is_anonymous_table}
 
@@ -117,17 +118,9 @@ marks-grow parent at b t ps ts ms below = record {
       | inr there ↦ (let in_below = there.1 in let e = there.2 in inr (suc there.0, omega (arith, in_below), omega (arith, e), there.3))
     ]
 
-parents-append : (xs ys : List BoxNode) → box_parents (xs ++ ys) ≡ box_parents xs ++ box_parents ys
-parents-append [] ys = refl
-parents-append (x ∷ xs) ys = ap (λ (ps : List ℕ). x.parent ∷ ps) (parents-append xs ys)
-
 tables-append : (xs ys : List BoxNode) → table_boxes (xs ++ ys) ≡ table_boxes xs ++ table_boxes ys
 tables-append [] ys = refl
 tables-append (x ∷ xs) ys = ap (λ (ts : List Bool). is_table_box x ∷ ts) (tables-append xs ys)
-
-pub length-parents : (xs : List BoxNode) → length (box_parents xs) ≡ length xs
-length-parents [] = refl
-length-parents (x ∷ xs) = ap suc (length-parents xs)
 
 module _ (nodes : List Node) (styles : List Style) where
   table-is : (above : Facts) (parent : ℕ) (f : Facts) → is_table_box (box_node nodes styles above parent f) ≡ is_anonymous_table f
