@@ -6,6 +6,7 @@ use Rattle.lay_units.specs.declared.records.AbsOut.{AbsOut}
 use Rattle.lay_units.specs.declared.records.Len.{Len}
 use Rattle.lay_units.specs.declared.records.Sides.{Sides}
 use Rattle.lay_units.specs.declared.records.Len.TheVariants.{Of as of}
+use Rattle.lay_units.specs.Lengths.{no_length}
 use Rattle.lay_box_tree.specs.declared.box_tree.BoxNode.{BoxNode}
 use Rattle.lay_box_tree.specs.Kinds.{is_wrapper}
 use Rattle.lay_abspos.specs.declared.axis.Axis.{Axis}
@@ -13,7 +14,6 @@ use Rattle.lay_abspos.specs.declared.axis.ContentSize.TheVariants.{Shrinks as sh
 use Rattle.lay_abspos.proofs.Unique.{one_used_axis_lem}
 use Rattle.lay_pieces.specs.Corners.{IsCornerNear}
 use Rattle.lay_pieces.specs.declared.corner.Corner.{Corner}
-use Rattle.lay_sizes.specs.UsedLengths.{no_length}
 use Rattle.lay_sizes.specs.declared.sizing.BoxSizes.{BoxSizes}
 use Rattle.lay_widths.specs.declared.widths.BlockOut.{BlockOut}
 use Rattle.lay_abspos.specs.declared.setting.AbsoluteSetting.{AbsoluteSetting}

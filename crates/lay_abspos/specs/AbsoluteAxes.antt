@@ -5,6 +5,7 @@ use Rattle.std.specs.Prelude.{◌-ℤ◌, Option, None, Some}
 use Rattle.lay_units.specs.declared.length.Unit.{Unit as Length}
 use Rattle.lay_units.specs.declared.records.BlockIn.{BlockIn}
 use Rattle.lay_units.specs.declared.records.Len.{Len}
+use Rattle.lay_units.specs.Lengths.{no_length}
 use Rattle.lay_style.specs.declared.style.Style.{Style}
 use Rattle.lay_style.specs.LengthValues.{size_of}
 use Rattle.lay_box_tree.specs.declared.box_tree.BoxKind.{BoxKind}
@@ -13,7 +14,7 @@ use Rattle.lay_sizes.specs.declared.replaced.NaturalSize.{NaturalSize}
 use Rattle.lay_sizes.specs.declared.sizing.ContainingBlock.{ContainingBlock}
 use Rattle.lay_sizes.specs.BoxSizes.{height_of, max_height_of, min_height_of, with_width}
 use Rattle.lay_sizes.specs.ReplacedBoxes.{replaced_size_of}
-use Rattle.lay_sizes.specs.UsedLengths.{block_of, edges_of, no_length, used_margin, used_size}
+use Rattle.lay_sizes.specs.UsedLengths.{block_of, edges_of, used_margin, used_size}
 use Rattle.lay_abspos.specs.declared.axis.Axis.{Axis}
 use Rattle.lay_abspos.specs.declared.axis.ContentSize.{ContentSize}
 use Rattle.lay_abspos.specs.declared.setting.AbsoluteSetting.{AbsoluteSetting}

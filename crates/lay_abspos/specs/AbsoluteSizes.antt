@@ -6,12 +6,13 @@ use Rattle.lay_units.specs.declared.length.Unit.{Unit as Length}
 use Rattle.lay_units.specs.declared.records.AbsOut.{AbsOut}
 use Rattle.lay_units.specs.declared.records.Len.{Len}
 use Rattle.lay_units.specs.declared.records.Len.TheVariants.{Auto as auto, Of as of}
+use Rattle.lay_units.specs.Lengths.{no_length}
 use Rattle.lay_box_tree.specs.declared.box_tree.BoxNode.{BoxNode}
 use Rattle.lay_box_tree.specs.Kinds.{is_wrapper}
 use Rattle.lay_widths.specs.declared.widths.BlockOut.{BlockOut}
 use Rattle.lay_sizes.specs.declared.sizing.BoxSizes.{BoxSizes}
 use Rattle.lay_sizes.specs.BoxSizes.{height_of, max_height_of, min_height_of}
-use Rattle.lay_sizes.specs.UsedLengths.{edges_of, no_length, used_margin, used_vertical_margin}
+use Rattle.lay_sizes.specs.UsedLengths.{edges_of, used_margin, used_vertical_margin}
 use Rattle.lay_abspos.specs.declared.axis.Axis.{Axis}
 use Rattle.lay_abspos.specs.declared.axis.ContentSize.TheVariants.{Shrinks as shrinks, Stands as stands}
 use Rattle.lay_abspos.specs.AbsoluteAxis.{IsUsedAxis}
@@ -31,7 +32,8 @@ own_axis_across s own preferred_minimum preferred =
     axis_across s own.style (block_across (block_in s) (natural_in own.kind) own.style) (shrinks preferred_minimum preferred)
 
 -- these are the used sizes of this box, whose content has these preferred widths, and its left border edge is there
-pub record IsAbsoluteSized (s : AbsoluteSetting) (own : BoxNode) (preferred_minimum preferred : Length) (z : BoxSizes) (left : Length) : Type 0 where
+pub record IsAbsoluteSized (s : AbsoluteSetting) (own : BoxNode) (preferred_minimum preferred : Length) (z : BoxSizes) (left : Length)
+    : Type 0 where
   pub out : AbsOut
   pub across : IsUsedAxis (own_axis_across s own preferred_minimum preferred) out
   pub left_is : left ≡ border_start out

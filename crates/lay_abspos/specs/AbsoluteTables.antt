@@ -4,8 +4,8 @@ use Rattle.std.specs.Prelude.{◌≡◌}
 use Rattle.lay_units.specs.declared.length.Unit.{Unit as Length}
 use Rattle.lay_units.specs.declared.records.AbsOut.{AbsOut}
 use Rattle.lay_units.specs.declared.records.Len.TheVariants.{Of as of}
+use Rattle.lay_units.specs.Lengths.{no_length}
 use Rattle.lay_style.specs.declared.style.Style.{Style}
-use Rattle.lay_sizes.specs.UsedLengths.{no_length}
 use Rattle.lay_abspos.specs.declared.axis.ContentSize.TheVariants.{Shrinks as shrinks}
 use Rattle.lay_abspos.specs.AbsoluteAxis.{IsUsedAxis}
 use Rattle.lay_abspos.specs.declared.setting.AbsoluteSetting.{AbsoluteSetting}

@@ -16,10 +16,13 @@ OneAbsoluteSizes = (s : AbsoluteSetting) (own : BoxNode) (minimum preferred : Le
     → IsAbsoluteSized s own minimum preferred x a → IsAbsoluteSized s own minimum preferred y b → (x ≡ y) × (a ≡ b)
 
 abbrev pub OneStretchedHeight : Type 0
-OneStretchedHeight = (s : AbsoluteSetting) (own : BoxNode) (x y : Option Length) → IsStretchedHeight s own x → IsStretchedHeight s own y → x ≡ y
+OneStretchedHeight = (s : AbsoluteSetting) (own : BoxNode) (x y : Option Length) → IsStretchedHeight s own x
+    → IsStretchedHeight s own y → x ≡ y
 
 abbrev pub OneTableLeft : Type 0
-OneTableLeft = (s : AbsoluteSetting) (style : Style) (width x y : Length) → IsTableLeft s style width x → IsTableLeft s style width y → x ≡ y
+OneTableLeft = (s : AbsoluteSetting) (style : Style) (width x y : Length) → IsTableLeft s style width x
+    → IsTableLeft s style width y → x ≡ y
 
 abbrev pub OneOffset : Type 0
-OneOffset = (s : AbsoluteSetting) (own : BoxNode) (left height : Length) (x y : Corner) → IsOffset s own left height x → IsOffset s own left height y → x ≡ y
+OneOffset = (s : AbsoluteSetting) (own : BoxNode) (left height : Length) (x y : Corner)
+    → IsOffset s own left height x → IsOffset s own left height y → x ≡ y

@@ -1,11 +1,12 @@
 //! What the equations of an absolutely positioned box stand over.
 
-ghost use Rattle.std.specs.Prelude.{◌≡◌, ◌-ℤ◌};
-ghost use Rattle.lay_units.specs.Units.{IsPosition, IsUsedSize};
+ghost use Rattle.std.specs.Prelude.{◌≡◌};
+ghost use Rattle.lay_units.specs.Units.{IsPosition};
 ghost use Rattle.lay_style.specs.LengthValues.{size_of};
-ghost use Rattle.lay_widths.specs.Lengths.{BlockFits, IsSize, LenFits, LenIsSize};
+ghost use Rattle.lay_widths.specs.Lengths.{BlockFits, LenFits, LenIsSize};
 ghost use Rattle.lay_abspos.specs.AbsoluteFits.{AxisFits};
-ghost use Rattle.lay_abspos.specs.AbsoluteAxes.{axis_across, axis_down, block_across, block_down, content_height, natural_in, wrapper_across, wrapper_block, wrapper_down};
+ghost use Rattle.lay_abspos.specs.AbsoluteAxes.{axis_across, axis_down, block_across, block_down, content_height};
+ghost use Rattle.lay_abspos.specs.AbsoluteAxes.{natural_in, wrapper_across, wrapper_block, wrapper_down};
 ghost use Rattle.lay_abspos.specs.AbsoluteSettings.{SettingFits};
 
 use crate::lengths::inside;
@@ -16,8 +17,8 @@ use lay_sizes::{
     ContainingBlock, NaturalSize, block_of, edges_of, height_of, max_height_of, min_height_of,
     replaced_size_of, used_margin, used_size, with_width,
 };
-use lay_style::Style;
-use lay_units::{BlockIn, Len, Unit, clamp_size};
+use lay_style::{Style, size_of};
+use lay_units::{BlockIn, Len, Unit};
 
 /// This block between these offsets, across.
 pub(crate) fn axis_across(
@@ -118,13 +119,6 @@ pub(crate) fn block_down(
         min_width: min_height_of(containing, natural, style),
         max_width: max_height_of(containing, natural, style),
     }
-}
-
-fn size_of(length: Unit) -> Unit
-    ensures value { result ≡ size_of length.0 }
-    ensures size { IsUsedSize result.0 }
-{
-    clamp_size(i128::from(length.0))
 }
 
 /// The height of the content of a border box that is so high.

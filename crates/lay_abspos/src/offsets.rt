@@ -1,11 +1,11 @@
 //! Where absolutely positioned boxes stand.
 
-ghost use Rattle.std.specs.Prelude.{◌≡◌, ◌+ℤ◌, IfErr, IfOk};
+ghost use Rattle.std.specs.Prelude.{◌≡◌, IfErr, IfOk};
+ghost use Rattle.lay_units.specs.Units.{IsBoxSize};
 ghost use Rattle.lay_abspos.specs.AbsoluteFits.{AxisFits};
 ghost use Rattle.lay_pieces.specs.Corners.{IsCornerNear};
 ghost use Rattle.lay_pieces.specs.declared.corner.Corner.{Corner};
 ghost use Rattle.lay_box_tree.specs.Kinds.{is_wrapper};
-ghost use Rattle.lay_sizes.specs.OwnBoxes.{IsBoxSize};
 ghost use Rattle.lay_abspos.specs.OffsetBounds.{IsStart};
 ghost use Rattle.lay_abspos.specs.Offsets.{IsOffset, axis_of_height};
 ghost use Rattle.lay_abspos.specs.AbsoluteSettings.{SettingFits};
@@ -13,9 +13,9 @@ ghost use Rattle.lay_abspos.specs.AbsoluteSettings.{SettingFits};
 use crate::axes::{axis_down, content_height, wrapper_down};
 use crate::lengths::moved;
 use crate::setting::{AbsoluteSetting, block_in};
-use crate::sizes::{border_start, is_wrapper, own_axis_down, solved};
+use crate::sizes::{border_start, own_axis_down, solved};
 use crate::{Axis, ContentSize};
-use lay_box_tree::BoxNode;
+use lay_box_tree::{BoxNode, is_wrapper};
 use lay_pieces::{Corner, near_corner};
 use lay_units::{Len, NoMemory, Unit};
 

@@ -1,10 +1,10 @@
 //! Where a formatting context stands by itself.
 
 ghost use Rattle.std.specs.Prelude.{◌≡◌, ◌+ℤ◌, IfOk};
-ghost use Rattle.lay_units.specs.Units.{IsUsed};
+ghost use Rattle.lay_units.specs.Units.{IsUsed, IsNear};
 ghost use Rattle.lay_sizes.specs.SizeBounds.{SizeFits};
 ghost use Rattle.lay_sizes.specs.SizeColumns.{sizes_at};
-ghost use Rattle.lay_pieces.specs.Corners.{IsCornerNear, IsNear};
+ghost use Rattle.lay_pieces.specs.Corners.{IsCornerNear};
 ghost use Rattle.lay_abspos.specs.OwnOffsets.{IsOwnOffset, is_right, root_corner, root_left};
 ghost use Rattle.lay_abspos.specs.StandInputs.{IsRootEdge};
 

@@ -1,9 +1,8 @@
 //! The root's own box.
 
 ghost use Rattle.std.specs.Prelude.{◌≡◌, ◌-ℤ◌};
-ghost use Rattle.lay_units.specs.Units.{IsUsed, IsUsedSize};
+ghost use Rattle.lay_units.specs.Units.{IsUsed, IsUsedSize, IsBoxSize};
 ghost use Rattle.lay_sizes.specs.BoxSizes.{border_width};
-ghost use Rattle.lay_sizes.specs.OwnBoxes.{IsBoxSize};
 ghost use Rattle.lay_sizes.specs.SizeBounds.{SizeFits};
 ghost use Rattle.lay_abspos.specs.ViewportBounds.{ViewportFits};
 ghost use Rattle.lay_abspos.specs.OneProof.{SizeFits-prop};
@@ -24,7 +23,8 @@ pub(crate) struct RootBox {
 impl RootBox {
     /// Its left border edge where it stands at the right edge of the viewport.
     pub(crate) fn left_of_right(&self) -> Unit
-        ensures left { result ≡ record { 0 = self.now.viewport.width.0 -ℤ self.now.sizes.widths.margin_right.0 -ℤ border_width self.now.sizes } }
+        ensures left { result
+            ≡ record { 0 = self.now.viewport.width.0 -ℤ self.now.sizes.widths.margin_right.0 -ℤ border_width self.now.sizes } }
         ensures bounds { IsRootEdge result.0 }
     {
         let margin = self.sizes.widths.margin_right;

@@ -1,20 +1,20 @@
 //! The used sizes of absolutely positioned boxes.
 
-ghost use Rattle.std.specs.Prelude.{◌≡◌, ◌+ℤ◌, Option, IfSome};
-ghost use Rattle.lay_units.specs.Units.{IsUsed, IsUsedSize};
+ghost use Rattle.std.specs.Prelude.{◌≡◌, IfSome};
+ghost use Rattle.lay_units.specs.Units.{IsUsedSize};
 ghost use Rattle.lay_abspos.specs.AbsoluteAxis.{IsUsedAxis};
 ghost use Rattle.lay_abspos.specs.AbsoluteFits.{AxisFits};
-ghost use Rattle.lay_box_tree.specs.Kinds.{is_wrapper};
 ghost use Rattle.lay_sizes.specs.BoxSizes.{natural_of};
 ghost use Rattle.lay_sizes.specs.SizeBounds.{SizeFits};
-ghost use Rattle.lay_abspos.specs.AbsoluteSizes.{IsAbsoluteSized, IsAxisSize, IsStretchedHeight, border_start, is_auto, is_stretched, own_axis_across, own_axis_down, widths_in};
+ghost use Rattle.lay_abspos.specs.AbsoluteSizes.{IsAbsoluteSized, IsStretchedHeight, border_start};
+ghost use Rattle.lay_abspos.specs.AbsoluteSizes.{is_auto, is_stretched, own_axis_across, own_axis_down, widths_in};
 ghost use Rattle.lay_abspos.specs.OffsetBounds.{AbsOutFits, IsStart};
 ghost use Rattle.lay_abspos.specs.AbsoluteSettings.{SettingFits};
 
 use crate::axes::{axis_across, axis_down, block_across, block_down, natural_in};
 use crate::setting::{AbsoluteSetting, block_in};
 use crate::{Axis, ContentSize, solve_absolute};
-use lay_box_tree::{BoxKind, BoxNode};
+use lay_box_tree::{BoxNode, is_wrapper};
 use lay_sizes::{BoxSizes, NaturalSize, WidthRule, box_sizes, height_of, used_margin};
 use lay_units::{AbsOut, Len, Unit};
 use lay_widths::BlockOut;
@@ -156,13 +156,6 @@ fn is_stretched(setting: &AbsoluteSetting, own: &BoxNode) -> bool
         && is_auto(height)
         && !is_auto(used_margin(containing, own.style.offset.top))
         && !is_auto(used_margin(containing, own.style.offset.bottom))
-}
-
-/// Whether it is the wrapper of a table.
-pub(crate) fn is_wrapper(kind: &BoxKind) -> bool
-    ensures { result ≡ is_wrapper kind.now }
-{
-    matches!(kind, BoxKind::Wrapper | BoxKind::InlineWrapper)
 }
 
 fn is_auto(length: Len) -> bool

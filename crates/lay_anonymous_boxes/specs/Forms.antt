@@ -5,7 +5,9 @@ use Rattle.lay_anonymous_boxes.specs.declared.facts.Facts.{Facts}
 use Rattle.lay_box_tree.specs.declared.box_tree.Flow.{Flow}
 use Rattle.lay_box_tree.specs.declared.box_tree.Flow.TheVariants as flow
 use Rattle.lay_anonymous_boxes.specs.declared.facts.Form.{Form}
-use Rattle.lay_anonymous_boxes.specs.declared.facts.Form.TheVariants.{Block, InlineBlock, Inline, Text, Replaced, Wrapper, InlineWrapper, Caption, RowGroup, HeaderGroup, FooterGroup, Row, ColumnGroup, Column, Cell, Anchor}
+use Rattle.lay_anonymous_boxes.specs.declared.facts.Form.TheVariants.{Block, InlineBlock, Inline, Text, Replaced, Wrapper}
+use Rattle.lay_anonymous_boxes.specs.declared.facts.Form.TheVariants.{InlineWrapper, Caption, RowGroup, HeaderGroup}
+use Rattle.lay_anonymous_boxes.specs.declared.facts.Form.TheVariants.{FooterGroup, Row, ColumnGroup, Column, Cell, Anchor}
 use Rattle.lay_anonymous_boxes.specs.declared.facts.TextForm.TheVariants.{Seen, White, Blank}
 
 -- a row group box: a row group, a header group or a footer group

@@ -2,7 +2,8 @@
 -- column groups that aren't columns, and white space in and between table boxes.
 use Rattle.std.specs.Prelude.{Bool, true, false, ◌&&◌, ◌||◌, List, [], ◌∷◌, ◌++◌, if◌then◌else◌, filter, Option, None, Some}
 use Rattle.lay_anonymous_boxes.specs.Boxes.{Tree, facts_of}
-use Rattle.lay_anonymous_boxes.specs.Forms.{is_column, is_column_group, is_table_part, is_tabular_container, is_proper_table_descendant, is_in_flow}
+use Rattle.lay_anonymous_boxes.specs.Forms.{is_column, is_column_group, is_table_part}
+use Rattle.lay_anonymous_boxes.specs.Forms.{is_tabular_container, is_proper_table_descendant, is_in_flow}
 use Rattle.lay_anonymous_boxes.specs.Runs.{is_white_box}
 use Rattle.lay_anonymous_boxes.specs.declared.facts.Facts.{Facts}
 use Rattle.lay_anonymous_boxes.specs.declared.facts.Form.{Form}

@@ -1,7 +1,8 @@
 -- 17.2.1, the third stage: missing parents are generated.
 use Rattle.std.specs.Prelude.{Bool, ◌&&◌, ◌||◌, not, List, [], ◌∷◌, if◌then◌else◌}
 use Rattle.lay_anonymous_boxes.specs.Boxes.{Tree}
-use Rattle.lay_anonymous_boxes.specs.Forms.{is_row, is_cell, is_table, is_row_group, is_column, is_column_group, is_caption, is_inline, is_in_flow}
+use Rattle.lay_anonymous_boxes.specs.Forms.{is_row, is_cell, is_table, is_row_group, is_column}
+use Rattle.lay_anonymous_boxes.specs.Forms.{is_column_group, is_caption, is_inline, is_in_flow}
 use Rattle.lay_anonymous_boxes.specs.Runs.{gathered, anonymous_box}
 use Rattle.lay_anonymous_boxes.specs.declared.facts.Facts.{Facts}
 use Rattle.lay_anonymous_boxes.specs.declared.facts.Form.{Form}

@@ -41,11 +41,14 @@ joined-none no_trees = refl
 joined-none (also t ts) = ap (also t) (joined-none ts)
 
 mutual
-  pub grown-marks : (t : Tree) (rest : List (Option Facts)) (s : Trees) (more : List Trees) → grown rest ≡ s ∷ more → grown (marks t rest) ≡ also t s ∷ more
+  pub grown-marks : (t : Tree) (rest : List (Option Facts)) (s : Trees) (more : List Trees)
+      → grown rest ≡ s ∷ more → grown (marks t rest) ≡ also t s ∷ more
   grown-marks (tree f ts) rest s more h =
-      ap (begun f) (grown-all_marks ts (None ∷ rest) no_trees (s ∷ more) (ap (λ r. no_trees ∷ r) h) ∙ ap (λ k. k ∷ (s ∷ more)) (joined-none ts))
+      ap (begun f)
+      (grown-all_marks ts (None ∷ rest) no_trees (s ∷ more) (ap (λ r. no_trees ∷ r) h) ∙ ap (λ k. k ∷ (s ∷ more)) (joined-none ts))
 
-  pub grown-all_marks : (ts : Trees) (rest : List (Option Facts)) (s : Trees) (more : List Trees) → grown rest ≡ s ∷ more → grown (all_marks ts rest) ≡ joined ts s ∷ more
+  pub grown-all_marks : (ts : Trees) (rest : List (Option Facts)) (s : Trees) (more : List Trees)
+      → grown rest ≡ s ∷ more → grown (all_marks ts rest) ≡ joined ts s ∷ more
   grown-all_marks no_trees rest s more h = h
   grown-all_marks (also t ts) rest s more h = grown-marks t (all_marks ts rest) (joined ts s) more (grown-all_marks ts rest s more h)
 

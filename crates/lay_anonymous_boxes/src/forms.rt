@@ -1,7 +1,10 @@
 //! The words of the standard for what a box is.
 
 ghost use Rattle.std.specs.Prelude.{◌≡◌};
-ghost use Rattle.lay_anonymous_boxes.specs.Forms.{is_row_group, is_table, is_row, is_cell, is_caption, is_column, is_column_group, is_proper_table_child, is_internal_table_box, is_tabular_container, is_table_part, is_proper_table_descendant, is_inline, is_text, is_anchor, is_white, is_blank, is_inline_level, is_block_container, is_in_flow, is_absolute, is_block};
+ghost use Rattle.lay_anonymous_boxes.specs.Forms.{is_row_group, is_table, is_row, is_cell, is_caption, is_column, is_column_group};
+ghost use Rattle.lay_anonymous_boxes.specs.Forms.{is_proper_table_child, is_internal_table_box, is_tabular_container, is_table_part};
+ghost use Rattle.lay_anonymous_boxes.specs.Forms.{is_proper_table_descendant, is_inline, is_text, is_anchor, is_white, is_blank};
+ghost use Rattle.lay_anonymous_boxes.specs.Forms.{is_inline_level, is_block_container, is_in_flow, is_absolute, is_block};
 
 use crate::facts::{Facts, Form, TextForm};
 use lay_box_tree::Flow;

@@ -1,9 +1,9 @@
 //! Inline runs beside blocks are wrapped (CSS 2.2, 9.2.1.1).
 
-ghost use Rattle.std.specs.Prelude.{◌≡◌, ◌++◌, List, OnOk, IfOk};
+ghost use Rattle.std.specs.Prelude.{◌≡◌, IfOk};
 ghost use Rattle.std.specs.List.{list_any};
 ghost use Rattle.lay_anonymous_boxes.specs.declared.facts.Facts.{Facts};
-ghost use Rattle.lay_anonymous_boxes.specs.Boxes.{Tree, in_box};
+ghost use Rattle.lay_anonymous_boxes.specs.Boxes.{in_box};
 ghost use Rattle.lay_anonymous_boxes.specs.InlineRuns.{is_no_block, is_seen_box, is_loose, is_loose_box, block_round, run_wrapped};
 
 use crate::broken_inlines::{has_block, is_unseen, put_but_texts};

@@ -3,7 +3,9 @@
 ghost use Rattle.std.specs.Prelude.{◌≡◌, ◌++◌, ◌∷◌, [], None, List, OnOk, IfOk, IsTrue};
 ghost use Rattle.std.specs.List.{list_any};
 ghost use Rattle.lay_anonymous_boxes.specs.Boxes.{Tree, in_box};
-ghost use Rattle.lay_anonymous_boxes.specs.Irrelevant.{column_group_children, is_descendant_or_none, is_irrelevant_in_container, is_table_part_there, is_irrelevant_between, is_irrelevant, is_table_part_box, kept_gap, kept_from, without_white_space, relevant};
+ghost use Rattle.lay_anonymous_boxes.specs.Irrelevant.{column_group_children, is_descendant_or_none, is_irrelevant_in_container};
+ghost use Rattle.lay_anonymous_boxes.specs.Irrelevant.{is_table_part_there, is_irrelevant_between, is_irrelevant};
+ghost use Rattle.lay_anonymous_boxes.specs.Irrelevant.{is_table_part_box, kept_gap, kept_from, without_white_space, relevant};
 ghost use Rattle.lay_anonymous_boxes.specs.Runs.{is_white_box};
 
 use crate::facts::{Facts, Form};

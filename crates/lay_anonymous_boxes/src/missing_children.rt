@@ -1,9 +1,10 @@
 //! Missing child wrappers are generated (CSS 2.2, 17.2.1, the second stage).
 
-ghost use Rattle.std.specs.Prelude.{◌≡◌, ◌++◌, List, OnOk, IfOk};
+ghost use Rattle.std.specs.Prelude.{◌≡◌, ◌++◌, OnOk, IfOk};
 ghost use Rattle.lay_anonymous_boxes.specs.declared.facts.Facts.{Facts};
-ghost use Rattle.lay_anonymous_boxes.specs.Boxes.{Tree, in_box};
-ghost use Rattle.lay_anonymous_boxes.specs.MissingChildren.{is_no_proper_table_child, is_no_row, is_no_cell, cell_round, row_round, in_cells, in_rows_of_table, in_rows_of_group, child_wrapped};
+ghost use Rattle.lay_anonymous_boxes.specs.Boxes.{in_box};
+ghost use Rattle.lay_anonymous_boxes.specs.MissingChildren.{is_no_proper_table_child, is_no_row, is_no_cell, cell_round, row_round};
+ghost use Rattle.lay_anonymous_boxes.specs.MissingChildren.{in_cells, child_wrapped};
 
 use crate::facts::{Facts, Form};
 use crate::forms::{is_cell, is_in_flow, is_proper_table_child, is_row, is_row_group, is_table};

@@ -1,9 +1,11 @@
 //! Missing parents are generated (CSS 2.2, 17.2.1, the third stage).
 
-ghost use Rattle.std.specs.Prelude.{◌≡◌, ◌++◌, List, OnOk, IfOk};
+ghost use Rattle.std.specs.Prelude.{◌≡◌, IfOk};
 ghost use Rattle.lay_anonymous_boxes.specs.declared.facts.Facts.{Facts};
-ghost use Rattle.lay_anonymous_boxes.specs.Boxes.{Tree, in_box};
-ghost use Rattle.lay_anonymous_boxes.specs.MissingParents.{is_cell_in_flow, row_of_cells, cells_in_rows, is_misparented_row, is_misparented_column, is_misparented_group_or_caption, is_misparented, table_round, parts_in_tables, parented};
+ghost use Rattle.lay_anonymous_boxes.specs.Boxes.{in_box};
+ghost use Rattle.lay_anonymous_boxes.specs.MissingParents.{is_cell_in_flow, row_of_cells, cells_in_rows, is_misparented_row};
+ghost use Rattle.lay_anonymous_boxes.specs.MissingParents.{is_misparented_column, is_misparented_group_or_caption};
+ghost use Rattle.lay_anonymous_boxes.specs.MissingParents.{is_misparented, table_round, parented};
 
 use crate::facts::{Facts, Form};
 use crate::forms::{

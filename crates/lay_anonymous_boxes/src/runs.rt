@@ -54,7 +54,8 @@ impl Gathering {
 
     /// Ends the run, if one is open.
     fn end_run<R: RunRule>(&mut self, alloc: Global, rule: &R) -> Result<(), NoMemory>
-        ensures done { OnOk result (self.new.done.items ≡ self.old.done.items ++ run_over (R.closed rule.now) self.old.run.items self.old.gap.items) }
+        ensures done { OnOk result
+            (self.new.done.items ≡ self.old.done.items ++ run_over (R.closed rule.now) self.old.run.items self.old.gap.items) }
         ensures run { OnOk result (self.new.run.items ≡ []) }
         ensures gap { OnOk result (self.new.gap.items ≡ []) }
     {
@@ -70,7 +71,8 @@ impl Gathering {
     fn take<R: RunRule>(&mut self, alloc: Global, rule: &R, child: Subtree) -> Result<(), NoMemory>
         ensures { OnOk result ((rest : List Tree) →
             self.new.done.items ++ gathered_from (R.faulty rule.now) (R.closed rule.now) self.new.run.items self.new.gap.items rest
-            ≡ self.old.done.items ++ gathered_from (R.faulty rule.now) (R.closed rule.now) self.old.run.items self.old.gap.items (child ∷ rest)) }
+            ≡ self.old.done.items
+            ++ gathered_from (R.faulty rule.now) (R.closed rule.now) self.old.run.items self.old.gap.items (child ∷ rest)) }
     {
         let facts = child.facts();
         if rule.is_faulty(facts) {

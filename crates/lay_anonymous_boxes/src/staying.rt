@@ -1,7 +1,6 @@
 //! Trees of boxes that no rule of box generation changes, as those of most contexts are: one walk sees it at once.
 
 ghost use Rattle.std.specs.Prelude.{◌∷◌, [], IsTrue};
-ghost use Rattle.lay_anonymous_boxes.specs.Boxes.{trees_of};
 ghost use Rattle.lay_anonymous_boxes.specs.Staying.{KeepsChildren, StayTheSame};
 
 use crate::broken_inlines::BreakInlines;

@@ -1,8 +1,8 @@
 //! Wrappers of tables get their table boxes (CSS 2.2, 17.4).
 
-ghost use Rattle.std.specs.Prelude.{◌≡◌, ◌++◌, List, OnOk, IfOk};
+ghost use Rattle.std.specs.Prelude.{◌≡◌, IfOk};
 ghost use Rattle.lay_anonymous_boxes.specs.declared.facts.Facts.{Facts};
-ghost use Rattle.lay_anonymous_boxes.specs.Boxes.{Tree, in_box};
+ghost use Rattle.lay_anonymous_boxes.specs.Boxes.{in_box};
 ghost use Rattle.lay_anonymous_boxes.specs.TableWrappers.{table_facts, captions_and_table, in_wrapper};
 
 use crate::facts::{Facts, Form};

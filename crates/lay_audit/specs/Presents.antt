@@ -1,6 +1,7 @@
 -- What stands after a history, and the entries that may come next: the next command of an editor with a reply that is right
 -- now, or that the present version is published.
-use Rattle.std.specs.Prelude.{ℕ, ⊤, zero, suc, ◌≡◌, ◌+◌, ◌≤◌, ◌<◌, ◌^◌, List, [], length, take, fold, slice_get, slice_index_or, slice_set, Option, Some, None}
+use Rattle.std.specs.Prelude.{ℕ, ⊤, zero, suc, ◌≡◌, ◌+◌, ◌≤◌, ◌<◌, ◌^◌, List, [], length, take}
+use Rattle.std.specs.Prelude.{fold, slice_get, slice_index_or, slice_set, Option, Some, None}
 use Rattle.std.specs.List.{All}
 use Rattle.lay_doc.specs.Document.{Document}
 use Rattle.lay_edits.specs.EditLists.{after_all}
@@ -35,7 +36,8 @@ pub record IsPresent (basis : Basis) (history : List Entry) (p : PresentValue) :
   pub document_is : p.document ≡ doc_after basis.init history
   pub count_is : p.count ≡ accepted history
   pub last_is : p.last ≡ last_published history
-  pub answered : (editor : ℕ) → calls_of editor (calls history) ≡ script_calls editor 0 (take (answered_of p.next editor) (script_of basis.scripts editor))
+  pub answered : (editor : ℕ)
+      → calls_of editor (calls history) ≡ script_calls editor 0 (take (answered_of p.next editor) (script_of basis.scripts editor))
   pub within : (place : ℕ) → slice_index_or p.next place 0 ≤ length (slice_index_or basis.scripts place [])
   pub editors : length p.next ≡ length basis.scripts
 

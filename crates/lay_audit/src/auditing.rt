@@ -1,6 +1,6 @@
 //! The audit of a report.
 
-ghost use Rattle.std.specs.Prelude.{◌≡◌, [], IfOk, IfNone, IfSome, List, string_bytes, ℕ};
+ghost use Rattle.std.specs.Prelude.{[], IfOk, IfNone, IfSome, List, ℕ};
 ghost use Rattle.lay_doc.specs.Document.{Document};
 ghost use Rattle.lay_audit.specs.Readings.{IsRead, IsSteady, NoStep, basis_of};
 ghost use Rattle.lay_audit.specs.Verdicts.{IsFirstBad, IsVerdict};
@@ -42,9 +42,11 @@ fn read_entries(
     reading: &mut Reading<'_>,
 ) -> Result<Option<u64>, NoMemory>
     requires { IsSteady scripts.now reading.old }
-    ensures bad { IfOk result (λ o. IfSome o (λ n. (init : Document) (text : List ℕ) → IsRead (basis_of init face.now.value scripts.now) text reading.old []
+    ensures bad { IfOk result
+        (λ o. IfSome o (λ n. (init : Document) (text : List ℕ) → IsRead (basis_of init face.now.value scripts.now) text reading.old []
         → IsFirstBad (basis_of init face.now.value scripts.now) text n)) }
-    ensures read { IfOk result (λ o. IfNone o ((init : Document) (text : List ℕ) → IsRead (basis_of init face.now.value scripts.now) text reading.old []
+    ensures read { IfOk result
+        (λ o. IfNone o ((init : Document) (text : List ℕ) → IsRead (basis_of init face.now.value scripts.now) text reading.old []
         → IsRead (basis_of init face.now.value scripts.now) text reading.new [] × NoStep scripts.now reading.new)) }
     ensures steady { IfOk result (λ o. IfNone o (IsSteady scripts.now reading.new)) }
 {

@@ -3,7 +3,7 @@
 ghost use Rattle.std.specs.Prelude.{◌≡◌, ◌+◌, ◌<◌, ◌^◌, ◌++◌, [], IfOk, IfSome, IsSomeAnd, List, None, Some, codes, length, ℕ};
 ghost use Rattle.std.specs.Fmt.{decimal};
 ghost use Rattle.lay_doc.specs.Document.{Document};
-ghost use Rattle.lay_report.specs.Report.{final_line, laid_line};
+ghost use Rattle.lay_report.specs.Report.{laid_line};
 ghost use Rattle.lay_audit.specs.LegalReports.{Basis};
 ghost use Rattle.lay_audit.specs.Readings.{IsAtEnd, IsFinalNext, IsLaidNext, IsRead, IsSteady, NoStep, basis_of};
 ghost use Rattle.lay_audit.specs.Verdicts.{IsVerdict};
@@ -62,7 +62,9 @@ impl<'a> Reading<'a> {
     /// Reads the lines of the last tree.
     fn read_last_tree(&mut self, alloc: Global) -> Result<Verdict, NoMemory>
         requires { self.old.lines + length self.old.rest + 1 < 2 ^ 64 }
-        ensures { IfOk result (λ v. (basis : Basis) (text : List ℕ) → IsAtEnd basis text self.old.lines self.old.rest self.old.tree.contexts self.old.tree.text → IsVerdict basis text v) }
+        ensures { IfOk result
+            (λ v. (basis : Basis) (text : List ℕ)
+            → IsAtEnd basis text self.old.lines self.old.rest self.old.tree.contexts self.old.tree.text → IsVerdict basis text v) }
     {
         match compare(self.tree.text(), self.rest) {
             Ok((lines, rest)) => {
@@ -77,7 +79,9 @@ impl<'a> Reading<'a> {
     /// Reads the number of claims, and the end.
     fn read_laid(&self, alloc: Global) -> Result<Verdict, NoMemory>
         requires { self.now.lines + length self.now.rest + 1 < 2 ^ 64 }
-        ensures { IfOk result (λ v. (basis : Basis) (text : List ℕ) → IsAtEnd basis text self.now.lines self.now.rest self.now.tree.contexts [] → IsVerdict basis text v) }
+        ensures { IfOk result
+            (λ v. (basis : Basis) (text : List ℕ) → IsAtEnd basis text self.now.lines self.now.rest self.now.tree.contexts []
+            → IsVerdict basis text v) }
     {
         match behind_laid(alloc, self.tree.contexts(), self.rest)? {
             None => Ok(Verdict::No(self.lines + 1)),

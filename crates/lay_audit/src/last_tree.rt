@@ -1,6 +1,6 @@
 //! The tree that was published last.
 
-ghost use Rattle.std.specs.Prelude.{◌≡◌, [], IfOk};
+ghost use Rattle.std.specs.Prelude.{◌≡◌, IfOk};
 ghost use Rattle.lay_audit.specs.Readings.{IsLayoutOf};
 ghost use Rattle.lay_audit.specs.WholeLines.{IsOfLines};
 

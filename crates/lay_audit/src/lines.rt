@@ -2,7 +2,6 @@
 
 ghost use Rattle.std.specs.Prelude.{◌≡◌, ◌++◌, IfOk, IfSome, None, codes, string_bytes};
 ghost use Rattle.std.specs.Fmt.{decimal};
-ghost use Rattle.lay_report.specs.Report.{final_line, laid_line};
 ghost use Rattle.lay_audit.specs.NextLines.{BeginsWith, command_front, command_word, edit_count, reply_end};
 
 use lay_edits::{Cmd, Reply};

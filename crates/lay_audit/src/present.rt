@@ -1,6 +1,7 @@
 //! What stands after the entries that were read.
 
-ghost use Rattle.std.specs.Prelude.{◌≡◌, ◌+◌, ◌<◌, ◌^◌, ◌⊎◌, ◌==◌, [], IfOk, IfSome, OnOk, Some, length, option_map, slice_get, slice_index_or, slice_set, ℕ};
+ghost use Rattle.std.specs.Prelude.{◌≡◌, ◌+◌, ◌<◌, ◌^◌, ◌⊎◌, ◌==◌, [], IfOk, IfSome, OnOk, Some};
+ghost use Rattle.std.specs.Prelude.{length, option_map, slice_get, slice_index_or, slice_set, ℕ};
 ghost use Rattle.std.specs.Bool.{Decides};
 ghost use Rattle.std.specs.List.{All};
 ghost use Rattle.lay_face.specs.FaceValue.{FaceValue};
@@ -38,7 +39,8 @@ impl Model for Present {
 impl Present {
     /// What stands before the first entry.
     pub(crate) fn new(alloc: Global, doc: &Doc, scripts: &[CmdList]) -> Result<Present, NoMemory>
-        ensures is { IfOk result (λ p. (face : FaceValue) → IsPresent (record { init = doc.now; face = face; scripts = scripts.now }) [] p) }
+        ensures is { IfOk result
+            (λ p. (face : FaceValue) → IsPresent (record { init = doc.now; face = face; scripts = scripts.now }) [] p) }
         ensures count { IfOk result (λ p. p.count ≡ 0) }
         ensures editors { IfOk result (λ p. length p.next ≡ length scripts.now) }
     {
@@ -204,7 +206,8 @@ impl Present {
     ) -> Result<(), NoMemory>
         requires is { (e : Entry) × IsStep scripts.now self.old (Step.Answer place reply) e }
         requires editors { length self.old.next ≡ length scripts.now }
-        ensures { OnOk result ((e : Entry) → IsStep scripts.now self.old (Step.Answer place reply) e → Moves self.old (Step.Answer place reply) e self.new) }
+        ensures { OnOk result
+            ((e : Entry) → IsStep scripts.now self.old (Step.Answer place reply) e → Moves self.old (Step.Answer place reply) e self.new) }
     {
         match reply {
             Reply::Accepted(version) => self.answer_accepted(alloc, scripts, place, version),

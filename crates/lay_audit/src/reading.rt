@@ -4,7 +4,6 @@ ghost use Rattle.std.specs.Prelude.{◌≡◌, ◌+◌, ◌<◌, ◌≤◌, ◌^
 ghost use Rattle.lay_doc.specs.Document.{Document};
 ghost use Rattle.lay_edits.specs.declared.command.Cmd.{Cmd};
 ghost use Rattle.lay_face.specs.FaceValue.{FaceValue};
-ghost use Rattle.lay_audit.specs.LegalReports.{Basis};
 ghost use Rattle.lay_audit.specs.Lines.{behind_line};
 ghost use Rattle.lay_audit.specs.NextLines.{StandsNext};
 ghost use Rattle.lay_audit.specs.Presents.{shown_in};
@@ -76,7 +75,8 @@ impl<'a> Reading<'a> {
         face: &Arc<Face>,
     ) -> Result<Next, NoMemory>
         requires { IsSteady scripts.now self.old }
-        ensures reads { IfOk result (λ n. (init : Document) (text : List ℕ) → IsRead (basis_of init face.now.value scripts.now) text self.old []
+        ensures reads { IfOk result
+            (λ n. (init : Document) (text : List ℕ) → IsRead (basis_of init face.now.value scripts.now) text self.old []
             → ReadsTo (basis_of init face.now.value scripts.now) text self.new n) }
         ensures steady { OnOk result (IsSteady scripts.now self.new) }
         ensures shorter { IfOk result (λ n. n ≡ Next.Entry → length self.new.rest < length self.old.rest) }
@@ -122,7 +122,8 @@ impl<'a> Reading<'a> {
     ) -> Result<(), NoMemory>
         requires steady { IsSteady scripts.now self.old }
         requires next { StandsNext scripts.now self.old.present self.old.rest (Step.Answer place reply) }
-        ensures reads { OnOk result ((init : Document) (face : FaceValue) (text : List ℕ) → IsRead (basis_of init face scripts.now) text self.old []
+        ensures reads { OnOk result
+            ((init : Document) (face : FaceValue) (text : List ℕ) → IsRead (basis_of init face scripts.now) text self.old []
             → IsRead (basis_of init face scripts.now) text self.new (pending_of (shown_in (Step.Answer place reply)) self.new.tree.text)) }
         ensures steady { OnOk result (IsSteady scripts.now self.new) }
         ensures shorter { OnOk result (length self.new.rest < length self.old.rest) }

@@ -6,12 +6,13 @@ use Rattle.std.proofs.lemmas.Bool.{cases_lt}
 use Rattle.std.proofs.lemmas.List.{take_more}
 use Rattle.std.proofs.Math.Nat.{div-add-mod, mul-le-mul_left}
 use Rattle.lay_units.specs.declared.length.Unit.{Unit}
+use Rattle.lay_units.specs.Units.{IsSize}
 use Rattle.lay_auto_columns.specs.declared.bounds.GroupSpan.{GroupSpan}
 use Rattle.lay_grid.specs.Columns.{from_zero, part_of}
 use Rattle.lay_grid.specs.Shares.{width_at}
 use Rattle.lay_grid.proofs.HeightsWithin.{product_up}
 use Rattle.lay_grid.proofs.Products.{greater_part, lesser_part}
-use Rattle.lay_auto_columns.specs.Sizes.{AreSizes, IsSize}
+use Rattle.lay_auto_columns.specs.Sizes.{AreSizes}
 use Rattle.lay_auto_columns.specs.Spread.{AreWidened, IsWidened, found_in, lacking, sum_over}
 use Rattle.lay_auto_columns.specs.Fit.{SpanFits}
 

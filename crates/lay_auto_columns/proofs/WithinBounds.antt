@@ -7,12 +7,13 @@ use Rattle.std.proofs.lemmas.Bool.{cases_lt, cond_below, cond_above}
 use Rattle.std.proofs.lemmas.List.{get_or_default}
 use Rattle.std.proofs.lemmas.List.Elements.{All-cons, All-head, All-tail}
 use Rattle.lay_units.specs.declared.length.Unit.{Unit}
+use Rattle.lay_units.specs.Units.{IsSize}
 use Rattle.lay_auto_columns.specs.declared.bounds.GroupSpan.{GroupSpan}
 use Rattle.lay_auto_columns.specs.declared.bounds.SpanCell.{SpanCell}
 use Rattle.lay_grid.specs.Columns.{part_of}
 use Rattle.lay_grid.specs.Shares.{own_at, own_width, width_at}
 use Rattle.lay_grid.specs.Within.{IsUpTo}
-use Rattle.lay_auto_columns.specs.Sizes.{AreSizes, IsSize, MayBeSize}
+use Rattle.lay_auto_columns.specs.Sizes.{AreSizes, MayBeSize}
 use Rattle.lay_auto_columns.specs.Own.{greatest, has_alone}
 use Rattle.lay_auto_columns.specs.Spread.{AreWidened, IsWidened, added, lacking, spans}
 use Rattle.lay_auto_columns.specs.Bounds.{AreWidths, bound_at, maximum_spans, minimum_spans}

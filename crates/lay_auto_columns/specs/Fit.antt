@@ -2,11 +2,12 @@
 -- groups over one column at least that lie inside the columns, maximums that aren't below their
 -- minimums, and a table that is as wide as the minimums together at least.
 use Rattle.std.specs.Prelude.{ℕ, ◌+◌, ◌^◌, ◌<◌, ◌≤◌, ℤ, pos, ◌≤ℤ◌, ◌<ℤ◌, List, length, All}
+use Rattle.lay_units.specs.Units.{IsSize}
 use Rattle.lay_auto_columns.specs.declared.bounds.Bound.{Bound}
 use Rattle.lay_auto_columns.specs.declared.bounds.BoundsIn.{BoundsIn}
 use Rattle.lay_auto_columns.specs.declared.bounds.GroupSpan.{GroupSpan}
 use Rattle.lay_auto_columns.specs.declared.bounds.SpanCell.{SpanCell}
-use Rattle.lay_auto_columns.specs.Sizes.{IsSize, MayBeSize}
+use Rattle.lay_auto_columns.specs.Sizes.{MayBeSize}
 use Rattle.lay_auto_columns.specs.AutoColumns.{sum_min}
 
 pub record SpanFits (columns : ℕ) (span : GroupSpan) : Type 0 where

@@ -1,9 +1,7 @@
 -- Which lengths the calls are given: sizes, that is from 0 on and below 2^62.
-use Rattle.std.specs.Prelude.{◌^◌, ℤ, pos, ◌≤ℤ◌, ◌<ℤ◌, List, All, Option, Some, None, ⊤}
+use Rattle.std.specs.Prelude.{List, All, Option, Some, None, ⊤}
 use Rattle.lay_units.specs.declared.length.Unit.{Unit}
-
-abbrev pub IsSize : ℤ → Type 0
-IsSize v = (pos 0 ≤ℤ v) × (v <ℤ pos (2 ^ 62))
+use Rattle.lay_units.specs.Units.{IsSize}
 
 abbrev pub AreSizes : List Unit → Type 0
 AreSizes lengths = All (λ (length : Unit). IsSize length.0) lengths

@@ -1,9 +1,8 @@
 //! The widths of columns in the automatic table layout (CSS 2.2, 17.5.2.2).
 
-ghost use Rattle.std.specs.Prelude.{◌≡◌, ◌*◌, ◌^◌, ◌<◌, pos, ℤ, ◌≤ℤ◌, ◌<ℤ◌, ◌-ℤ◌, length, IfOk, All};
-ghost use Rattle.lay_grid.specs.Columns.{from_zero};
+ghost use Rattle.std.specs.Prelude.{◌≡◌, ◌^◌, ◌<◌, pos, ◌≤ℤ◌, ◌-ℤ◌, length, IfOk, All};
 ghost use Rattle.lay_auto_columns.specs.AutoColumns.{AreAutoColumns, AreBeyondMaximums};
-ghost use Rattle.lay_auto_columns.specs.AutoColumns.{sum_max, sum_min};
+ghost use Rattle.lay_auto_columns.specs.AutoColumns.{sum_max};
 ghost use Rattle.lay_auto_columns.specs.Fit.{BoundFits, SpaceFits};
 
 use crate::bounds::Bound;

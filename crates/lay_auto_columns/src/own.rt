@@ -3,8 +3,9 @@
 
 ghost use Rattle.std.specs.Prelude.{◌≡◌, ◌≢◌, ℕ, ◌<◌, [], length, IfOk, All};
 ghost use Rattle.std.specs.Int.{int_max};
+ghost use Rattle.lay_units.specs.Units.{IsSize};
 ghost use Rattle.lay_grid.specs.Shares.{own_width, width_at};
-ghost use Rattle.lay_auto_columns.specs.Sizes.{AreSizes, IsSize, MayBeSize};
+ghost use Rattle.lay_auto_columns.specs.Sizes.{AreSizes, MayBeSize};
 ghost use Rattle.lay_auto_columns.specs.Own.{AreOwn};
 ghost use Rattle.lay_auto_columns.specs.Fit.{SpanFits};
 ghost use Rattle.lay_auto_columns.specs.Pass.Steps.{IsRaised};

@@ -1,7 +1,6 @@
 //! Columns that share what a table has beyond their minimums (CSS 2.2, 17.5.2.2).
 
 ghost use Rattle.std.specs.Prelude.{◌≡◌, ◌*◌, ◌+◌, ◌^◌, ◌<◌, ◌≤◌, pos, ◌≤ℤ◌, ◌-ℤ◌, length, IfOk, All};
-ghost use Rattle.lay_grid.specs.Columns.{from_zero};
 ghost use Rattle.lay_auto_columns.specs.AutoColumns.{AreInProportion, beyond_minimums};
 ghost use Rattle.lay_auto_columns.specs.AutoColumns.{most_left_over, room, share_of};
 ghost use Rattle.lay_auto_columns.specs.AutoColumns.{sum_max, sum_min, sum_room};

@@ -2,8 +2,9 @@
 
 ghost use Rattle.std.specs.Prelude.{◌≡◌, ◌≢◌, ℕ, ◌+◌, ◌^◌, ◌<◌, ◌≤◌, pos};
 ghost use Rattle.std.specs.Prelude.{◌≤ℤ◌, ◌<ℤ◌, ◌+ℤ◌, ◌*ℤ◌, length, All};
+ghost use Rattle.lay_units.specs.Units.{IsSize};
 ghost use Rattle.lay_grid.specs.Shares.{width_at};
-ghost use Rattle.lay_auto_columns.specs.Sizes.{AreSizes, IsSize};
+ghost use Rattle.lay_auto_columns.specs.Sizes.{AreSizes};
 ghost use Rattle.lay_auto_columns.specs.Spread.{AreWidened, IsWidened, lacking, sum_over};
 ghost use Rattle.lay_auto_columns.specs.Fit.{SpanFits};
 

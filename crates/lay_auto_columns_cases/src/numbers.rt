@@ -1,7 +1,8 @@
 //! Lengths of a row, from 0 to 65,535 units.
 
 ghost use Rattle.std.specs.Prelude.{◌+◌, ◌≤◌, length, All, IfOk};
-ghost use Rattle.lay_auto_columns.specs.Sizes.{IsSize, MayBeSize};
+ghost use Rattle.lay_units.specs.Units.{IsSize};
+ghost use Rattle.lay_auto_columns.specs.Sizes.{MayBeSize};
 
 use anyhow::{Result, bail};
 use lay_units::{NoMemory, Unit};

@@ -1,9 +1,9 @@
 //! Tables whose columns are laid out.
 
 ghost use Rattle.std.specs.Prelude.{◌≡◌, ◌≤◌, length, All, IfOk};
+ghost use Rattle.lay_units.specs.Units.{IsSize};
 ghost use Rattle.lay_auto_columns.specs.AutoColumns.{sum_min};
 ghost use Rattle.lay_auto_columns.specs.Fit.{BoundFits, CellFits, SpanFits};
-ghost use Rattle.lay_auto_columns.specs.Sizes.{IsSize};
 
 use crate::numbers::{ample, size, sizes_or_none, spanned};
 use anyhow::{Result, bail};

@@ -3,9 +3,10 @@ use Rattle.std.proofs.Common.{◌≡◌, ℕ, zero, suc, ◌<◌, Bool, false, �
 use Rattle.lay_blocks.specs.declared.flow_box.FlowBox.{FlowBox}
 use Rattle.lay_blocks.specs.Boxes.{parents_of}
 use Rattle.lay_units.specs.declared.length.Unit.{Unit as Length}
+use Rattle.lay_units.specs.Lengths.{no_length}
 use Rattle.lay_doc.specs.Tree.{IsTree}
 use Rattle.lay_doc.proofs.OneStyles.{same_list}
-use Rattle.lay_blocks.specs.Lengths.{no_length, length_at}
+use Rattle.lay_blocks.specs.Lengths.{length_at}
 use Rattle.lay_blocks.specs.Children.{flag_at}
 use Rattle.lay_blocks.specs.MarginRuns.{Runs, HasRuns, through_of, before_top_of, to_bottom_of, top_run_of, bottom_run_of}
 use Rattle.lay_blocks.specs.BlockLayout.{Extents, Positions, BlockLayout}

@@ -1,5 +1,5 @@
 -- Heights within their bounds.
-use Rattle.std.proofs.Common.{◌≡◌, ℤ, pos, ◌+ℤ◌, ◌∷◌, Option, Some, None, Bool, true, false, arith, refl, int_lt, ◌≤ℤ◌}
+use Rattle.std.proofs.Common.{◌≡◌, ℤ, pos, Option, Some, None, Bool, true, false, arith, refl, int_lt, ◌≤ℤ◌}
 use Rattle.std.proofs.lemmas.Int.{ints}
 use Rattle.lay_units.specs.Units.{IsUsedSize}
 use Rattle.lay_units.specs.declared.length.Unit.{Unit as Length}

@@ -9,7 +9,8 @@ use Rattle.std.specs.Prelude.{ℕ, ◌≡◌, ◌<◌, true, false, List, [], �
 use Rattle.lay_blocks.specs.declared.flow_box.FlowBox.{FlowBox}
 use Rattle.lay_blocks.specs.Boxes.{parent_at}
 use Rattle.lay_blocks.specs.Children.{last_child, flag_at}
-use Rattle.lay_blocks.specs.MarginRuns.{Entry, margin, mark, clear, Runs, block_at, is_barred, may_collapse_through, may_join_bottoms, parts_tops, run_at, to_top}
+use Rattle.lay_blocks.specs.MarginRuns.{Entry, margin, mark, clear, Runs, block_at, is_barred}
+use Rattle.lay_blocks.specs.MarginRuns.{may_collapse_through, may_join_bottoms, parts_tops, run_at, to_top}
 
 -- a margin of the box at k, which isn't the context's own
 pub data Margin : Type 0 where
@@ -41,7 +42,8 @@ pub data Adjoins (boxes : List FlowBox) (r : Runs) : Margin → Margin → Type 
   -- (c) the bottom margins of a last child and of its parent, which has an auto height, no min-height, and no border and no
   -- padding there; not those that begin with the clearance of one of its children
   last_margin : (p c : ℕ) → 0 < p → p < length boxes → last_child boxes p (length boxes) ≡ Some c
-      → may_join_bottoms (block_at boxes p) ≡ true → is_barred boxes p (run_to boxes r (bottom c)) ≡ false → Adjoins boxes r (bottom c) (bottom p)
+      → may_join_bottoms (block_at boxes p) ≡ true → is_barred boxes p (run_to boxes r (bottom c)) ≡ false
+      → Adjoins boxes r (bottom c) (bottom p)
   -- (d) the top and the bottom margin of a box without children, with no border or padding, no min-height, and a height of
   -- auto or 0
   own_margins : (p : ℕ) → 0 < p → p < length boxes → last_child boxes p (length boxes) ≡ None
@@ -64,7 +66,8 @@ pub record RunsAdjoin (boxes : List FlowBox) (r : Runs) : Type 0 where
   -- a margin goes on with the run of the one that it adjoins
   pub goes_on : (x y : Margin) → Adjoins boxes r x y → run_to boxes r y ≡ run_to boxes r x ++ entries_of boxes y
   -- and begins one, where it adjoins none before it
-  pub begins : (y : Margin) → IsMargin boxes y → ((x : Margin) → Adjoins boxes r x y → ⊥) → run_to boxes r y ≡ clearance_of r y ++ entries_of boxes y
+  pub begins : (y : Margin) → IsMargin boxes y → ((x : Margin) → Adjoins boxes r x y → ⊥)
+      → run_to boxes r y ≡ clearance_of r y ++ entries_of boxes y
   -- margins that adjoin are in one run
   pub one_run : (x y : Margin) → Adjoins boxes r x y → run_of r x ≡ run_of r y
   -- which ends with a margin that adjoins none after it

@@ -11,6 +11,7 @@ use Rattle.std.specs.Int.{int_max}
 use Rattle.lay_blocks.specs.declared.flow_box.FlowBox.{FlowBox}
 use Rattle.lay_blocks.specs.Boxes.{no_across, box_at, parent_at}
 use Rattle.lay_units.specs.declared.length.Unit.{Unit as Length}
+use Rattle.lay_units.specs.Lengths.{no_length}
 use Rattle.lay_floats.specs.declared.placed.Placed.{Placed}
 use Rattle.lay_floats.specs.declared.requests.Clear.TheVariants.{None as clear_none}
 use Rattle.lay_floats.specs.declared.requests.Side.{Side}
@@ -18,14 +19,15 @@ use Rattle.lay_floats.specs.declared.requests.FloatReq.{FloatReq}
 use Rattle.lay_floats.specs.declared.requests.SolidReq.{SolidReq}
 use Rattle.lay_floats.specs.declared.requests.Place.{Place}
 use Rattle.lay_blocks.specs.declared.flow_box.FlowKind.{FlowKind}
-use Rattle.lay_blocks.specs.declared.flow_box.FlowKind.TheVariants.{Block as block, Lines as lines, Solid as solid, Float as float, LineFloat as line_float, Inline as inline}
+use Rattle.lay_blocks.specs.declared.flow_box.FlowKind.TheVariants.{Block as block, Lines as lines, Solid as solid}
+use Rattle.lay_blocks.specs.declared.flow_box.FlowKind.TheVariants.{Float as float, LineFloat as line_float, Inline as inline}
 use Rattle.lay_blocks.specs.declared.flow_box.Across.{Across}
 use Rattle.lay_blocks.specs.declared.shape.Shape.{Shape}
 use Rattle.lay_blocks.specs.declared.block.Inside.{Inside}
 use Rattle.lay_blocks.specs.declared.block.Inside.TheVariants.{Blocks as blocks_inside, Lines as lines_inside, Solid as solid_inside}
 use Rattle.lay_line_content.specs.LineContents.{LineContentValue}
 use Rattle.lay_lines.specs.Lines.{LinesValue, AreLines}
-use Rattle.lay_blocks.specs.Lengths.{no_length, length_at}
+use Rattle.lay_blocks.specs.Lengths.{length_at}
 use Rattle.lay_blocks.specs.MarginRuns.{block_at}
 
 -- the content edges of a box, and 0 of one in which no box stands
@@ -38,14 +40,46 @@ content_of (line_float b) = no_across
 content_of inline = no_across
 
 abbrev pub no_shape : Across → Shape
-no_shape around = record { float = None; clear = clear_none; left = around.left; right = around.right; x = no_length; width = no_length; height = no_length }
+no_shape around = record {
+  float = None;
+  clear = clear_none;
+  left = around.left;
+  right = around.right;
+  x = no_length;
+  width = no_length;
+  height = no_length;
+}
 
 -- a box as floats see it: the size of the margin box of a float and of the border box of a solid box counts. Around it there
 -- are content edges. What stands in lines takes no part: the lines have it.
 abbrev pub shape_of : Across → FlowKind → Shape
-shape_of around (block b) = record { float = None; clear = b.clear; left = around.left; right = around.right; x = b.x; width = no_length; height = no_length }
-shape_of around (lines l) = record { float = None; clear = l.block.clear; left = around.left; right = around.right; x = l.block.x; width = no_length; height = no_length }
-shape_of around (solid b) = record { float = None; clear = b.clear; left = around.left; right = around.right; x = b.x; width = b.width; height = b.height }
+shape_of around (block b) = record {
+  float = None;
+  clear = b.clear;
+  left = around.left;
+  right = around.right;
+  x = b.x;
+  width = no_length;
+  height = no_length;
+}
+shape_of around (lines l) = record {
+  float = None;
+  clear = l.block.clear;
+  left = around.left;
+  right = around.right;
+  x = l.block.x;
+  width = no_length;
+  height = no_length;
+}
+shape_of around (solid b) = record {
+  float = None;
+  clear = b.clear;
+  left = around.left;
+  right = around.right;
+  x = b.x;
+  width = b.width;
+  height = b.height;
+}
 shape_of around (float b) = record {
   float = Some b.side;
   clear = b.clear;
@@ -102,7 +136,8 @@ floats_after floats solid_inside s p = floats ++ float_of s p.place
 -- the floats before the box at k, as they stand
 abbrev pub floats_before : List FlowBox → List Spot → ℕ → List Placed
 floats_before boxes places zero = []
-floats_before boxes places (suc k) = floats_after (floats_before boxes places k) (block_at boxes k).inside (shape_at boxes k) (spot_at places k)
+floats_before boxes places (suc k) =
+    floats_after (floats_before boxes places k) (block_at boxes k).inside (shape_at boxes k) (spot_at places k)
 
 -- a float stands at no place above its mark, nor above the top of its containing block's content
 abbrev pub ceiling : List FlowBox → List Length → ℕ → ℤ
@@ -125,11 +160,21 @@ line_content_of inline = no_content
 abbrev pub AreLinesAt : List FlowBox → List Length → List Spot → ℕ → Type 0
 AreLinesAt boxes marks places k =
     let kind = (box_at boxes k).kind in
-    AreLines (line_content_of kind) (content_of kind).left (content_of kind).right (length_at marks k +ℤ (block_at boxes k).edge_top.0) (floats_before boxes places k) (lines_at places k)
+    AreLines (line_content_of kind) (content_of kind).left (content_of kind).right
+    (length_at marks k +ℤ (block_at boxes k).edge_top.0) (floats_before boxes places k) (lines_at places k)
 
 -- what a float with this shape asks for
 abbrev pub float_request : Shape → Side → ℤ → FloatReq
-float_request s side top = record { side = side; width = s.width; height = s.height; left = s.left; right = s.right; ceiling = record { 0 = top }; clear = s.clear }
+float_request s side top =
+    record {
+      side = side;
+      width = s.width;
+      height = s.height;
+      left = s.left;
+      right = s.right;
+      ceiling = record { 0 = top };
+      clear = s.clear;
+    }
 
 -- what a solid box with this shape and this mark asks for
 abbrev pub solid_request : Shape → ℤ → SolidReq

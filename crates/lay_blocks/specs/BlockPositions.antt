@@ -10,7 +10,8 @@
 -- a top margin of 10 px and a bottom margin of -30 px, and the third is 10 px high. The run of 20, 10 and -30 starts
 -- at 10 px and ends at 10 + 20 - 30 = 0 px, and there the third child stands. The second stands at 10 + 20 = 30 px.
 -- The root reaches to the bottom of the third child: it is 10 px high.
-use Rattle.std.specs.Prelude.{ℕ, zero, suc, ◌≡◌, ◌<◌, ◌&&◌, Bool, true, false, ℤ, pos, ◌+ℤ◌, ◌-ℤ◌, List, length, if◌then◌else◌, Option, Some, None}
+use Rattle.std.specs.Prelude.{ℕ, zero, suc, ◌≡◌, ◌<◌, ◌&&◌, Bool, true, false, ℤ, pos}
+use Rattle.std.specs.Prelude.{◌+ℤ◌, ◌-ℤ◌, List, length, if◌then◌else◌, Option, Some, None}
 use Rattle.lay_blocks.specs.declared.flow_box.FlowBox.{FlowBox}
 use Rattle.lay_blocks.specs.Boxes.{parent_at}
 use Rattle.lay_units.specs.Units.{clamp_size_of}
@@ -32,7 +33,8 @@ use Rattle.lay_blocks.specs.MarginRuns.{Runs, HasRuns, margins, has_top, block_a
 -- where a run starts that follows the box: at its bottom border edge, or, where the box is collapsed through,
 -- where the run of its margins starts
 abbrev pub start_below : BlockLayout → ℕ → ℤ
-start_below y s = if flag_at y.runs.through s then length_at y.places.starts s else (length_at y.places.marks s +ℤ length_at y.places.heights s)
+start_below y s =
+    if flag_at y.runs.through s then length_at y.places.starts s else (length_at y.places.marks s +ℤ length_at y.places.heights s)
 
 -- where the run starts that ends at the place (p, m) of the sequence of margins
 abbrev pub start_before : List FlowBox → BlockLayout → ℕ → ℕ → ℤ

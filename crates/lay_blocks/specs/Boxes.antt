@@ -2,12 +2,12 @@
 -- and the context's own box stands at the place 0.
 use Rattle.std.specs.Prelude.{ℕ, List, map, slice_index_or, None}
 use Rattle.lay_units.specs.declared.records.Len.TheVariants.{Auto as auto}
+use Rattle.lay_units.specs.Lengths.{no_length}
 use Rattle.lay_floats.specs.declared.requests.Clear.TheVariants.{None as clear_none}
 use Rattle.lay_blocks.specs.declared.flow_box.FlowBox.{FlowBox}
 use Rattle.lay_blocks.specs.declared.flow_box.FlowKind.TheVariants.{Block as block}
 use Rattle.lay_blocks.specs.declared.flow_box.BlockBox.{BlockBox}
 use Rattle.lay_blocks.specs.declared.flow_box.Across.{Across}
-use Rattle.lay_blocks.specs.Lengths.{no_length}
 
 abbrev pub no_across : Across
 no_across = record { left = no_length; right = no_length }

@@ -37,7 +37,8 @@ pub record IsHypothetical (boxes : List FlowBox) (y : BlockLayout) (k : ℕ) (wi
 -- an earlier float of a side to clear has its mark in the run
 abbrev pub HasClearedFloat : List FlowBox → ℕ → List Entry → Type 0
 HasClearedFloat boxes k run =
-    (j : ℕ) × (side : Side) × (j < k) × ((shape_at boxes j).float ≡ Some side) × Clears (shape_at boxes k).clear side × (has_top j run ≡ true)
+    (j : ℕ) × (side : Side) × (j < k) × ((shape_at boxes j).float ≡ Some side) × Clears (shape_at boxes k).clear side
+    × (has_top j run ≡ true)
 
 -- the hypothetical edge is above the bottom that is to be cleared
 abbrev pub IsAbove : ℤ → Option Length → Type 0
@@ -45,13 +46,15 @@ IsAbove hypothetical bottom = (v : Length) × (bottom ≡ Some v) × (hypothetic
 
 -- the box at k needs clearance, beside this lowest bottom of the floats to clear
 abbrev pub NeedsClearance : List FlowBox → BlockLayout → ℕ → Option Length → Type 0
-NeedsClearance boxes without k bottom = HasClearedFloat boxes k (run_at without.runs.before_tops k) ⊎ IsAbove (length_at without.places.marks k) bottom
+NeedsClearance boxes without k bottom =
+    HasClearedFloat boxes k (run_at without.runs.before_tops k) ⊎ IsAbove (length_at without.places.marks k) bottom
 
 -- the floats before the box at k stand by these marks, those in lines too. By those of its hypothetical layout, it is where
 -- they stand in that.
 pub record AreFloatPlaces (boxes : List FlowBox) (marks : List Length) (places : List Spot) (k : ℕ) : Type 0 where
   pub float : (j : ℕ) (side : Side) → 0 < j → j < k → (shape_at boxes j).float ≡ Some side
-      → IsFloatPlace (floats_before boxes places j) (float_request (shape_at boxes j) side (ceiling boxes marks j)) (place_at places j).x.0 (place_at places j).y.0
+      → IsFloatPlace (floats_before boxes places j) (float_request (shape_at boxes j) side (ceiling boxes marks j))
+      (place_at places j).x.0 (place_at places j).y.0
   pub lines : (j : ℕ) → j < k → is_lines (block_at boxes j).inside ≡ true → AreLinesAt boxes marks places j
 
 abbrev pub lower_of : Option Length → ℤ → ℤ

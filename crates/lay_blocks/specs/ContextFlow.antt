@@ -13,7 +13,8 @@ use Rattle.lay_blocks.specs.Children.{flag_at}
 use Rattle.lay_blocks.specs.MarginRuns.{block_at}
 use Rattle.lay_blocks.specs.BlockPositions.{IsBlockLayout, is_lines, is_placed, is_solid}
 use Rattle.lay_blocks.specs.BlockLayout.{BlockLayout}
-use Rattle.lay_blocks.specs.BlockFloats.{AreLinesAt, Spot, shape_at, place_at, no_place, lines_at, no_lines, floats_before, ceiling, float_request, solid_request}
+use Rattle.lay_blocks.specs.BlockFloats.{AreLinesAt, Spot, shape_at, place_at, no_place, lines_at}
+use Rattle.lay_blocks.specs.BlockFloats.{no_lines, floats_before, ceiling, float_request, solid_request}
 use Rattle.lay_blocks.specs.Clearance.{HasClearance}
 
 -- The columns of a flow: the layout of the blocks, and the spots of floats, solid boxes and lines.
@@ -33,11 +34,14 @@ pub record IsContextFlow (boxes : List FlowBox) (f : Flow) : Type 0 where
   pub no_edge : (k : ℕ) → k < length boxes → flag_at f.layout.runs.clears k ≡ false → length_at f.layout.clear_edges k ≡ pos 0
   -- the places of floats and of solid boxes
   pub float : (k : ℕ) (side : Side) → 0 < k → k < length boxes → (shape_at boxes k).float ≡ Some side
-      → IsFloatPlace (floats_before boxes f.places k) (float_request (shape_at boxes k) side (ceiling boxes f.layout.places.marks k)) (place_at f.places k).x.0 (place_at f.places k).y.0
+      → IsFloatPlace (floats_before boxes f.places k) (float_request (shape_at boxes k) side (ceiling boxes f.layout.places.marks k))
+      (place_at f.places k).x.0 (place_at f.places k).y.0
   pub solid : (k : ℕ) → 0 < k → k < length boxes → is_solid (block_at boxes k).inside ≡ true
-      → IsSolidPlace (floats_before boxes f.places k) (solid_request (shape_at boxes k) (length_at f.layout.places.marks k)) (place_at f.places k).x.0 (place_at f.places k).y.0
+      → IsSolidPlace (floats_before boxes f.places k) (solid_request (shape_at boxes k) (length_at f.layout.places.marks k))
+      (place_at f.places k).x.0 (place_at f.places k).y.0
   pub no_place_root : place_at f.places 0 ≡ no_place
-  pub no_place_else : (k : ℕ) → 0 < k → k < length boxes → (shape_at boxes k).float ≡ None → is_solid (block_at boxes k).inside ≡ false → place_at f.places k ≡ no_place
+  pub no_place_else : (k : ℕ) → 0 < k → k < length boxes → (shape_at boxes k).float ≡ None
+      → is_solid (block_at boxes k).inside ≡ false → place_at f.places k ≡ no_place
   -- the lines of the boxes that hold lines
   pub lines : (k : ℕ) → k < length boxes → is_lines (block_at boxes k).inside ≡ true → AreLinesAt boxes f.layout.places.marks f.places k
   pub no_lines_else : (k : ℕ) → k < length boxes → is_lines (block_at boxes k).inside ≡ false → lines_at f.places k ≡ no_lines
@@ -46,7 +50,8 @@ pub record IsContextFlow (boxes : List FlowBox) (f : Flow) : Type 0 where
       → length_at f.layout.extents.depths k ≡ (place_at f.places k).y.0 -ℤ length_at f.layout.places.marks k +ℤ (shape_at boxes k).height.0
   -- a box reaches at least to the end of its lines
   pub lines_extent : (k : ℕ) → k < length boxes → is_lines (block_at boxes k).inside ≡ true
-      → length_at f.layout.extents.depths k ≡ (lines_at f.places k).end.0 -ℤ (length_at f.layout.places.marks k +ℤ (block_at boxes k).edge_top.0)
+      → length_at f.layout.extents.depths k
+      ≡ (lines_at f.places k).end.0 -ℤ (length_at f.layout.places.marks k +ℤ (block_at boxes k).edge_top.0)
   pub no_extent : (k : ℕ) → k < length boxes → is_placed (block_at boxes k).inside ≡ false → length_at f.layout.extents.depths k ≡ pos 0
   -- the context's own box reaches round all floats
   pub bottom : IsClearEdge (floats_before boxes f.places (length boxes)) clear_both f.layout.extents.floats

@@ -2,18 +2,19 @@
 -- boxes alone, those of lines stand in the box with the lines, the used values of each lie within their bounds, and all
 -- together weigh at most 2^24 - 2^16, so that they are at most so many.
 use Rattle.std.specs.Prelude.{ℕ, ◌≡◌, ◌<◌, ◌≤◌, pos, Bool, true, false, not, ⊤, ℤ, List, length}
-use Rattle.lay_units.specs.Units.{IsUsed, IsUsedSize}
+use Rattle.lay_units.specs.Units.{IsUsed, IsUsedSize, IsBoxSize}
 use Rattle.lay_doc.specs.Tree.{IsTree}
 use Rattle.lay_floats.specs.Within.{IsWithin}
 use Rattle.lay_blocks.specs.declared.flow_box.FlowBox.{FlowBox}
 use Rattle.lay_blocks.specs.declared.flow_box.FlowKind.{FlowKind}
-use Rattle.lay_blocks.specs.declared.flow_box.FlowKind.TheVariants.{Block as block, Lines as lines, Solid as solid, Float as float, LineFloat as line_float, Inline as inline}
+use Rattle.lay_blocks.specs.declared.flow_box.FlowKind.TheVariants.{Block as block, Lines as lines, Solid as solid}
+use Rattle.lay_blocks.specs.declared.flow_box.FlowKind.TheVariants.{Float as float, LineFloat as line_float, Inline as inline}
 use Rattle.lay_blocks.specs.declared.flow_box.BlockBox.{BlockBox}
 use Rattle.lay_blocks.specs.declared.flow_box.SolidBox.{SolidBox}
 use Rattle.lay_blocks.specs.declared.flow_box.FloatBox.{FloatBox}
 use Rattle.lay_blocks.specs.declared.flow_box.Vertical.{Vertical}
 use Rattle.lay_blocks.specs.Boxes.{box_at, parent_at, parents_of}
-use Rattle.lay_blocks.specs.BlockSizes.{IsInset, IsBoxSize}
+use Rattle.lay_blocks.specs.BlockSizes.{IsInset}
 use Rattle.lay_blocks.specs.BlockPositions.{given_or_auto}
 use Rattle.lay_blocks.specs.Weights.{weight}
 

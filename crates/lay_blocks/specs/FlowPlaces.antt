@@ -3,6 +3,8 @@
 -- its border box at its place. A float that lines met stands where they put it. What else stands in lines has no place here.
 use Rattle.std.specs.Prelude.{ℕ, ◌≡◌, ◌<◌, ◌==◌, ◌+ℤ◌, pos, List, [], ◌∷◌, ◌++◌, All, length, map, slice_index_or, if◌then◌else◌}
 use Rattle.lay_units.specs.declared.length.Unit.{Unit as Length}
+use Rattle.lay_units.specs.Units.{IsBoxSize, IsNear}
+use Rattle.lay_units.specs.Lengths.{no_length}
 use Rattle.lay_floats.specs.declared.requests.NodePlace.{NodePlace}
 use Rattle.lay_floats.specs.declared.requests.Place.{Place}
 use Rattle.lay_lines.specs.Lines.{RowWithin}
@@ -10,12 +12,12 @@ use Rattle.lay_lines.specs.declared.row.Ended.{Ended}
 use Rattle.lay_blocks.specs.declared.flow_box.FlowBox.{FlowBox}
 use Rattle.lay_blocks.specs.declared.flow_box.FloatBox.{FloatBox}
 use Rattle.lay_blocks.specs.declared.flow_box.FlowKind.{FlowKind}
-use Rattle.lay_blocks.specs.declared.flow_box.FlowKind.TheVariants.{Block as block, Lines as lines, Solid as solid, Float as float, LineFloat as line_float, Inline as inline}
+use Rattle.lay_blocks.specs.declared.flow_box.FlowKind.TheVariants.{Block as block, Lines as lines, Solid as solid}
+use Rattle.lay_blocks.specs.declared.flow_box.FlowKind.TheVariants.{Float as float, LineFloat as line_float, Inline as inline}
 use Rattle.lay_blocks.specs.declared.flow_places.BoxPlace.{BoxPlace}
-use Rattle.lay_blocks.specs.Lengths.{no_length, length_at}
+use Rattle.lay_blocks.specs.Lengths.{length_at}
 use Rattle.lay_blocks.specs.Boxes.{box_at}
 use Rattle.lay_blocks.specs.BlockFloats.{Spot, no_place, place_at}
-use Rattle.lay_blocks.specs.BlockSizes.{IsBoxSize, IsNear}
 use Rattle.lay_blocks.specs.ContextFlow.{Flow, IsContextFlow}
 
 abbrev pub no_box_place : BoxPlace
@@ -85,7 +87,8 @@ border_box inline mark height place = no_box_place
 abbrev pub border_box_in : List FlowBox → Flow → ℕ → BoxPlace
 border_box_in boxes f k =
     let kind = (box_at boxes k).kind in
-    border_box kind (record { 0 = length_at f.layout.places.marks k }) (record { 0 = length_at f.layout.places.heights k }) (own_place kind (place_at f.places k) (place_in_lines f.places k))
+    border_box kind (record { 0 = length_at f.layout.places.marks k }) (record { 0 = length_at f.layout.places.heights k })
+    (own_place kind (place_at f.places k) (place_in_lines f.places k))
 
 -- these are the places of the boxes in a flow
 pub record ArePlacesOf (boxes : List FlowBox) (f : Flow) (out : FlowPlacesValue) : Type 0 where

@@ -17,7 +17,9 @@ pub record Gathered (boxes : List FlowBox) (r : Runs) (first : ℕ) (at : Margin
   pub most : first ≤ at.next
   pub own : (j : ℕ) → first ≤ j → j < at.next → has_top j (run_before boxes r at.inner at.next) ≡ true
   pub older : (j : ℕ) → j < first → has_top j (run_before boxes r at.inner at.next) ≡ false
-  pub barred : (q : ℕ) → is_barred boxes q (run_before boxes r at.inner at.next) ≡ (nat_lt first at.next && flag_at r.clears first && parent_at boxes first == q)
+  pub barred : (q : ℕ)
+      → is_barred boxes q (run_before boxes r at.inner at.next)
+      ≡ (nat_lt first at.next && flag_at r.clears first && parent_at boxes first == q)
   -- before the top margin of one of them are those of the ones before it
   pub leads : (i j : ℕ) → first ≤ j → j < at.next → i < j → has_top i (run_at r.before_tops j) ≡ not (nat_lt i first)
   pub unparted : (j : ℕ) → first ≤ j → j < at.next → parts_tops boxes j ≡ false

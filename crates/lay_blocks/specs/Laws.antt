@@ -23,7 +23,8 @@ OneBlockLayout = (boxes : List FlowBox) (y z : BlockLayout) → IsTree (parents_
     → IsBlockLayout boxes y → IsBlockLayout boxes z → y ≡ z
 
 abbrev pub SomeBlockLayout : Type 0
-SomeBlockLayout = (boxes : List FlowBox) (extents : Extents) (clear_edges : List Length) (clears : List Bool) → IsTree (parents_of boxes) → 0 < length boxes → length clears ≡ length boxes
+SomeBlockLayout = (boxes : List FlowBox) (extents : Extents) (clear_edges : List Length) (clears : List Bool)
+    → IsTree (parents_of boxes) → 0 < length boxes → length clears ≡ length boxes
     → (y : BlockLayout) × (y.extents ≡ extents) × (y.clear_edges ≡ clear_edges) × (y.runs.clears ≡ clears) × IsBlockLayout boxes y
 
 -- a context has one flow
@@ -32,7 +33,8 @@ OneContextFlow = (boxes : List FlowBox) (f g : Flow) → IsFlowTree boxes → Is
 
 -- and its boxes have one place each
 abbrev pub OneFlowOf : Type 0
-OneFlowOf = (boxes : List FlowBox) (out other : FlowPlacesValue) → IsFlowTree boxes → IsFlowOf boxes out → IsFlowOf boxes other → out ≡ other
+OneFlowOf = (boxes : List FlowBox) (out other : FlowPlacesValue) → IsFlowTree boxes → IsFlowOf boxes out
+    → IsFlowOf boxes other → out ≡ other
 
 -- a box has one hypothetical layout and no other
 abbrev pub OneHypothetical : Type 0
@@ -45,9 +47,11 @@ SomeHypothetical = (boxes : List FlowBox) (y : BlockLayout) (k : ℕ) → IsTree
 
 -- the floats as they stand in the hypothetical layout of a box and those of the flow decide alike whether the box has clearance
 abbrev pub OneTest : Type 0
-OneTest = (boxes : List FlowBox) (f : Flow) (k : ℕ) (without : BlockLayout) (places : List Spot) (bottom other : Option Length) → IsFlowTree boxes → IsContextFlow boxes f → 0 < k → k < length boxes
+OneTest = (boxes : List FlowBox) (f : Flow) (k : ℕ) (without : BlockLayout) (places : List Spot) (bottom other : Option Length)
+    → IsFlowTree boxes → IsContextFlow boxes f → 0 < k → k < length boxes
     → IsHypothetical boxes f.layout k without → AreFloatPlaces boxes without.places.marks places k
-    → IsClearEdge (floats_before boxes places k) (shape_at boxes k).clear bottom → IsClearEdge (floats_before boxes f.places k) (shape_at boxes k).clear other
+    → IsClearEdge (floats_before boxes places k) (shape_at boxes k).clear bottom
+    → IsClearEdge (floats_before boxes f.places k) (shape_at boxes k).clear other
     → NeedsClearance boxes without k bottom ↔ NeedsClearance boxes without k other
 
 -- the runs of a layout are the longest chains of margins of which each adjoins the next

@@ -1,9 +1,7 @@
 -- A column of lengths, with a value per box.
-use Rattle.std.specs.Prelude.{ℕ, ℤ, pos, List, slice_index_or}
+use Rattle.std.specs.Prelude.{ℕ, ℤ, List, slice_index_or}
 use Rattle.lay_units.specs.declared.length.Unit.{Unit as Length}
-
-abbrev pub no_length : Length
-no_length = record { 0 = pos 0 }
+use Rattle.lay_units.specs.Lengths.{no_length}
 
 -- the length of the box at k in a column
 abbrev pub length_at : List Length → ℕ → ℤ

@@ -15,32 +15,61 @@
 -- A place (p, m) in the sequence is the one
 -- before the top margin of the child of p at m, or, where no child of p stands at m or later, the one before
 -- p's bottom margin: the boxes before m are passed, and p is open.
-use Rattle.std.specs.Prelude.{ℕ, zero, suc, ◌≡◌, ◌+◌, ◌<◌, ◌==◌, ◌&&◌, ◌||◌, not, Bool, true, false, ℤ, pos, negsuc, List, [], ◌∷◌, ◌++◌, length, slice_index_or, if◌then◌else◌, Option, Some, None}
+use Rattle.std.specs.Prelude.{ℕ, zero, suc, ◌≡◌, ◌+◌, ◌<◌, ◌==◌, ◌&&◌, ◌||◌, not, Bool, true, false, ℤ, pos, negsuc}
+use Rattle.std.specs.Prelude.{List, [], ◌∷◌, ◌++◌, length, slice_index_or, if◌then◌else◌, Option, Some, None}
 use Rattle.lay_blocks.specs.declared.flow_box.FlowBox.{FlowBox}
 use Rattle.lay_blocks.specs.Boxes.{box_at, parent_at}
 use Rattle.lay_units.specs.declared.records.Len.{Len}
 use Rattle.lay_units.specs.declared.records.Len.TheVariants.{Auto as auto, Of as of}
+use Rattle.lay_units.specs.Lengths.{no_length}
 use Rattle.lay_blocks.specs.declared.flow_box.BlockBox.{BlockBox}
 use Rattle.lay_blocks.specs.declared.flow_box.FlowKind.{FlowKind}
-use Rattle.lay_blocks.specs.declared.flow_box.FlowKind.TheVariants.{Block as block, Lines as lines, Solid as solid, Float as float, LineFloat as line_float, Inline as inline}
+use Rattle.lay_blocks.specs.declared.flow_box.FlowKind.TheVariants.{Block as block, Lines as lines, Solid as solid}
+use Rattle.lay_blocks.specs.declared.flow_box.FlowKind.TheVariants.{Float as float, LineFloat as line_float, Inline as inline}
 use Rattle.lay_blocks.specs.declared.block.Block.{Block}
 use Rattle.lay_blocks.specs.declared.block.Inside.{Inside}
 use Rattle.lay_blocks.specs.declared.block.Inside.TheVariants.{Blocks as blocks_inside, Lines as lines_inside, Solid as solid_inside}
 use Rattle.lay_blocks.specs.Children.{last_child, next_child, flag_at}
-use Rattle.lay_blocks.specs.Lengths.{no_length}
 
 abbrev pub no_block : Block
-no_block = record { margin_top = no_length; margin_bottom = no_length; edge_top = no_length; edge_bottom = no_length; height = auto; min_height = no_length; max_height = None; inside = blocks_inside }
+no_block = record {
+  margin_top = no_length;
+  margin_bottom = no_length;
+  edge_top = no_length;
+  edge_bottom = no_length;
+  height = auto;
+  min_height = no_length;
+  max_height = None;
+  inside = blocks_inside;
+}
 
 abbrev pub block_with : BlockBox → Inside → Block
-block_with b inside = record { margin_top = b.margin.top; margin_bottom = b.margin.bottom; edge_top = b.inset.top; edge_bottom = b.inset.bottom; height = b.height.given; min_height = b.height.min; max_height = b.height.max; inside = inside }
+block_with b inside = record {
+  margin_top = b.margin.top;
+  margin_bottom = b.margin.bottom;
+  edge_top = b.inset.top;
+  edge_bottom = b.inset.bottom;
+  height = b.height.given;
+  min_height = b.height.min;
+  max_height = b.height.max;
+  inside = inside;
+}
 
 -- a box as margins and heights see it. A float stands among the blocks as an empty one: its mark is that which such a block
 -- has there. So does what stands in lines: the box with the lines has all that counts.
 abbrev pub block_of : FlowKind → Block
 block_of (block b) = block_with b blocks_inside
 block_of (lines l) = block_with l.block lines_inside
-block_of (solid b) = record { margin_top = b.margin.top; margin_bottom = b.margin.bottom; edge_top = no_length; edge_bottom = no_length; height = auto; min_height = no_length; max_height = None; inside = solid_inside }
+block_of (solid b) = record {
+  margin_top = b.margin.top;
+  margin_bottom = b.margin.bottom;
+  edge_top = no_length;
+  edge_bottom = no_length;
+  height = auto;
+  min_height = no_length;
+  max_height = None;
+  inside = solid_inside;
+}
 block_of (float b) = no_block
 block_of (line_float b) = no_block
 block_of inline = no_block
@@ -98,7 +127,8 @@ is_auto_or_zero (of h) = is_zero h.0
 
 -- no border or padding, no height and no min-height parts the two margins of the box
 abbrev pub may_collapse_through : Block → Bool
-may_collapse_through b = is_blocks b.inside && is_zero b.edge_top.0 && is_zero b.edge_bottom.0 && is_zero b.min_height.0 && is_auto_or_zero b.height
+may_collapse_through b =
+    is_blocks b.inside && is_zero b.edge_top.0 && is_zero b.edge_bottom.0 && is_zero b.min_height.0 && is_auto_or_zero b.height
 
 -- nothing of the box itself parts its bottom margin from that of its last child: it has an auto height, no
 -- min-height, and no border or padding there
@@ -150,7 +180,8 @@ through_of boxes r (suc k) = may_collapse_through (block_at boxes (suc k)) && ha
 abbrev pub joins_bottom : List FlowBox → Runs → ℕ → Bool
 joins_bottom boxes r zero = false
 joins_bottom boxes r (suc k) =
-    flag_at r.through (suc k) || (may_join_bottoms (block_at boxes (suc k)) && not (is_barred boxes (suc k) (run_before boxes r (suc k) (length boxes))))
+    flag_at r.through (suc k)
+    || (may_join_bottoms (block_at boxes (suc k)) && not (is_barred boxes (suc k) (run_before boxes r (suc k) (length boxes))))
 
 -- the whole run that ends at or goes through the place (p, m): it goes on where the next margin adjoins
 abbrev pub run_across : List FlowBox → Runs → ℕ → ℕ → List Entry
@@ -163,12 +194,14 @@ run_across boxes r p m = before (next_child boxes p m (length boxes))
 -- clearance parts the top margin of its box from the margins before it
 abbrev pub before_top_of : List FlowBox → Runs → ℕ → List Entry
 before_top_of boxes r zero = []
-before_top_of boxes r (suc k) = if flag_at r.clears (suc k) then clear (suc k) ∷ [] else run_before boxes r (parent_at boxes (suc k)) (suc k)
+before_top_of boxes r (suc k) =
+    if flag_at r.clears (suc k) then clear (suc k) ∷ [] else run_before boxes r (parent_at boxes (suc k)) (suc k)
 
 abbrev pub to_bottom_of : List FlowBox → Runs → ℕ → List Entry
 to_bottom_of boxes r zero = []
 to_bottom_of boxes r (suc k) =
-    (if joins_bottom boxes r (suc k) then run_before boxes r (suc k) (length boxes) else []) ++ margin (block_at boxes (suc k)).margin_bottom.0 ∷ []
+    (if joins_bottom boxes r (suc k) then run_before boxes r (suc k) (length boxes) else [])
+    ++ margin (block_at boxes (suc k)).margin_bottom.0 ∷ []
 
 abbrev pub top_run_of : List FlowBox → Runs → ℕ → List Entry
 top_run_of boxes r zero = []

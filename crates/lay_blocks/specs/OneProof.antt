@@ -3,7 +3,8 @@ use Rattle.std.specs.Prelude.{List}
 use Rattle.std.proofs.Props.{props}
 use Rattle.lay_blocks.specs.declared.flow_box.FlowBox.{FlowBox}
 use Rattle.lay_blocks.specs.declared.flow_box.FlowKind.{FlowKind}
-use Rattle.lay_blocks.specs.declared.flow_box.FlowKind.TheVariants.{Block as block, Lines as lines, Solid as solid, Float as float, LineFloat as line_float, Inline as inline}
+use Rattle.lay_blocks.specs.declared.flow_box.FlowKind.TheVariants.{Block as block, Lines as lines, Solid as solid}
+use Rattle.lay_blocks.specs.declared.flow_box.FlowKind.TheVariants.{Float as float, LineFloat as line_float, Inline as inline}
 use Rattle.lay_blocks.specs.FlowBoxes.{AreFlowBoxes, KindFits}
 
 KindFits-prop : (kind : FlowKind) → IsProp (KindFits kind)

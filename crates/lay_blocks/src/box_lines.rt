@@ -26,8 +26,13 @@ impl FlowBox {
         requires lines { is_lines (block_of self.now.kind).inside ≡ true }
         requires fits { KindFits self.now.kind }
         requires floats { All (BoxWithin (pos 1152921504606846976)) floats.old }
-        ensures lines { IfOk result (λ out. AreLines (line_content_of self.now.kind) (content_of self.now.kind).left (content_of self.now.kind).right top.unit.0 floats.old (lines_of out floats.new)) }
-        ensures near { IfOk result (λ out. (r : ℕ) → 1125899906842624 ≤ r → r ≤ 1152921504606846976 → IsWithin (pos r) top.unit.0 → All (BoxWithin (pos r)) floats.old
+        ensures lines { IfOk result
+            (λ out.
+            AreLines (line_content_of self.now.kind) (content_of self.now.kind).left
+            (content_of self.now.kind).right top.unit.0 floats.old (lines_of out floats.new)) }
+        ensures near { IfOk result
+            (λ out. (r : ℕ) → 1125899906842624 ≤ r → r ≤ 1152921504606846976 → IsWithin (pos r) top.unit.0
+            → All (BoxWithin (pos r)) floats.old
             → LinesWithin (pos (r + growth (line_content_of self.now.kind))) (lines_of out floats.new)) }
     {
         match &self.kind {

@@ -1,6 +1,7 @@
 //! The laws of the definitions: each column has one value.
 
-ghost use Rattle.lay_blocks.specs.Laws.{AdjoiningRuns, CollapsedThrough, OneBlockLayout, OneContextFlow, OneFlowOf, OneHypothetical, SomeBlockLayout, SomeHypothetical, OneTest};
+ghost use Rattle.lay_blocks.specs.Laws.{AdjoiningRuns, CollapsedThrough, OneBlockLayout, OneContextFlow};
+ghost use Rattle.lay_blocks.specs.Laws.{OneFlowOf, OneHypothetical, SomeBlockLayout, SomeHypothetical, OneTest};
 
 /// The layout of a context's blocks is the only one, where the boxes with clearance and their clear edges are given.
 pub fn one_block_layout()

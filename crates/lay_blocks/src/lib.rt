@@ -35,6 +35,6 @@ pub use laws::{
     one_hypothetical, one_test, some_block_layout, some_hypothetical,
 };
 pub use met_floats::line_corners;
-pub use near::{Near, sum_of};
+pub use near::Near;
 pub use shape::Shape;
 pub use weights::is_light;

@@ -29,7 +29,8 @@ pub fn line_corners(
 
 fn write_all(corners: &mut Vec<Place>, places: &[NodePlace])
     ensures length_is { length corners.new.items ≡ length corners.old.items }
-    ensures each { (k : ℕ) → k < length corners.old.items → corner_at corners.new.items k ≡ place_or (corner_at corners.old.items k) k places.now }
+    ensures each { (k : ℕ) → k < length corners.old.items
+        → corner_at corners.new.items k ≡ place_or (corner_at corners.old.items k) k places.now }
 {
     for i in 0..places.len() {
         write_one(corners, places[i]);
@@ -38,7 +39,8 @@ fn write_all(corners: &mut Vec<Place>, places: &[NodePlace])
 
 fn write_one(corners: &mut Vec<Place>, place: NodePlace)
     ensures length_is { length corners.new.items ≡ length corners.old.items }
-    ensures each { (k : ℕ) → k < length corners.old.items → corner_at corners.new.items k ≡ (if place.node == k then place.place else corner_at corners.old.items k) }
+    ensures each { (k : ℕ) → k < length corners.old.items
+        → corner_at corners.new.items k ≡ (if place.node == k then place.place else corner_at corners.old.items k) }
 {
     let node = place.node as usize;
     if node < corners.len() {

@@ -1,8 +1,7 @@
 //! Positions near the origin.
 
-ghost use Rattle.std.specs.Prelude.{◌≡◌, ◌-ℤ◌, ◌+ℤ◌};
-ghost use Rattle.lay_units.specs.Units.{IsPosition};
-ghost use Rattle.lay_blocks.specs.BlockSizes.{IsNear};
+ghost use Rattle.std.specs.Prelude.{◌≡◌, ◌-ℤ◌};
+ghost use Rattle.lay_units.specs.Units.{IsPosition, IsNear};
 
 use lay_units::Unit;
 
@@ -21,13 +20,4 @@ impl Near {
     {
         Unit(self.unit.0 - top.unit.0)
     }
-}
-
-/// The sum of two positions.
-pub fn sum_of(a: Unit, b: Unit) -> Unit
-    requires a { IsPosition a.0 }
-    requires b { IsPosition b.0 }
-    ensures { result ≡ record { 0 = a.0 +ℤ b.0 } }
-{
-    Unit(a.0 + b.0)
 }

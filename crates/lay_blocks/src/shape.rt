@@ -1,12 +1,11 @@
 //! Boxes as the floats of their block formatting context see them.
 
 ghost use Rattle.std.specs.Prelude.{◌≡◌, ◌+ℤ◌, None};
-ghost use Rattle.lay_units.specs.Units.{IsUsed};
+ghost use Rattle.lay_units.specs.Units.{IsUsed, IsBoxSize};
+ghost use Rattle.lay_units.specs.Lengths.{no_length};
 ghost use Rattle.lay_blocks.specs.BlockFloats.{content_of, no_shape, shape_of};
-ghost use Rattle.lay_blocks.specs.BlockSizes.{IsBoxSize};
 ghost use Rattle.lay_blocks.specs.declared.flow_box.Across.{Across};
 ghost use Rattle.lay_blocks.specs.FlowBoxes.{KindFits};
-ghost use Rattle.lay_blocks.specs.Lengths.{no_length};
 
 use crate::flow_box::{Across, BlockBox, FlowBox, FlowKind};
 use lay_floats::{Clear, Side};
@@ -99,7 +98,16 @@ impl FlowBox {
 
 // A block box, whose size is known later.
 fn in_flow(around: Across, b: &BlockBox) -> Shape
-    ensures { result ≡ record { float = None; clear = b.now.clear; left = around.left; right = around.right; x = b.now.x; width = no_length; height = no_length } }
+    ensures { result
+        ≡ record {
+          float = None;
+          clear = b.now.clear;
+          left = around.left;
+          right = around.right;
+          x = b.now.x;
+          width = no_length;
+          height = no_length;
+        } }
 {
     Shape {
         clear: b.clear,

@@ -1,6 +1,6 @@
 //! One turn with the core.
 
-ghost use Rattle.std.specs.Prelude.{◌≡◌, ◌<◌, ◌≤◌, List, [], ◌∷◌, length, Some, None};
+ghost use Rattle.std.specs.Prelude.{◌≡◌, ◌<◌, [], ◌∷◌, length, Some, None};
 ghost use Rattle.lay_board.specs.Batches.{IsCoreFrom};
 ghost use Rattle.lay_board.specs.Cores.{Adds, IsQuiet, origin_told};
 ghost use Rattle.lay_board.specs.Passes.{Calls, IsTurn, known_of};

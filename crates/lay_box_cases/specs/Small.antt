@@ -1,5 +1,5 @@
 -- How great the numbers are that the rows of tables say.
-use Rattle.std.specs.Prelude.{ℕ, ◌+◌, ◌≤◌, ℤ, pos, neg_ℤ, ◌≤ℤ◌, List, length, All, Option, Some, None, ⊤}
+use Rattle.std.specs.Prelude.{ℕ, ◌+◌, ◌≤◌, ℤ, pos, neg_ℤ, ◌≤ℤ◌, length, All, Option, Some, None, ⊤}
 use Rattle.lay_units.specs.declared.length.Unit.{Unit}
 use Rattle.lay_units.specs.declared.records.Rect.{Rect}
 use Rattle.lay_grid.specs.declared.cells.Span.{Span}

@@ -1,7 +1,7 @@
 //! Collapsed borders that meet at edges, each with its style, its width in units, the kind of element that it is of, and that
 //! element's row and column.
 
-ghost use Rattle.std.specs.Prelude.{◌<◌, length};
+ghost use Rattle.std.specs.Prelude.{◌<◌};
 
 use crate::cells::{Cells, ample};
 use anyhow::{Result, bail};

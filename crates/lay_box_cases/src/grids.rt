@@ -1,7 +1,7 @@
 //! The slots of a table's grid, the widths of its columns and the heights of its rows. Lengths are from 0 to 65,535
 //! units, and there are at most 255 rows, columns, and cells of a row.
 
-ghost use Rattle.std.specs.Prelude.{◌+◌, ◌≡◌, ◌≤◌, length, All, IfOk};
+ghost use Rattle.std.specs.Prelude.{◌+◌, ◌≤◌, length, All, IfOk};
 ghost use Rattle.lay_box_cases.specs.Small.{IsSmall, IsSmallCell, IsSmallNeed, IsSmallRow, IsSmallSpan, MayBeSmall};
 
 use crate::cells::{Cells, ample, number};

@@ -1,6 +1,6 @@
 //! Margins that collapse, and runs of adjoining ones.
 
-ghost use Rattle.std.specs.Prelude.{◌<◌, ◌^◌, length};
+ghost use Rattle.std.specs.Prelude.{◌<◌};
 
 use crate::cells::{Cells, ample};
 use anyhow::{Result, bail};

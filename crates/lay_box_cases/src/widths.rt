@@ -1,7 +1,8 @@
 //! Used widths, and sizes of replaced elements.
 
 ghost use Rattle.std.specs.Prelude.{pos, ◌≤ℤ◌, IfSome};
-ghost use Rattle.lay_widths.specs.Lengths.{BlockFits, IsSize, LenFits, LenIsSize};
+ghost use Rattle.lay_units.specs.Units.{IsSize};
+ghost use Rattle.lay_widths.specs.Lengths.{BlockFits, LenFits, LenIsSize};
 
 use crate::cells::Cells;
 use anyhow::Result;

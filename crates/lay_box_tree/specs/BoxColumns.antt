@@ -3,6 +3,7 @@
 -- together. In it the boxes of inner contexts and anchors, which are marked as inner, are leaves.
 use Rattle.lay_box_tree.specs.declared.box_tree.Flow.TheVariants.{InFlow}
 use Rattle.lay_box_tree.specs.declared.box_tree.BoxKind.TheVariants.{Block}
+use Rattle.lay_style.specs.ComputedStyle.{style_at}
 use Rattle.lay_style.specs.InitialStyle.{initial_style}
 use Rattle.std.specs.Prelude.{slice_index_or}
 use Rattle.std.specs.Prelude.{◌≡◌, ◌<◌, ℕ, Bool, false, List, length, map, slice_index, slice_index_or}
@@ -19,6 +20,10 @@ box_ids boxes = map (λ b. b.node.0) boxes
 abbrev pub box_styles : List BoxNode → List Style
 box_styles boxes = map (λ b. b.style) boxes
 
+-- the style of the box at a place
+abbrev pub style_of_box : List BoxNode → ℕ → Style
+style_of_box boxes k = style_at (box_styles boxes) k
+
 abbrev pub box_inner : List BoxNode → List Bool
 box_inner boxes = map (λ b. b.inner) boxes
 
@@ -33,7 +38,8 @@ pub record IsBoxTree (boxes : List BoxNode) : Type 0 where
 
 -- the box at a place, and one of no element behind the last
 abbrev pub no_box : BoxNode
-no_box = record { node = record { 0 = 0 }; parent = 0; kind = Block; flow = InFlow; anonymous = false; inner = false; style = initial_style }
+no_box =
+    record { node = record { 0 = 0 }; parent = 0; kind = Block; flow = InFlow; anonymous = false; inner = false; style = initial_style }
 
 abbrev pub box_at : List BoxNode → ℕ → BoxNode
 box_at boxes k = slice_index_or boxes k no_box

@@ -35,4 +35,5 @@ OneContainer = (boxes : List BoxNode) (k b c : ℕ) → IsContainer boxes k b �
 
 -- With the nearest block containers for parents the boxes are a tree again.
 abbrev pub ContainersAreATree : Type 0
-ContainersAreATree = (boxes : List BoxNode) (containers : List ℕ) → IsTree (box_parents boxes) → AreContainers boxes containers → IsTree containers
+ContainersAreATree = (boxes : List BoxNode) (containers : List ℕ) → IsTree (box_parents boxes)
+    → AreContainers boxes containers → IsTree containers

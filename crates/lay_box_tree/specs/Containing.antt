@@ -19,4 +19,5 @@ is_anonymous boxes k = slice_index_or (map (λ b. b.anonymous) boxes) k false
 
 -- this is the nearest block container of 10.1
 abbrev pub ContainersAreNearest : Type 0
-ContainersAreNearest = (boxes : List BoxNode) (k : ℕ) → AreContextBoxes boxes → k < length boxes → IsContainer boxes k (container_of boxes k)
+ContainersAreNearest = (boxes : List BoxNode) (k : ℕ) → AreContextBoxes boxes → k < length boxes
+    → IsContainer boxes k (container_of boxes k)

@@ -24,3 +24,11 @@ is_wrapper _ = false
 abbrev pub is_inline : BoxKind → Bool
 is_inline Inline = true
 is_inline _ = false
+
+abbrev pub is_caption : BoxKind → Bool
+is_caption Caption = true
+is_caption _ = false
+
+abbrev pub is_cell : BoxKind → Bool
+is_cell (Cell colspan rowspan) = true
+is_cell _ = false

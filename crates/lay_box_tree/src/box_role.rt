@@ -4,6 +4,7 @@ ghost use Rattle.std.specs.Prelude.{◌≡◌, ◌<◌, length};
 ghost use Rattle.lay_box_tree.specs.Roles.{role_of_kind, float_role};
 
 use crate::box_tree::{BoxKind, BoxNode, BoxTree, Flow};
+use crate::kinds::is_wrapper;
 use lay_style::{Clear, Float};
 
 /// What a box is in the formatting context that it stands in.
@@ -89,7 +90,6 @@ fn float_role(side: Float, role: Role) -> Role
 }
 
 impl BoxNode {
-    ghost use Rattle.lay_box_tree.specs.Kinds.{is_wrapper};
     ghost use Rattle.lay_box_tree.specs.Roles.{role_of, clear_of};
 
     /// What the box is in the formatting context that it stands in, where it isn't the context's own box.
@@ -103,18 +103,11 @@ impl BoxNode {
         }
     }
 
-    /// Whether it is the wrapper of a table or of an inline-table.
-    fn is_wrapper(&self) -> bool
-        ensures { result ≡ is_wrapper self.now.kind }
-    {
-        matches!(self.kind, BoxKind::Wrapper | BoxKind::InlineWrapper)
-    }
-
     /// What `clear` says for it, where it is block-level.
     fn clear(&self) -> Clear
         ensures { result ≡ clear_of self.now }
     {
-        if self.is_wrapper() {
+        if is_wrapper(&self.kind) {
             return Clear::None;
         }
         self.style.clear

@@ -1,6 +1,6 @@
 //! First and last parts of inline boxes (CSS 2.2, 9.2.1.1).
 
-ghost use Rattle.std.specs.Prelude.{◌≡◌, ◌≢◌, ◌<◌, ◌+◌, ℕ, Some, Bool, not, length, slice_index_or, IfOk, OnOk, is_some};
+ghost use Rattle.std.specs.Prelude.{◌≡◌, ◌≢◌, ◌<◌, ◌+◌, ℕ, Some, length, slice_index_or, IfOk, OnOk};
 ghost use Rattle.std.specs.BTreeMap.{get};
 ghost use Rattle.std.specs.Ordering.{nat_cmp};
 ghost use Rattle.lay_box_tree.specs.InlineParts.{AreInlineParts, id_at, is_first_part, is_inline_at, is_last_part, no_part};
@@ -39,7 +39,8 @@ fn first_parts(
 ) -> Result<Vec<InlinePart>, NoMemory>
     requires { (id : ℕ) → IsLatest boxes.now 0 id (get nat_cmp latest.old id) }
     ensures count { IfOk result (λ v. length v.items ≡ length boxes.now) }
-    ensures each { IfOk result (λ v. (k : ℕ) → k < length boxes.now → (slice_index_or v.items k no_part).first ≡ is_first_part boxes.now k) }
+    ensures each { IfOk result
+        (λ v. (k : ℕ) → k < length boxes.now → (slice_index_or v.items k no_part).first ≡ is_first_part boxes.now k) }
     ensures latest { OnOk result ((id : ℕ) → IsLatest boxes.now (length boxes.now) id (get nat_cmp latest.new id)) }
 {
     let mut parts = Vec::with_capacity(alloc, boxes.len())?;

@@ -14,6 +14,7 @@ mod container_laws;
 mod containers;
 mod context_boxes;
 mod inline_part;
+mod kinds;
 mod laws;
 mod part_laws;
 
@@ -22,5 +23,6 @@ pub use box_tree::{BoxKind, BoxNode, BoxTree, Flow};
 pub use container_laws::containers_are_nearest;
 pub use context_boxes::ContextBoxes;
 pub use inline_part::{InlinePart, inline_parts};
+pub use kinds::{is_caption, is_cell, is_wrapper};
 pub use laws::{containers_are_a_tree, one_container};
 pub use part_laws::ends_are_one;

@@ -28,7 +28,8 @@ abbrev pub Rise : List ℕ → Type 0
 Rise places = (i j : ℕ) → i < j → j < length places → slice_index places i < slice_index places j
 
 -- the nodes from the place n on are walked over, and so many of the places are left
-pub record IsWalkedTo (nodes : List Node) (styles : List Style) (places : List ℕ) (n : ℕ) (stack : List NodeTree) (boxes : List (List BoxNode)) (left : ℕ) : Type 0 where
+pub record IsWalkedTo (nodes : List Node) (styles : List Style) (places : List ℕ) (n : ℕ)
+    (stack : List NodeTree) (boxes : List (List BoxNode)) (left : ℕ) : Type 0 where
   pub trees : as_leaves (reverse stack) ≡ as_leaves (node_trees as_leaf n (drop n nodes) (drop n styles))
   pub made : reverse boxes ≡ boxes_at_places nodes styles (drop left places)
   pub few : left ≤ length places

@@ -1,6 +1,7 @@
 -- Contexts: the elements that establish a new block formatting context (9.4.1), and the replaced elements,
 -- where they generate a box.
-use Rattle.std.specs.Prelude.{ℕ, ◌≡◌, ◌<◌, ◌↔◌, Bool, true, false, ◌&&◌, ◌||◌, not, List, length, slice_get, slice_index, slice_index_or, IsTrue, Option, None, Some}
+use Rattle.std.specs.Prelude.{ℕ, ◌≡◌, ◌<◌, ◌↔◌, Bool, true, false, ◌&&◌, ◌||◌, not, List, length}
+use Rattle.std.specs.Prelude.{slice_get, slice_index, slice_index_or, IsTrue, Option, None, Some}
 use Rattle.lay_style.specs.declared.style.Style.{Style}
 use Rattle.lay_style.specs.ComputedStyle.{style_at}
 use Rattle.lay_style.specs.Places.{place_of}

@@ -51,4 +51,5 @@ LeadsOn d styles id b = b.inner ≡ true
     → IsContext d styles b.node.0 × IsBehind (place_of id (ids_of d.nodes)) (place_of b.node.0 (ids_of d.nodes))
 
 abbrev pub BoxesLeadOn : Type 0
-BoxesLeadOn = (d : Document) (styles : List Style) (id : ℕ) → IsDocument d → IsContext d styles id → All (LeadsOn d styles id) (boxes_of d styles id)
+BoxesLeadOn = (d : Document) (styles : List Style) (id : ℕ) → IsDocument d → IsContext d styles id
+    → All (LeadsOn d styles id) (boxes_of d styles id)

@@ -14,7 +14,9 @@ use Rattle.lay_box_tree.specs.declared.box_tree.BoxKind.TheVariants as kind
 use Rattle.lay_box_tree.specs.declared.box_tree.BoxNode.{BoxNode}
 use Rattle.lay_anonymous_boxes.specs.declared.facts.Facts.{Facts}
 use Rattle.lay_anonymous_boxes.specs.declared.facts.Form.{Form}
-use Rattle.lay_anonymous_boxes.specs.declared.facts.Form.TheVariants.{Block, InlineBlock, Inline, Text, Replaced, Wrapper, InlineWrapper, Table, Caption, RowGroup, HeaderGroup, FooterGroup, Row, ColumnGroup, Column, Cell, Anchor}
+use Rattle.lay_anonymous_boxes.specs.declared.facts.Form.TheVariants.{Block, InlineBlock, Inline, Text, Replaced, Wrapper}
+use Rattle.lay_anonymous_boxes.specs.declared.facts.Form.TheVariants.{InlineWrapper, Table, Caption, RowGroup, HeaderGroup}
+use Rattle.lay_anonymous_boxes.specs.declared.facts.Form.TheVariants.{FooterGroup, Row, ColumnGroup, Column, Cell, Anchor}
 
 abbrev pub text_of : Option Node → List ℕ
 text_of None = []

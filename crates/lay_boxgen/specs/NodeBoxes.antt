@@ -12,7 +12,8 @@ use Rattle.lay_anonymous_boxes.specs.declared.facts.Facts.{Facts}
 use Rattle.lay_box_tree.specs.declared.box_tree.Flow.{Flow}
 use Rattle.lay_box_tree.specs.declared.box_tree.Flow.TheVariants.{InFlow}
 use Rattle.lay_anonymous_boxes.specs.declared.facts.Form.{Form}
-use Rattle.lay_anonymous_boxes.specs.declared.facts.Form.TheVariants.{Block, InlineBlock, Text, Replaced, Wrapper, InlineWrapper, Caption, Cell}
+use Rattle.lay_anonymous_boxes.specs.declared.facts.Form.TheVariants.{Block, InlineBlock, Text, Replaced}
+use Rattle.lay_anonymous_boxes.specs.declared.facts.Form.TheVariants.{Wrapper, InlineWrapper, Caption, Cell}
 use Rattle.lay_boxgen.specs.Display.{flow_of, used_display_of, element_form, is_inline_display, is_none}
 use Rattle.lay_anonymous_boxes.specs.Forms.{is_in_flow}
 use Rattle.lay_boxgen.specs.WhiteSpace.{text_form}
@@ -28,7 +29,8 @@ form_of_text s (b ∷ bs) = Some (Text (text_form s.text.white_space (b ∷ bs))
 
 -- the form of a node's box, if it generates one
 abbrev pub form_of : Bool → Kind → List ℕ → Style → Option Form
-form_of is_root (kind.Element colspan rowspan) text s = element_form colspan rowspan (used_display_of is_root (kind.Element colspan rowspan) s)
+form_of is_root (kind.Element colspan rowspan) text s =
+    element_form colspan rowspan (used_display_of is_root (kind.Element colspan rowspan) s)
 form_of is_root kind.Text text s = form_of_text s text
 form_of is_root (kind.Replaced w h) text s = replaced_form w h (used_display_of is_root (kind.Replaced w h) s)
 

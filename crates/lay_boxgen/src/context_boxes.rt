@@ -1,6 +1,6 @@
 //! The boxes of a context.
 
-ghost use Rattle.std.specs.Prelude.{◌≡◌, ◌<◌, ◌≤◌, [], IfOk, length};
+ghost use Rattle.std.specs.Prelude.{◌≡◌, ◌<◌, ◌≤◌, IfOk, length};
 ghost use Rattle.lay_units.specs.Limits.{most_nodes};
 ghost use Rattle.lay_box_tree.specs.BoxColumns.{IsBoxTree};
 ghost use Rattle.lay_boxgen.specs.CutTrees.{cut_tree_at, generated_cut};
@@ -55,7 +55,9 @@ pub(crate) fn boxes_of_tree(
     tree: Option<Subtree>,
 ) -> Result<Vec<BoxNode>, NoMemory>
     requires { tree ≡ cut_tree_at sources.nodes.now sources.styles.now place }
-    ensures boxes { IfOk result (λ v. v.items ≡ listed_part sources.entry.nodes.now sources.entry.styles.now (part sources.entry.nodes.now sources.entry.styles.now place)) }
+    ensures boxes { IfOk result
+        (λ v. v.items
+        ≡ listed_part sources.entry.nodes.now sources.entry.styles.now (part sources.entry.nodes.now sources.entry.styles.now place)) }
     ensures tree { IfOk result (λ v. IsBoxTree v.items) }
 {
     let _ = place;

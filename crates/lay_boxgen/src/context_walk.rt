@@ -1,6 +1,7 @@
 //! The boxes of all contexts of a document, in one walk over its nodes.
 
-ghost use Rattle.std.specs.Prelude.{ℕ, ◌≡◌, ◌<◌, ◌≤◌, ◌+◌, ◌-◌, Some, IfOk, IsTrue, OnOk, true, false, length, option_map, reverse, slice_index};
+ghost use Rattle.std.specs.Prelude.{ℕ, ◌≡◌, ◌<◌, ◌≤◌, ◌+◌, ◌-◌, Some, IfOk, IsTrue, OnOk};
+ghost use Rattle.std.specs.Prelude.{true, false, length, option_map, reverse, slice_index};
 ghost use Rattle.lay_anonymous_boxes.specs.Boxes.{facts_of};
 ghost use Rattle.lay_boxgen.specs.Contexts.{IsContextAt};
 ghost use Rattle.lay_boxgen.specs.ContextWalk.{IsWalkedTo, Rise, as_leaves, boxes_at_places, is_context_tree};
@@ -69,8 +70,11 @@ fn walk_over(
     requires styles { length sources.styles.now ≡ length sources.nodes.now }
     requires contexts { (j : ℕ) → j < length places.now → IsContextAt sources.nodes.now sources.styles.now (slice_index places.now j) }
     requires rising { Rise places.now }
-    requires before { IsWalkedTo sources.nodes.now sources.styles.now places.now (at + 1) walk.old.stack.items walk.old.boxes.items walk.old.left }
-    ensures { OnOk result (IsWalkedTo sources.entry.nodes.now sources.entry.styles.now places.now at walk.new.stack.items walk.new.boxes.items walk.new.left) }
+    requires before { IsWalkedTo sources.nodes.now sources.styles.now places.now
+        (at + 1) walk.old.stack.items walk.old.boxes.items walk.old.left }
+    ensures { OnOk result
+        (IsWalkedTo sources.entry.nodes.now sources.entry.styles.now places.now at walk.new.stack.items walk.new.boxes.items
+        walk.new.left) }
 {
     let node = &sources.nodes[at];
     let style = style_at(sources.styles, at);

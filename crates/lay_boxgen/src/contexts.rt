@@ -3,7 +3,7 @@
 ghost use Rattle.std.specs.Prelude.{◌≡◌, ◌<◌, ◌↔◌, IsTrue, length};
 ghost use Rattle.lay_doc.specs.Document.{parents_of};
 ghost use Rattle.lay_doc.specs.Tree.{IsTree};
-ghost use Rattle.lay_boxgen.specs.Contexts.{box_at, has_box, keeps_form, keeps, GeneratesBox, is_marked, IsContextAt, IsContext};
+ghost use Rattle.lay_boxgen.specs.Contexts.{box_at, keeps_form, keeps, GeneratesBox, is_marked, IsContextAt, IsContext};
 
 use crate::node_boxes::node_box;
 use lay_anonymous_boxes::{Facts, Form, is_column, is_column_group};

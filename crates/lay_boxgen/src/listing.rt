@@ -1,7 +1,7 @@
 //! The trees of a part as a list of boxes.
 
-ghost use Rattle.std.specs.Prelude.{◌≡◌, ◌++◌, ◌∷◌, [], ℕ, List, OnOk, IfOk, IfSome, length};
-ghost use Rattle.lay_anonymous_boxes.specs.Boxes.{Tree, trees_of};
+ghost use Rattle.std.specs.Prelude.{◌≡◌, ◌++◌, ◌∷◌, [], OnOk, IfOk, IfSome, length};
+ghost use Rattle.lay_anonymous_boxes.specs.Boxes.{trees_of};
 ghost use Rattle.lay_boxgen.specs.Listing.{text_at, box_style, kind_of, style_of, style_below, box_node, listed, all_listed, listed_part};
 ghost use Rattle.lay_boxgen.specs.Parts.{put, all_put, put_list, nothing};
 
@@ -113,7 +113,8 @@ fn push_box(
     facts: Facts,
     out: &mut Vec<BoxNode>,
 ) -> Result<(), NoMemory>
-    ensures { OnOk result (out.new.items ≡ out.old.items ++ box_node sources.entry.nodes.now sources.entry.styles.now parent.facts parent.place facts ∷ []) }
+    ensures { OnOk result
+        (out.new.items ≡ out.old.items ++ box_node sources.entry.nodes.now sources.entry.styles.now parent.facts parent.place facts ∷ []) }
 {
     let Some(style) = sources.style_below(parent.facts, facts) else {
         return Err(NoMemory);
@@ -150,7 +151,11 @@ fn list(
     tree: &Subtree,
     out: &mut Vec<BoxNode>,
 ) -> Result<(), NoMemory>
-    ensures { OnOk result (out.new.items ≡ out.old.items ++ listed sources.entry.nodes.now sources.entry.styles.now parent.facts parent.place (length out.old.items) (put nothing tree.now)) }
+    ensures { OnOk result
+        (out.new.items
+        ≡ out.old.items
+        ++ listed sources.entry.nodes.now sources.entry.styles.now parent.facts parent.place
+        (length out.old.items) (put nothing tree.now)) }
 {
     let facts = tree.facts;
     let place = number(out.len())?;
@@ -171,7 +176,11 @@ fn list_all(
     trees: &[Subtree],
     out: &mut Vec<BoxNode>,
 ) -> Result<(), NoMemory>
-    ensures { OnOk result (out.new.items ≡ out.old.items ++ all_listed sources.entry.nodes.now sources.entry.styles.now parent.facts parent.place (length out.old.items) (all_put nothing (trees_of trees.now))) }
+    ensures { OnOk result
+        (out.new.items
+        ≡ out.old.items
+        ++ all_listed sources.entry.nodes.now sources.entry.styles.now parent.facts parent.place
+        (length out.old.items) (all_put nothing (trees_of trees.now))) }
 {
     for tree in trees {
         list(alloc, sources, parent, tree, out)?;

@@ -1,7 +1,8 @@
 //! The box that a node generates by itself, and which elements establish contexts (CSS 2.2, 9.2 and 9.4.1).
 
 ghost use Rattle.std.specs.Prelude.{◌≡◌};
-ghost use Rattle.lay_boxgen.specs.NodeBoxes.{replaced_form, form_of_text, form_of, node_flow, is_context_form, establishes_context, facts_with, node_box};
+ghost use Rattle.lay_boxgen.specs.NodeBoxes.{replaced_form, form_of_text, form_of, node_flow};
+ghost use Rattle.lay_boxgen.specs.NodeBoxes.{is_context_form, establishes_context, node_box};
 
 use crate::display::{element_form, flow_of, used_display_of};
 use crate::white_space::text_form;

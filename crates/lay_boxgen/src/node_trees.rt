@@ -1,9 +1,9 @@
 //! From the nodes of a document to trees of boxes.
 
-ghost use Rattle.std.specs.Prelude.{◌≡◌, ◌<◌, ◌≤◌, ◌+◌, ℕ, List, OnOk, IfOk, drop, length, option_map, reverse, slice_index};
+ghost use Rattle.std.specs.Prelude.{◌≡◌, ◌<◌, ◌≤◌, ◌+◌, OnOk, IfOk, length, option_map, reverse, slice_index};
 ghost use Rattle.lay_units.specs.Limits.{most_nodes};
 ghost use Rattle.lay_doc.specs.Document.{parents_of};
-ghost use Rattle.lay_anonymous_boxes.specs.Boxes.{tree, no_trees};
+ghost use Rattle.lay_anonymous_boxes.specs.Boxes.{tree};
 ghost use Rattle.lay_boxgen.specs.CutTrees.{as_leaf, cut_tree_at, is_child_first};
 ghost use Rattle.lay_boxgen.specs.NodeTrees.{anchor_facts, children_of, others_than_children, box_with, with_node, node_trees, first_tree};
 ghost use Rattle.lay_boxgen.specs.Parts.{is_closed, own_tree};

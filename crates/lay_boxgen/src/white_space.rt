@@ -1,6 +1,6 @@
 //! White space in one text (CSS 2.2, 16.6.1).
 
-ghost use Rattle.std.specs.Prelude.{◌≡◌, List, ℕ};
+ghost use Rattle.std.specs.Prelude.{◌≡◌};
 ghost use Rattle.std.specs.List.{list_all, list_any};
 ghost use Rattle.lay_boxgen.specs.WhiteSpace.{is_white_byte, is_linefeed, is_carriage_return, collapses, white_form, text_form};
 

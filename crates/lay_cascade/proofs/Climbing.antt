@@ -2,13 +2,12 @@
 use Rattle.std.proofs.Common.{◌≡◌, ◌≢◌, ◌∙◌, ℕ, zero, suc, ◌+◌, ◌<◌, ◌≤◌, ◌⊎◌, inl, inr, List, [], ◌∷◌, ◌++◌, Bool, true, false, length, take, refl, sym, ap, subst, arith}
 use Rattle.std.specs.Prelude.{slice_index, slice_index_or, Option, Some, None, ◌↔◌, if◌then◌else◌}
 use Rattle.std.specs.List.{Contains}
-use Rattle.std.proofs.lemmas.Grind.{common_steps}
 use Rattle.std.proofs.lemmas.Bool.{false≢true, cases_lt}
 use Rattle.std.proofs.lemmas.List.{get_or_default, get_or_append_left, get_or_push, length-append, get_or-take, length-take-le, take_more}
 use Rattle.std.proofs.lemmas.List.Elements.{Contains-push, Contains-push_cases, Contains-append_left}
 use Rattle.lay_doc.specs.declared.node.Node.{Node}
 use Rattle.lay_doc.specs.Document.{parents_of}
-use Rattle.lay_doc.specs.Tree.{IsTree, IsUnder, itself, child}
+use Rattle.lay_doc.specs.Tree.{IsTree}
 use Rattle.lay_names.specs.declared.names.Names.{Names}
 use Rattle.lay_sheet.specs.declared.selector.Joint.{Joint}
 use Rattle.lay_sheet.specs.declared.selector.Joint.TheVariants.{Same, Descendant, Child, Adjacent}
@@ -16,9 +15,9 @@ use Rattle.lay_sheet.specs.declared.selector.Simple.{Simple}
 use Rattle.lay_cascade.specs.NodeNames.{fits, fits_at}
 use Rattle.lay_cascade.specs.Siblings.{IsAdjacent, AreAdjacent}
 use Rattle.lay_cascade.specs.Matching.{Stands}
-use Rattle.lay_cascade.specs.Rising.{AreWithin, Covers, IsRising, AreBefore, with_fitting}
+use Rattle.lay_cascade.specs.Rising.{Covers, IsRising, AreBefore, with_fitting}
 use Rattle.lay_cascade.proofs.Adjacent.{parent_within}
-use Rattle.lay_cascade.proofs.Standing.{under_parent, further, parent_above, above_under, cover_before, one_adjacent}
+use Rattle.lay_cascade.proofs.Standing.{cover_before, one_adjacent}
 
 pub fits_within : (names : List Names) (k : ℕ) (simple : Simple) → fits_at names k simple ≡ true → k < length names
 fits_within [] k simple e = absurd (false≢true e)

@@ -1,21 +1,20 @@
 -- A walk to the root, and the steps of a selector from the last one on.
 use Rattle.std.proofs.Common.{◌≡◌, ◌≢◌, ◌∙◌, ℕ, zero, suc, ◌+◌, ◌<◌, ◌≤◌, ◌⊎◌, inl, inr, List, [], ◌∷◌, ◌++◌, Bool, true, false, length, take, reverse, refl, sym, ap, subst, arith}
-use Rattle.std.specs.Prelude.{slice_index, slice_index_or, Option, Some, None, if◌then◌else◌, not, ◌==◌}
+use Rattle.std.specs.Prelude.{slice_index, slice_index_or, Some, if◌then◌else◌, not, ◌==◌}
 use Rattle.std.specs.List.{Contains}
 use Rattle.std.proofs.lemmas.Bool.{false≢true, cases_lt, ne_eqb}
 use Rattle.std.proofs.lemmas.List.{length-reverse, reverse-append, take_more, take_all, get_or_default}
 use Rattle.std.proofs.lemmas.List.Elements.{Contains-push, Contains-push_cases, Contains-append_left}
 use Rattle.lay_doc.specs.declared.node.Node.{Node}
 use Rattle.lay_doc.specs.Document.{parents_of}
-use Rattle.lay_doc.specs.Tree.{IsUnder, itself, child}
+use Rattle.lay_doc.specs.Tree.{IsUnder, itself}
 use Rattle.lay_names.specs.declared.names.Names.{Names}
-use Rattle.lay_sheet.specs.declared.selector.Joint.{Joint}
 use Rattle.lay_sheet.specs.declared.selector.Joint.TheVariants.{Descendant}
 use Rattle.lay_sheet.specs.declared.selector.Simple.{Simple}
 use Rattle.lay_sheet.specs.declared.selector.Step.{Step}
 use Rattle.lay_cascade.specs.NodeNames.{fits_at}
 use Rattle.lay_cascade.specs.Matching.{Matches, Stands, first, next}
-use Rattle.lay_cascade.specs.Rising.{AreWithin, Covers, IsRising, AreBefore, with_fitting}
+use Rattle.lay_cascade.specs.Rising.{AreWithin, IsRising, AreBefore, with_fitting}
 use Rattle.lay_cascade.proofs.Standing.{under_parent, further, parent_above, above_under}
 use Rattle.lay_cascade.proofs.Climbing.{fits_within, element_at, nothing_in, alone_in, rising_none, rising_push}
 

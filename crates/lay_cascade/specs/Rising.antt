@@ -32,7 +32,8 @@ abbrev pub IsRising : List Node → List ℕ → Type 0
 IsRising nodes places = (i j : ℕ) → i < j → j < length places → Covers nodes (slice_index places i) (slice_index places j)
 
 -- of the nodes to which one of these stands as a joint says, those that fit a simple selector
-pub record AreBefore (nodes : List Node) (names : List Names) (places : List ℕ) (joint : Joint) (simple : Simple) (found : List ℕ) : Type 0 where
+pub record AreBefore (nodes : List Node) (names : List Names) (places : List ℕ) (joint : Joint) (simple : Simple) (found : List ℕ)
+    : Type 0 where
   pub within : AreWithin (length nodes) found
   pub fitting : (m : ℕ) → Contains found m → fits_at names m simple ≡ true
   pub sound : (m : ℕ) → Contains found m → (k : ℕ) × Contains places k × Stands nodes joint m k

@@ -1,7 +1,5 @@
 //! The terms of a call: its words, how its source and sink behave, and which threads are to meet.
 
-ghost use Rattle.std.specs.Prelude.{◌≡◌};
-
 use crate::gates::point;
 use lay_outside::Point;
 

@@ -15,7 +15,8 @@ use Rattle.lay_cell_work.specs.shape.Shapes.{shape_of}
 use Rattle.lay_cell_laws.specs.SoundCells.{AreCellsOf, CellState}
 
 -- these are the contexts and the formatting contexts of the document, and the cells are those of its shape and keep values of it
-pub record AreDocumentCells (d : Document) (face : FaceValue) (contexts : List Context) (all : List FormattingContext) (s : CellState) : Type 0 where
+pub record AreDocumentCells (d : Document) (face : FaceValue) (contexts : List Context) (all : List FormattingContext) (s : CellState)
+    : Type 0 where
   pub is_document : IsDocument d
   pub styles : List Style
   pub has_styles : HasStyles (parents_of d.nodes) (declarations_of d.nodes) styles

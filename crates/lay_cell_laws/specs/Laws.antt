@@ -26,9 +26,11 @@ OneCellLocal = (i : CellInput) (v w : CellValue) → LeadsInward i → IsCellLoc
 -- and what cells are given among the contexts of a document goes one way
 abbrev pub PresentInputsLeadInward : Type 0
 PresentInputsLeadInward = (medium : Medium) (contexts : List Context) (all : List FormattingContext) (w : Workings) (c : ℕ) (phase : Phase)
-    → AreContexts contexts → AreFormattingContextsOf contexts all → c < length contexts → LeadsInward (present_input medium contexts all w c phase)
+    → AreContexts contexts → AreFormattingContextsOf contexts all → c < length contexts
+    → LeadsInward (present_input medium contexts all w c phase)
 
 -- and are what the type of a cell's input asks for
 abbrev pub PresentInputsFit : Type 0
 PresentInputsFit = (medium : Medium) (contexts : List Context) (all : List FormattingContext) (w : Workings) (c : ℕ) (phase : Phase)
-    → AreContexts contexts → AreFormattingContextsOf contexts all → c < length contexts → CellInputFits (present_input medium contexts all w c phase)
+    → AreContexts contexts → AreFormattingContextsOf contexts all → c < length contexts
+    → CellInputFits (present_input medium contexts all w c phase)

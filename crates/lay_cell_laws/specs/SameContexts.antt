@@ -130,4 +130,5 @@ PlaceInputsAreKept = (medium : Medium) (a b : Table) (c e : ℕ) → IsTable a �
 -- What stands inside at the same box is of one node, so its cells are known by the same keys.
 abbrev pub CounterpartsAreOfOneNode : Type 0
 CounterpartsAreOfOneNode = (a b : Table) (c e k : ℕ) (phase : Phase) → IsTable a → IsTable b → IsSameContext a b c e
-    → k < length (boxes_in a.contexts c) → 0 < inner_at a c k → key_of a.contexts (inner_at a c k) phase ≡ key_of b.contexts (inner_at b e k) phase
+    → k < length (boxes_in a.contexts c) → 0 < inner_at a c k
+    → key_of a.contexts (inner_at a c k) phase ≡ key_of b.contexts (inner_at b e k) phase

@@ -26,13 +26,15 @@ laid_of_all rows = sum_by (λ r. r.laid) rows
 
 module _ (K I V : Type 0) where
   abbrev pub ClaimsCount : Type 0
-  ClaimsCount = (s t : State K I V) (key : K) (input : I) (a : Claimed) → ClaimsIn s key input a t → laid_of_all t.rows ≡ laid_of_all s.rows + grants a
+  ClaimsCount = (s t : State K I V) (key : K) (input : I) (a : Claimed) → ClaimsIn s key input a t
+      → laid_of_all t.rows ≡ laid_of_all s.rows + grants a
 
   abbrev pub FinishesCount : Type 0
   FinishesCount = (s t : State K I V) (d : Solved K I V) (a : Finished) → FinishesIn s d a t → laid_of_all t.rows ≡ laid_of_all s.rows
 
   abbrev pub GiveBacksCount : Type 0
-  GiveBacksCount = (s t : State K I V) (key : K) (number : ℕ) (a : Released) → GivesBackIn s key number a t → laid_of_all t.rows ≡ laid_of_all s.rows
+  GiveBacksCount = (s t : State K I V) (key : K) (number : ℕ) (a : Released) → GivesBackIn s key number a t
+      → laid_of_all t.rows ≡ laid_of_all s.rows
 
   abbrev pub MarksCount : Type 0
   MarksCount = (rows new : List (Row K I V)) (keys : List K) → Marks rows keys new → laid_of_all new ≡ laid_of_all rows
@@ -53,5 +55,6 @@ module _ (K I V : Type 0) where
 
   -- and where there was none it draws one for each
   abbrev pub FirstShapesDraw : Type 0
-  FirstShapesDraw = (draws : ℕ) (t : State K I V) (entries : List (Entry K)) (fresh : List K) → Reshapes (record { rows = []; draws = draws }) entries fresh t
+  FirstShapesDraw = (draws : ℕ) (t : State K I V) (entries : List (Entry K)) (fresh : List K)
+      → Reshapes (record { rows = []; draws = draws }) entries fresh t
       → t.draws ≡ draws + length t.rows

@@ -9,7 +9,8 @@ use Rattle.lay_cells.specs.declared.answers.Released.{Released}
 module _ {K I V : Type 0} where
   -- each of these cells that is clean is clean among those
   abbrev pub StayClean : (rows later : List (Row K I V)) → Type 0
-  StayClean rows later = (i : ℕ) (r q : Row K I V) → slice_get rows i ≡ Some r → slice_get later i ≡ Some q → r.dirty ≡ false → q.dirty ≡ false
+  StayClean rows later = (i : ℕ) (r q : Row K I V) → slice_get rows i ≡ Some r → slice_get later i ≡ Some q
+      → r.dirty ≡ false → q.dirty ≡ false
 
   -- no cell is made anew, dropped or dirtied
   pub record KeepsRows (s t : State K I V) : Type 0 where

@@ -33,7 +33,8 @@ module _ (K I V : Type 0) where
 module _ (K I V : Type 0) (relates : I → V → Type 0) where
   -- work that is finished right after its claim cleans the cell
   abbrev pub FinishedCellsAreClean : Type 0
-  FinishedCellsAreClean = (s t u : State K I V) (place : ℕ) (r : Row K I V) (input : I) (value : V) (number : ℕ) (c : Claimed) (a : Finished)
+  FinishedCellsAreClean =
+      (s t u : State K I V) (place : ℕ) (r : Row K I V) (input : I) (value : V) (number : ℕ) (c : Claimed) (a : Finished)
       → IsSound relates s → slice_get s.rows place ≡ Some r → ClaimsIn s r.key input c t → claim_number c ≡ Some number
       → FinishesIn t (record { key = r.key; number = number; input = input; value = value }) a u
       → (a ≡ Cleaned) × CleansAt s.rows place u.rows

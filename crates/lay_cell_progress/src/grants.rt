@@ -1,6 +1,7 @@
 //! The laws of the count of grants.
 
-ghost use Rattle.lay_cell_progress.specs.Grants.{ClaimsCount, CleanCellsCount, FinishesCount, FirstShapesDraw, GiveBacksCount, MarksCount, ReshapesCount, ReshapesDraw};
+ghost use Rattle.lay_cell_progress.specs.Grants.{ClaimsCount, CleanCellsCount, FinishesCount, FirstShapesDraw};
+ghost use Rattle.lay_cell_progress.specs.Grants.{GiveBacksCount, MarksCount, ReshapesCount, ReshapesDraw};
 
 use lay_cells::Work;
 

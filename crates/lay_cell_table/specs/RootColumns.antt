@@ -42,6 +42,7 @@ pub record AreRootColumnsTo (contexts : List Context) (roots : List ContextRoot)
   pub last : (i : ℕ) → suc i ≡ n → length firsts ≡ suc (root_at roots i).context
 
 -- of all, and the number behind the last one as if another context came
-pub record AreRootColumns (contexts : List Context) (all : List FormattingContext) (roots : List ContextRoot) (firsts : List ℕ) : Type 0 where
+pub record AreRootColumns (contexts : List Context) (all : List FormattingContext) (roots : List ContextRoot) (firsts : List ℕ)
+    : Type 0 where
   pub roots_are : AreRootsTo contexts roots (length all)
   pub firsts_are : AreFirstNumbers contexts firsts (suc (length contexts))

@@ -51,7 +51,10 @@ fn cell_input(
 ) -> Result<CellInput, NoMemory>
     requires within { cell.context < length values.now.table.now.contexts }
     requires needs { HaveNeeds values.now.table.now values.now.cells.now.rows cell }
-    ensures { IfOk result (λ i. i ≡ input_now medium.now values.now.table.now.contexts values.now.table.now.formatting_contexts values.now.cells.now.rows cell.context cell.phase) }
+    ensures { IfOk result
+        (λ i. i
+        ≡ input_now medium.now values.now.table.now.contexts values.now.table.now.formatting_contexts values.now.cells.now.rows cell.context
+        cell.phase) }
 {
     present_inputs_fit();
     let _ = values.table.contexts().len();

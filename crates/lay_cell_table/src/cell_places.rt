@@ -56,7 +56,8 @@ pub(crate) fn cell_in(contexts: &Contexts, cells: &[ContextPhase], k: usize) -> 
 /// Notes where a cell stands.
 fn note_place(places: &mut Vec<CellPlaces>, cell: ContextPhase, place: usize)
     requires { cell.context < length places.old.items }
-    ensures { places.new.items ≡ slice_set places.old.items cell.context (with_place (places_at places.old.items cell.context) cell.phase place) }
+    ensures { places.new.items
+        ≡ slice_set places.old.items cell.context (with_place (places_at places.old.items cell.context) cell.phase place) }
 {
     let noted = with_place(places[cell.context], cell.phase, place);
     places[cell.context] = noted;

@@ -34,7 +34,8 @@ impl<'a> CellValues<'a> {
     /// What the cell of a context keeps for a phase.
     fn kept(&self, context: usize, phase: Phase) -> Option<&'a CellValue>
         requires { context < length self.now.table.now.contexts }
-        ensures { kept_or_none phase (option_map (λ v. v.now) result) ≡ kept_value self.now.cells.now.rows self.now.table.now.contexts context phase }
+        ensures { kept_or_none phase (option_map (λ v. v.now) result)
+            ≡ kept_value self.now.cells.now.rows self.now.table.now.contexts context phase }
     {
         self.cells.sound();
         let place = self.table.place_of(context, phase);
@@ -47,7 +48,9 @@ impl<'a> CellValues<'a> {
     /// The preferred widths of a root, with the bounds of a table.
     fn kept_widths(&self, root: ContextRoot) -> &MeasuredContext
         requires { root.context < length self.now.table.now.contexts }
-        ensures { result.now ≡ widths_in (own_measured (kept_value self.now.cells.now.rows self.now.table.now.contexts root.context phase.Measure)) root.root }
+        ensures { result.now
+            ≡ widths_in
+            (own_measured (kept_value self.now.cells.now.rows self.now.table.now.contexts root.context phase.Measure)) root.root }
     {
         match self.kept(root.context, Phase::Measure) {
             Some(value) => widths_or(value, root.root, self.table.no_widths()),
@@ -58,7 +61,8 @@ impl<'a> CellValues<'a> {
     /// The sizes of a root.
     fn kept_sizes(&self, root: ContextRoot) -> &SizedContext
         requires { root.context < length self.now.table.now.contexts }
-        ensures { result.now ≡ sizes_in (own_sizes (kept_value self.now.cells.now.rows self.now.table.now.contexts root.context phase.Size)) root.root }
+        ensures { result.now
+            ≡ sizes_in (own_sizes (kept_value self.now.cells.now.rows self.now.table.now.contexts root.context phase.Size)) root.root }
     {
         match self.kept(root.context, Phase::Size) {
             Some(value) => sizes_or(value, root.root, self.table.no_sizes()),
@@ -69,7 +73,8 @@ impl<'a> CellValues<'a> {
     /// The placement of a root.
     fn kept_place(&self, root: ContextRoot) -> &PlacedContext
         requires { root.context < length self.now.table.now.contexts }
-        ensures { result.now ≡ placed_in (own_places (kept_value self.now.cells.now.rows self.now.table.now.contexts root.context phase.Place)) root.root }
+        ensures { result.now
+            ≡ placed_in (own_places (kept_value self.now.cells.now.rows self.now.table.now.contexts root.context phase.Place)) root.root }
     {
         match self.kept(root.context, Phase::Place) {
             Some(value) => placed_or(value, root.root, self.table.no_place()),

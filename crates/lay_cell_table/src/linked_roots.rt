@@ -68,7 +68,12 @@ pub(crate) fn inner_size_input(
 ) -> Result<RootInput, NoMemory>
     requires within { i < length values.now.table.now.formatting_contexts }
     requires anonymous { (formatting_context_at values.now.table.now.formatting_contexts i).anonymous ≡ true }
-    ensures { IfOk result (λ x. (medium : Medium) → x ≡ root_input_as (links_of values.now.table.now.formatting_contexts first i) (spot_in values.now.table.now.formatting_contexts first i) (Size (size_input medium values.now.table.now.formatting_contexts (workings_in values.now.table.now values.now.cells.now.rows) i))) }
+    ensures { IfOk result
+        (λ x. (medium : Medium)
+        → x ≡ root_input_as (links_of values.now.table.now.formatting_contexts first i)
+        (spot_in values.now.table.now.formatting_contexts first i)
+        (Size
+        (size_input medium values.now.table.now.formatting_contexts (workings_in values.now.table.now values.now.cells.now.rows) i))) }
 {
     kept_values_are_counted();
     let context = values.table.formatting_contexts().at(i);

@@ -1,6 +1,6 @@
 //! Which root of which context each formatting context is.
 
-ghost use Rattle.std.specs.Prelude.{◌≡◌, ◌<◌, ◌+◌, ◌++◌, ◌∷◌, [], IfOk, OnOk, length, slice_index};
+ghost use Rattle.std.specs.Prelude.{◌≡◌, ◌<◌, ◌+◌, IfOk, OnOk, length, slice_index};
 ghost use Rattle.lay_layout.specs.contexts.FormattingContextList.{AreFormattingContextsOf};
 ghost use Rattle.lay_layout.specs.contexts.FormattingContexts.{formatting_context_at};
 ghost use Rattle.lay_cell_table.specs.RootColumns.{AreRootColumns, AreRootColumnsTo, with_first};

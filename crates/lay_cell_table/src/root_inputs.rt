@@ -26,7 +26,10 @@ pub(crate) fn root_inputs(
 ) -> Result<Vec<RootInput>, NoMemory>
     requires within { cell.context < length values.now.table.now.contexts }
     requires needs { HaveNeeds values.now.table.now values.now.cells.now.rows cell }
-    ensures { IfOk result (λ v. v.items ≡ (input_now medium.now values.now.table.now.contexts values.now.table.now.formatting_contexts values.now.cells.now.rows cell.context cell.phase).roots) }
+    ensures { IfOk result
+        (λ v. v.items
+        ≡ (input_now medium.now values.now.table.now.contexts values.now.table.now.formatting_contexts values.now.cells.now.rows
+        cell.context cell.phase).roots) }
 {
     if values.table.root_count(cell.context) == 1 {
         return only_root(alloc, medium, values, cell);
@@ -44,7 +47,10 @@ fn only_root(
     requires within { cell.context < length values.now.table.now.contexts }
     requires only { root_count values.now.table.now.contexts cell.context ≡ 1 }
     requires needs { HaveNeeds values.now.table.now values.now.cells.now.rows cell }
-    ensures { IfOk result (λ v. v.items ≡ (input_now medium.now values.now.table.now.contexts values.now.table.now.formatting_contexts values.now.cells.now.rows cell.context cell.phase).roots) }
+    ensures { IfOk result
+        (λ v. v.items
+        ≡ (input_now medium.now values.now.table.now.contexts values.now.table.now.formatting_contexts values.now.cells.now.rows
+        cell.context cell.phase).roots) }
 {
     let _ = values.table.contexts().len();
     let _ = values.table.formatting_contexts();
@@ -69,7 +75,10 @@ fn all_roots(
 ) -> Result<Vec<RootInput>, NoMemory>
     requires within { cell.context < length values.now.table.now.contexts }
     requires needs { HaveNeeds values.now.table.now values.now.cells.now.rows cell }
-    ensures { IfOk result (λ v. v.items ≡ (input_now medium.now values.now.table.now.contexts values.now.table.now.formatting_contexts values.now.cells.now.rows cell.context cell.phase).roots) }
+    ensures { IfOk result
+        (λ v. v.items
+        ≡ (input_now medium.now values.now.table.now.contexts values.now.table.now.formatting_contexts values.now.cells.now.rows
+        cell.context cell.phase).roots) }
 {
     let count = values.table.root_count(cell.context);
     let mut roots = Vec::with_capacity(alloc, count)?;
@@ -90,7 +99,11 @@ fn root_input(
     requires within { cell.context < length values.now.table.now.contexts }
     requires root { r < root_count values.now.table.now.contexts cell.context }
     requires needs { HaveNeeds values.now.table.now values.now.cells.now.rows cell }
-    ensures { IfOk result (λ x. x ≡ root_input medium.now values.now.table.now.formatting_contexts (workings_in values.now.table.now values.now.cells.now.rows) (first_number values.now.table.now.contexts cell.context) (first_number values.now.table.now.contexts cell.context + r) cell.phase) }
+    ensures { IfOk result
+        (λ x. x
+        ≡ root_input medium.now values.now.table.now.formatting_contexts (workings_in values.now.table.now values.now.cells.now.rows)
+        (first_number values.now.table.now.contexts cell.context)
+        (first_number values.now.table.now.contexts cell.context + r) cell.phase) }
 {
     let _ = values.table.contexts().len();
     let all = values.table.formatting_contexts();
@@ -124,7 +137,9 @@ fn task_input(
     task: Task,
 ) -> Result<Input, NoMemory>
     requires { IsReady values.now.table.now.formatting_contexts (workings_in values.now.table.now values.now.cells.now.rows) task }
-    ensures { IfOk result (λ i. i ≡ input_of medium.now values.now.table.now.formatting_contexts (workings_in values.now.table.now values.now.cells.now.rows) task) }
+    ensures { IfOk result
+        (λ i. i
+        ≡ input_of medium.now values.now.table.now.formatting_contexts (workings_in values.now.table.now values.now.cells.now.rows) task) }
 {
     let document = FormattedDocument {
         medium,

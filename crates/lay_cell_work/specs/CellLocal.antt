@@ -6,13 +6,13 @@ use Rattle.lay_layout.specs.units.declared.records.Len.TheVariants.{Auto as auto
 use Rattle.lay_layout.specs.box_tree.declared.box_tree.BoxNode.{BoxNode}
 use Rattle.lay_layout.specs.measure.MeasureInValue.{no_widths}
 use Rattle.lay_layout.specs.sizes.OwnBoxes.{no_own_box}
-use Rattle.lay_layout.specs.sizes.UsedLengths.{no_length}
 use Rattle.lay_layout.specs.context_sizes.declared.setting.Setting.{Setting}
 use Rattle.lay_layout.specs.context_sizes.declared.setting.Setting.TheVariants.{Block}
 use Rattle.lay_layout.specs.context.declared.input.Input.{Input}
 use Rattle.lay_layout.specs.context.declared.input.Input.TheVariants as input
 use Rattle.lay_layout.specs.context.Local.{IsLocal}
 use Rattle.lay_layout.specs.context.Settings.{setting_in, sizes_in}
+use Rattle.lay_layout.specs.units.Lengths.{no_length}
 use Rattle.lay_cell_work.specs.declared.root_spot.RootSpot.{RootSpot}
 use Rattle.lay_cell_work.specs.CellColumns.{filled, masked}
 use Rattle.lay_cell_work.specs.CellInputs.{CellInput, RootInput}
@@ -47,8 +47,10 @@ abbrev pub masked_input : List (Option ℕ) → Option RootSpot → Input → In
 masked_input links around (input.Measure i) = input.Measure (record i { inner = masked no_widths links i.inner })
 masked_input links around input.Unmeasured = input.Unmeasured
 masked_input links around (input.Size i) = input.Size (record i { setting = masked_setting around i.setting })
-masked_input links around (input.Place i at) = input.Place (record i { inner = masked no_own_box links i.inner; pieces = masked [] links i.pieces }) at
-masked_input links around (input.PlaceTable i at) = input.PlaceTable (record i { inner = masked no_own_box links i.inner; pieces = masked [] links i.pieces }) at
+masked_input links around (input.Place i at) =
+    input.Place (record i { inner = masked no_own_box links i.inner; pieces = masked [] links i.pieces }) at
+masked_input links around (input.PlaceTable i at) =
+    input.PlaceTable (record i { inner = masked no_own_box links i.inner; pieces = masked [] links i.pieces }) at
 
 -- and with what these have in the value of the cell
 abbrev pub filled_input : List RootInput → CellValue → List (Option ℕ) → Option RootSpot → Input → Input
@@ -58,7 +60,8 @@ filled_input roots v links around (input.Size i) = input.Size (record i { settin
 filled_input roots v links around (input.Place i at) =
     input.Place (record i { inner = filled no_own_box (own_boxes v) links i.inner; pieces = filled [] (own_pieces v) links i.pieces }) at
 filled_input roots v links around (input.PlaceTable i at) =
-    input.PlaceTable (record i { inner = filled no_own_box (own_boxes v) links i.inner; pieces = filled [] (own_pieces v) links i.pieces }) at
+    input.PlaceTable
+    (record i { inner = filled no_own_box (own_boxes v) links i.inner; pieces = filled [] (own_pieces v) links i.pieces }) at
 
 -- what a root is given in all, where its cell answers this
 abbrev pub whole_input : List RootInput → CellValue → RootInput → Input

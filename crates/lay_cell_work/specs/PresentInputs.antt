@@ -58,5 +58,7 @@ root_input medium all w first i phase =
 abbrev pub present_input : Medium → List Context → List FormattingContext → Workings → (c : ℕ) → Phase → CellInput
 present_input medium contexts all w c phase = record {
   key = key_of contexts c phase;
-  roots = map (λ r. root_input medium all w (first_number contexts c) (first_number contexts c + r) phase) (range_with_len 0 (root_count contexts c));
+  roots =
+      map (λ r. root_input medium all w (first_number contexts c) (first_number contexts c + r) phase)
+      (range_with_len 0 (root_count contexts c));
 }

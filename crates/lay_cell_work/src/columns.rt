@@ -129,7 +129,8 @@ fn pieces_at(
     places: &[PlacedContext],
     k: usize,
 ) -> Result<Option<Arc<Pieces>>, NoMemory>
-    ensures pieces { IfOk result (λ p. pieces_or_none p ≡ filled_at [] (own_pieces (Places places.now)) (slice_get links.now k) (inner_pieces_at given.now k)) }
+    ensures pieces { IfOk result
+        (λ p. pieces_or_none p ≡ filled_at [] (own_pieces (Places places.now)) (slice_get links.now k) (inner_pieces_at given.now k)) }
     ensures near { IfOk result (λ p. AreNearPieces (pieces_or_none p)) }
 {
     match links.get(k) {

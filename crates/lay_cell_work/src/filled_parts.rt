@@ -34,7 +34,12 @@ pub(crate) fn filled_flow(
     links: &[Option<usize>],
     places: &[PlacedContext],
 ) -> Result<FlowParts, NoMemory>
-    ensures { IfOk result (λ i. i ≡ record parts.now { inner = filled no_own_box (own_boxes (Places places.now)) links.now parts.now.inner; pieces = filled [] (own_pieces (Places places.now)) links.now parts.now.pieces }) }
+    ensures { IfOk result
+        (λ i. i
+        ≡ record parts.now {
+          inner = filled no_own_box (own_boxes (Places places.now)) links.now parts.now.inner;
+          pieces = filled [] (own_pieces (Places places.now)) links.now parts.now.pieces;
+        }) }
 {
     let boxes = parts.boxes().share()?;
     let sizes = parts.sizes().share()?;
@@ -54,7 +59,12 @@ pub(crate) fn filled_table(
     links: &[Option<usize>],
     places: &[PlacedContext],
 ) -> Result<TableParts, NoMemory>
-    ensures { IfOk result (λ i. i ≡ record parts.now { inner = filled no_own_box (own_boxes (Places places.now)) links.now parts.now.inner; pieces = filled [] (own_pieces (Places places.now)) links.now parts.now.pieces }) }
+    ensures { IfOk result
+        (λ i. i
+        ≡ record parts.now {
+          inner = filled no_own_box (own_boxes (Places places.now)) links.now parts.now.inner;
+          pieces = filled [] (own_pieces (Places places.now)) links.now parts.now.pieces;
+        }) }
 {
     let boxes = parts.boxes().share()?;
     let sizes = parts.sizes().share()?;

@@ -36,7 +36,8 @@ module _ {K I V : Type 0} where
     pub before : (j : ℕ) → j < place → (r : Row K I V) → slice_get rows j ≡ Some r → r.dirty ≡ false
     pub at : (r : Row K I V) → slice_get rows place ≡ Some r → r.dirty ≡ true
 
-  pub record IsKept (relates : I → V → Type 0) (cmp : K → K → Ordering) (cells : List (Cell K (Held K I V))) (index : BTreeMap K ℕ) (lowest draws : ℕ) : Type 0 where
+  pub record IsKept (relates : I → V → Type 0) (cmp : K → K → Ordering) (cells : List (Cell K (Held K I V)))
+      (index : BTreeMap K ℕ) (lowest draws : ℕ) : Type 0 where
     pub sound : IsSound relates record { rows = map row_of cells; draws = draws }
     pub wired : IsWired cmp index (map wire_of cells)
     pub first_dirty : IsLowest (map row_of cells) lowest

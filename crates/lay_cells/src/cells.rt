@@ -1,6 +1,7 @@
 //! The cells.
 
-ghost use Rattle.std.specs.Prelude.{◌≡◌, ◌↔◌, ◌<◌, ◌≤◌, ◌-◌, ◌^◌, [], IfNone, IfSome, IsOk, IsTrue, OnErr, OnOk, false, length, map, option_map};
+ghost use Rattle.std.specs.Prelude.{◌≡◌, ◌↔◌, ◌<◌, ◌≤◌, ◌-◌, ◌^◌, [], IfNone, IfSome, IsOk};
+ghost use Rattle.std.specs.Prelude.{IsTrue, OnErr, OnOk, false, length, map, option_map};
 ghost use Rattle.std.specs.Arc.{arc_value};
 ghost use Rattle.lay_cells.specs.Looks.{IsAt, IsGone, Looks};
 ghost use Rattle.lay_cells.specs.Marks.{Marks};

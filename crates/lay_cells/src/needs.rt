@@ -36,8 +36,11 @@ fn first_dirty_place<W: Work>(cells: &[CellOf<W>], places: &[usize]) -> Option<u
 pub fn first_dirty_need<W: Work>(cells: &[CellOf<W>], place: usize) -> Option<W::Key>
     requires wired { HasIndex W.Key.cmp (map wire_of cells.now) }
     requires within { place < length cells.now }
-    ensures some { IfSome result (λ k. (r : Row W.Key W.Input W.Value) × (slice_get (map row_of cells.now) place ≡ Some r) × IsFirstDirty (map row_of cells.now) r.needs k) }
-    ensures none { IfNone result ((r : Row W.Key W.Input W.Value) × (slice_get (map row_of cells.now) place ≡ Some r) × AreClean (map row_of cells.now) r.needs) }
+    ensures some { IfSome result
+        (λ k. (r : Row W.Key W.Input W.Value) × (slice_get (map row_of cells.now) place ≡ Some r)
+        × IsFirstDirty (map row_of cells.now) r.needs k) }
+    ensures none { IfNone result
+        ((r : Row W.Key W.Input W.Value) × (slice_get (map row_of cells.now) place ≡ Some r) × AreClean (map row_of cells.now) r.needs) }
 {
     let cell = cell_at::<W>(cells, place);
     match first_dirty_place::<W>(cells, cell.places.as_slice()) {

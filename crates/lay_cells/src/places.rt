@@ -1,10 +1,10 @@
 //! What is read of the cell at a place.
 
-ghost use Rattle.std.specs.Prelude.{◌≡◌, ◌<◌, ◌≤◌, ℕ, None, Some, false, IfNone, IfSome, length, map, option_map, slice_get};
+ghost use Rattle.std.specs.Prelude.{◌≡◌, ◌<◌, None, Some, false, IfNone, IfSome, length, map, option_map, slice_get};
 ghost use Rattle.lay_cells.specs.Kept.{HasIndex, IsLowest, wire_of};
 ghost use Rattle.lay_cells.specs.Places.{AreCleanFrom, AtPlace, HasNoNeedAt, IsClaimed, IsFirstDirtyFrom, IsNeedAt};
 ghost use Rattle.lay_cells.specs.Reuses.{AreNeedsAt};
-ghost use Rattle.lay_cells.specs.Rows.{Row, row_of};
+ghost use Rattle.lay_cells.specs.Rows.{row_of};
 ghost use Rattle.lay_cells.specs.Steps.{IsStale};
 
 use crate::cell::CellOf;

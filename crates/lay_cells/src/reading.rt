@@ -19,7 +19,8 @@ use std::sync::Arc;
 pub fn look_at<W: Work>(cells: &[CellOf<W>], place: usize) -> Look<W::Key>
     requires wired { HasIndex W.Key.cmp (map wire_of cells.now) }
     requires within { place < length cells.now }
-    ensures { (r : Row W.Key W.Input W.Value) → slice_get (map row_of cells.now) place ≡ Some r → Looks (map row_of cells.now) r.key result }
+    ensures { (r : Row W.Key W.Input W.Value) → slice_get (map row_of cells.now) place ≡ Some r
+        → Looks (map row_of cells.now) r.key result }
 {
     if !cell_at::<W>(cells, place).dirty {
         return Look::Clean;
@@ -47,7 +48,9 @@ pub fn look_in<W: Work>(
 
 /// The value that is kept of the cell.
 fn value_of<W: Work>(cell: &CellOf<W>) -> Option<&Arc<W::Value>>
-    ensures some { IfSome result (λ v. (d : Solved W.Key W.Input W.Value) × ((row_of cell.now).kept ≡ Some d) × (arc_value v.now ≡ d.value) × W.relates d.input d.value) }
+    ensures some { IfSome result
+        (λ v. (d : Solved W.Key W.Input W.Value) × ((row_of cell.now).kept ≡ Some d) × (arc_value v.now ≡ d.value)
+        × W.relates d.input d.value) }
     ensures none { IfNone result ((row_of cell.now).kept ≡ None) }
 {
     match cell.held.kept() {

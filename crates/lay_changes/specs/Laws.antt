@@ -37,6 +37,7 @@ TouchedKeysStandOnce = (contexts later : List Context) (all rest : List Formatti
 
 -- a context of which a key isn't listed was there before with the same boxes, and measured where it is
 abbrev pub UnlistedContextsAreUntouched : Type 0
-UnlistedContextsAreUntouched = (contexts later : List Context) (all rest : List FormattingContext) (keys : List CellKey) (j : ℕ) (phase : Phase)
+UnlistedContextsAreUntouched =
+    (contexts later : List Context) (all rest : List FormattingContext) (keys : List CellKey) (j : ℕ) (phase : Phase)
     → AreTouchedKeys contexts later all rest keys → j < length later → (IsIn keys (key_of later (in_phase phase j)) → ⊥)
     → IsUntouched contexts later all rest j

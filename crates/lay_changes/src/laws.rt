@@ -1,6 +1,7 @@
 //! The laws of the definitions.
 
-ghost use Rattle.lay_changes.specs.Laws.{ListedKeysAreOfTouchedContexts, OneListOfTouchedKeys, TouchedContextsAreListed, TouchedKeysStandOnce, UnlistedContextsAreUntouched};
+ghost use Rattle.lay_changes.specs.Laws.{ListedKeysAreOfTouchedContexts, OneListOfTouchedKeys};
+ghost use Rattle.lay_changes.specs.Laws.{TouchedContextsAreListed, TouchedKeysStandOnce, UnlistedContextsAreUntouched};
 
 /// An edit has one list of keys of the contexts that it touches.
 pub fn one_list_of_touched_keys()

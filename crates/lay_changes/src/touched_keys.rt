@@ -26,7 +26,8 @@ pub fn changed_keys(
     after: &MeasuredContexts<'_>,
 ) -> Result<Vec<CellKey>, NoMemory>
     requires { AreOfOwnNodes before.now.contexts }
-    ensures { IfOk result (λ v. AreTouchedKeys before.now.contexts after.now.contexts before.now.formatting_contexts after.now.formatting_contexts v.items) }
+    ensures { IfOk result
+        (λ v. AreTouchedKeys before.now.contexts after.now.contexts before.now.formatting_contexts after.now.formatting_contexts v.items) }
 {
     let numbers = numbers_by_node(alloc, before.contexts())?;
     let mut keys = Vec::new(alloc);
@@ -47,8 +48,11 @@ fn push_if_touched(
     requires apart { AreOfOwnNodes before.now.contexts }
     requires numbers { (id : ℕ) → IsNumberOf before.now.contexts (length before.now.contexts) id (get nat_cmp numbers.now id) }
     requires within { j < length after.now.contexts }
-    requires known { AreTouchedKeysTo before.now.contexts after.now.contexts before.now.formatting_contexts after.now.formatting_contexts keys.old.items j }
-    ensures { OnOk result (AreTouchedKeysTo before.now.contexts after.now.contexts before.now.formatting_contexts after.now.formatting_contexts keys.new.items (j + 1)) }
+    requires known { AreTouchedKeysTo before.now.contexts after.now.contexts before.now.formatting_contexts after.now.formatting_contexts
+        keys.old.items j }
+    ensures { OnOk result
+        (AreTouchedKeysTo before.now.contexts after.now.contexts before.now.formatting_contexts after.now.formatting_contexts keys.new.items
+        (j + 1)) }
 {
     if is_untouched(before, after, numbers, j) {
         return Ok(());
@@ -67,7 +71,8 @@ fn is_untouched(
     requires apart { AreOfOwnNodes before.now.contexts }
     requires numbers { (id : ℕ) → IsNumberOf before.now.contexts (length before.now.contexts) id (get nat_cmp numbers.now id) }
     requires within { j < length after.now.contexts }
-    ensures { IsTrue result ↔ IsUntouched before.now.contexts after.now.contexts before.now.formatting_contexts after.now.formatting_contexts j }
+    ensures { IsTrue result
+        ↔ IsUntouched before.now.contexts after.now.contexts before.now.formatting_contexts after.now.formatting_contexts j }
 {
     match number_of(numbers, node_of(after.contexts(), j).0) {
         Some(i) => is_untouched_from(before, i, after, j),
@@ -84,7 +89,8 @@ fn is_untouched_from(
 ) -> bool
     requires here { i < length before.now.contexts }
     requires there { j < length after.now.contexts }
-    ensures { IsTrue result ↔ IsUntouchedFrom before.now.contexts after.now.contexts before.now.formatting_contexts after.now.formatting_contexts i j }
+    ensures { IsTrue result
+        ↔ IsUntouchedFrom before.now.contexts after.now.contexts before.now.formatting_contexts after.now.formatting_contexts i j }
 {
     before.is_measured(i) == after.is_measured(j) && same_boxes(before.boxes(i), after.boxes(j))
 }

@@ -2,12 +2,11 @@
 use Rattle.std.proofs.Common.{◌≡◌, ◌∙◌, ℕ, ◌++◌, List, codes, refl, sym, ap, arith}
 use Rattle.std.specs.Prelude.{◌↔◌, slice_index_or}
 use Rattle.std.specs.Fmt.{decimal}
-use Rattle.lay_input.specs.declared.check.Check.{Check}
 use Rattle.lay_audit.specs.declared.verdict.Verdict.{Verdict}
 use Rattle.lay_audit.specs.declared.verdict.Verdict.TheVariants.{Yes, No}
 use Rattle.lay_audit.specs.LegalReports.{IsLegalReport}
 use Rattle.lay_audit.specs.Laws.{OneVerdict, YesIsLegal}
-use Rattle.lay_check.specs.Judging.{IsVerdictOn, basis_in, verdict_line}
+use Rattle.lay_check.specs.Judging.{basis_in, verdict_line}
 use Rattle.lay_check.specs.Laws.{OneVerdictLine, YesIsForLegalReports}
 
 pub one_verdict_line_lem : OneVerdict → OneVerdictLine

@@ -25,7 +25,8 @@ pub record TookFrontOf (Reports : Option State → List ℕ → Type 0) (Refuses
 abbrev pub TookWhole : (List ℕ → Type 0) → SinkValue → SinkValue → Type 0
 TookWhole Is s t = (text : List ℕ) × Is text × Took s.taken t.taken text
 
-pub record Ends (Reports : Option State → List ℕ → Type 0) (Refuses : List ℕ → Type 0) (status : Status) (s t : SinkValue) (kept : Option State) : Type 0 where
+pub record Ends (Reports : Option State → List ℕ → Type 0) (Refuses : List ℕ → Type 0) (status : Status)
+    (s t : SinkValue) (kept : Option State) : Type 0 where
   pub ok : status ≡ Ok → TookWhole (Reports kept) s t
   pub not_ok : status ≢ Ok → kept ≡ None
   pub refused : status ≡ Refused → TookWhole Refuses s t

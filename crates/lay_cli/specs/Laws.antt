@@ -14,7 +14,8 @@ use Rattle.lay_cli.specs.Summaries.{IsOnlySummary}
 abbrev pub RunReportsAreAnsweredYes : Type 0
 RunReportsAreAnsweredYes = (workers : ℕ) (bytes report both : List ℕ) (kept : Option State)
     → Reports (form.Run workers) (Some bytes) kept report → HoldsBoth bytes report both
-    → IsAskedWell form.Check both × ((core : Option State) (line : List ℕ) → Reports form.Check (Some both) core line → line ≡ codes "yes\n")
+    → IsAskedWell form.Check both
+    × ((core : Option State) (line : List ℕ) → Reports form.Check (Some both) core line → line ≡ codes "yes\n")
 
 -- the summary of a core that answered the editors of a generated run, and accepted each of their lists of edits, is that of the numbers
 abbrev pub SummariesComeOfNumbers : Type 0

@@ -5,7 +5,9 @@ use Rattle.lay_json.specs.declared.fault.Field.{Field}
 use Rattle.lay_json.specs.declared.fault.Spot.{Spot}
 use Rattle.lay_json.specs.declared.fault.Spot.TheVariants.{Run, Node, Command}
 use Rattle.lay_json.specs.declared.fault.InputFault.{InputFault}
-use Rattle.lay_json.specs.declared.fault.InputFault.TheVariants.{TooLong, BadJson, Missing, WrongKind, BadNumber, BadNode, BadDecl, TooManyEditors, TooManyCommands, BatchTooLong, TooManySelectors, NoMemory}
+use Rattle.lay_json.specs.declared.fault.InputFault.TheVariants.{TooLong, BadJson, Missing, WrongKind, BadNumber, BadNode, BadDecl}
+use Rattle.lay_json.specs.declared.fault.InputFault.TheVariants.{TooManyEditors, TooManyCommands, BatchTooLong, TooManySelectors}
+use Rattle.lay_json.specs.declared.fault.InputFault.TheVariants.{NoMemory}
 use Rattle.lay_json.specs.Fields.{name_of}
 use Rattle.lay_report.specs.Report.{fault_number}
 

@@ -30,10 +30,12 @@ pub fn hit<S: Source, K: Sink>(
     sink: &mut K,
 ) -> Status
     ensures ends { Ends (Reports (form.Hit x y) (S.left source.old)) (Refuses (form.Hit x y) (S.left source.old)) result
-        (record { taken = K.taken sink.old; faults = K.faults sink.old }) (record { taken = K.taken sink.new; faults = K.faults sink.new }) None }
+        (record { taken = K.taken sink.old; faults = K.faults sink.old })
+        (record { taken = K.taken sink.new; faults = K.faults sink.new }) None }
     ensures drained { result ≡ Status.Ok → IsDrained (S.left source.old) (S.left source.new) }
     ensures refused_read { result ≡ Status.Refused → IsReadOut (S.left source.old) (S.left source.new) }
-    ensures read_fault { result ≡ Status.ReadFault → Rose (S.faults source.old) (S.faults source.new) × (K.taken sink.new ≡ K.taken sink.old) }
+    ensures read_fault { result ≡ Status.ReadFault
+        → Rose (S.faults source.old) (S.faults source.new) × (K.taken sink.new ≡ K.taken sink.old) }
     ensures never_usage { result ≢ Status.Usage }
 {
     match run_input(alloc, source) {
@@ -47,7 +49,8 @@ pub fn hit<S: Source, K: Sink>(
 /// Writes which piece of a run's document is seen at a point.
 fn seen<K: Sink>(alloc: Global, run: &RunDoc, at: Point, sink: &mut K) -> Status
     ensures ends { Ends (λ kept text. (kept ≡ None) × IsHitReport run.now at text) (λ line. ⊥) result
-        (record { taken = K.taken sink.old; faults = K.faults sink.old }) (record { taken = K.taken sink.new; faults = K.faults sink.new }) None }
+        (record { taken = K.taken sink.old; faults = K.faults sink.old })
+        (record { taken = K.taken sink.new; faults = K.faults sink.new }) None }
     ensures never_usage { result ≢ Status.Usage }
     ensures never_read_fault { result ≢ Status.ReadFault }
 {

@@ -39,38 +39,49 @@ pub fn top<R: Threads + Wait + Sync, S: Source, K: Sink, G: Gate + Sync>(
     // What was written is the report for the words and the bytes, of the core that is kept.
     ensures ok { result ≡ Status.Ok → (asked : Form) × HaveForm words.now asked × AreRead asked (S.left source.old) (S.left source.new)
         × TookWhole (Reports asked (S.left source.old) kept.new)
-        (record { taken = K.taken sink.old; faults = K.faults sink.old }) (record { taken = K.taken sink.new; faults = K.faults sink.new }) }
+        (record { taken = K.taken sink.old; faults = K.faults sink.old })
+        (record { taken = K.taken sink.new; faults = K.faults sink.new }) }
     ensures kept { result ≢ Status.Ok → kept.new ≡ None }
     ensures refused { result ≡ Status.Refused → (asked : Form) × HaveForm words.now asked
         × TookWhole (Refuses asked (S.left source.old))
-        (record { taken = K.taken sink.old; faults = K.faults sink.old }) (record { taken = K.taken sink.new; faults = K.faults sink.new }) }
+        (record { taken = K.taken sink.old; faults = K.faults sink.old })
+        (record { taken = K.taken sink.new; faults = K.faults sink.new }) }
     ensures refused_read { result ≡ Status.Refused → IsReadOut (S.left source.old) (S.left source.new) }
     ensures usage { result ≡ Status.Usage → HaveNoForm words.now × Took (K.taken sink.old) (K.taken sink.new) (codes "usage\n") }
-    ensures read_fault { result ≡ Status.ReadFault → Rose (S.faults source.old) (S.faults source.new) × (K.taken sink.new ≡ K.taken sink.old) }
+    ensures read_fault { result ≡ Status.ReadFault
+        → Rose (S.faults source.old) (S.faults source.new) × (K.taken sink.new ≡ K.taken sink.old) }
     ensures write_fault { result ≡ Status.WriteFault → Rose (K.faults sink.old) (K.faults sink.new) }
 
     // After a fault of the sink and for want of memory it has a front of an answer, or nothing.
     ensures front { result ≡ Status.WriteFault → (asked : Form) → HaveForm words.now asked
         → TookFrontOf (Reports asked (S.left source.old)) (Refuses asked (S.left source.old))
-        (record { taken = K.taken sink.old; faults = K.faults sink.old }) (record { taken = K.taken sink.new; faults = K.faults sink.new }) }
-    ensures usage_front { result ≡ Status.WriteFault → HaveNoForm words.now → TookFront (K.taken sink.old) (K.taken sink.new) (codes "usage\n") }
+        (record { taken = K.taken sink.old; faults = K.faults sink.old })
+        (record { taken = K.taken sink.new; faults = K.faults sink.new }) }
+    ensures usage_front { result ≡ Status.WriteFault → HaveNoForm words.now
+        → TookFront (K.taken sink.old) (K.taken sink.new) (codes "usage\n") }
     ensures no_memory { result ≡ Status.NoMemory → (K.taken sink.new ≡ K.taken sink.old) ⊎ ((asked : Form) × HaveForm words.now asked
         × TookFrontOf (Reports asked (S.left source.old)) (Refuses asked (S.left source.old))
-        (record { taken = K.taken sink.old; faults = K.faults sink.old }) (record { taken = K.taken sink.new; faults = K.faults sink.new })) }
+        (record { taken = K.taken sink.old; faults = K.faults sink.old })
+        (record { taken = K.taken sink.new; faults = K.faults sink.new })) }
 
     // Wrong words and `gen` read nothing.
     ensures unread { HaveNoForm words.now → (S.left source.new ≡ S.left source.old) × (S.faults source.new ≡ S.faults source.old) }
-    ensures gen_reads_none { (size seed workers : ℕ) → HaveForm words.now (form.Gen size seed workers) → (S.left source.new ≡ S.left source.old) × (S.faults source.new ≡ S.faults source.old) }
+    ensures gen_reads_none { (size seed workers : ℕ) → HaveForm words.now (form.Gen size seed workers)
+        → (S.left source.new ≡ S.left source.old) × (S.faults source.new ≡ S.faults source.old) }
     ensures wrong_words { HaveNoForm words.now → (result ≡ Status.Usage) ⊎ (result ≡ Status.WriteFault) ⊎ (result ≡ Status.NoMemory) }
 
     // Without faults of the streams, bytes that spell a run have its report and others their refusal, but for want of memory;
     // and a generated run has its summary.
-    ensures complete { (asked : Form) → HaveForm words.now asked → IsQuiet (S.faults source.old) (S.faults source.new) → IsQuiet (K.faults sink.old) (K.faults sink.new)
+    ensures complete { (asked : Form) → HaveForm words.now asked → IsQuiet (S.faults source.old) (S.faults source.new)
+        → IsQuiet (K.faults sink.old) (K.faults sink.new)
         → IfSome (S.left source.old) (λ bytes. IsAskedWell asked bytes → (result ≡ Status.Ok) ⊎ (result ≡ Status.NoMemory)) }
-    ensures gen_complete { (size seed workers : ℕ) → HaveForm words.now (form.Gen size seed workers) → IsQuiet (K.faults sink.old) (K.faults sink.new)
+    ensures gen_complete { (size seed workers : ℕ) → HaveForm words.now (form.Gen size seed workers)
+        → IsQuiet (K.faults sink.old) (K.faults sink.new)
         → (result ≡ Status.Ok) ⊎ (result ≡ Status.NoMemory) }
-    ensures refuses { (asked : Form) → HaveForm words.now asked → IsQuiet (S.faults source.old) (S.faults source.new) → IsQuiet (K.faults sink.old) (K.faults sink.new)
-        → IfSome (S.left source.old) (λ bytes. (line : List ℕ) → IsRefused asked bytes line → (result ≡ Status.Refused) ⊎ (result ≡ Status.NoMemory)) }
+    ensures refuses { (asked : Form) → HaveForm words.now asked → IsQuiet (S.faults source.old) (S.faults source.new)
+        → IsQuiet (K.faults sink.old) (K.faults sink.new)
+        → IfSome (S.left source.old)
+        (λ bytes. (line : List ℕ) → IsRefused asked bytes line → (result ≡ Status.Refused) ⊎ (result ≡ Status.NoMemory)) }
 {
     match read_words(means.alloc, words) {
         Ok(Some(form)) => asked(means, form, source, sink, kept),
@@ -90,12 +101,15 @@ fn asked<R: Threads + Wait + Sync, S: Source, K: Sink, G: Gate + Sync>(
     requires range { IsInRange wanted }
     requires kept { kept.old ≡ None }
     ensures ends { Ends (Reports wanted (S.left source.old)) (Refuses wanted (S.left source.old)) result
-        (record { taken = K.taken sink.old; faults = K.faults sink.old }) (record { taken = K.taken sink.new; faults = K.faults sink.new }) kept.new }
+        (record { taken = K.taken sink.old; faults = K.faults sink.old })
+        (record { taken = K.taken sink.new; faults = K.faults sink.new }) kept.new }
     ensures read { result ≡ Status.Ok → AreRead wanted (S.left source.old) (S.left source.new) }
     ensures refused_read { result ≡ Status.Refused → IsReadOut (S.left source.old) (S.left source.new) }
-    ensures read_fault { result ≡ Status.ReadFault → IsReader wanted × Rose (S.faults source.old) (S.faults source.new) × (K.taken sink.new ≡ K.taken sink.old) }
+    ensures read_fault { result ≡ Status.ReadFault
+        → IsReader wanted × Rose (S.faults source.old) (S.faults source.new) × (K.taken sink.new ≡ K.taken sink.old) }
     ensures never_usage { result ≢ Status.Usage }
-    ensures gen_reads_none { (size seed workers : ℕ) → wanted ≡ form.Gen size seed workers → (S.left source.new ≡ S.left source.old) × (S.faults source.new ≡ S.faults source.old) }
+    ensures gen_reads_none { (size seed workers : ℕ) → wanted ≡ form.Gen size seed workers
+        → (S.left source.new ≡ S.left source.old) × (S.faults source.new ≡ S.faults source.old) }
 {
     match wanted {
         Form::Scratch => scratch(means.alloc, source, sink),

@@ -21,10 +21,12 @@ use std::alloc::Global;
 /// report says is trusted.
 pub fn check<S: Source, K: Sink>(alloc: Global, source: &mut S, sink: &mut K) -> Status
     ensures ends { Ends (Reports form.Check (S.left source.old)) (Refuses form.Check (S.left source.old)) result
-        (record { taken = K.taken sink.old; faults = K.faults sink.old }) (record { taken = K.taken sink.new; faults = K.faults sink.new }) None }
+        (record { taken = K.taken sink.old; faults = K.faults sink.old })
+        (record { taken = K.taken sink.new; faults = K.faults sink.new }) None }
     ensures drained { result ≡ Status.Ok → IsDrained (S.left source.old) (S.left source.new) }
     ensures refused_read { result ≡ Status.Refused → IsReadOut (S.left source.old) (S.left source.new) }
-    ensures read_fault { result ≡ Status.ReadFault → Rose (S.faults source.old) (S.faults source.new) × (K.taken sink.new ≡ K.taken sink.old) }
+    ensures read_fault { result ≡ Status.ReadFault
+        → Rose (S.faults source.old) (S.faults source.new) × (K.taken sink.new ≡ K.taken sink.old) }
     ensures never_usage { result ≢ Status.Usage }
 {
     match check_input(alloc, source) {
@@ -38,7 +40,8 @@ pub fn check<S: Source, K: Sink>(alloc: Global, source: &mut S, sink: &mut K) ->
 /// Judges a report, and writes the verdict.
 fn judged<K: Sink>(alloc: Global, check: &Check, sink: &mut K) -> Status
     ensures ends { Ends (λ kept text. (kept ≡ None) × IsVerdictOn check.now text) (λ line. ⊥) result
-        (record { taken = K.taken sink.old; faults = K.faults sink.old }) (record { taken = K.taken sink.new; faults = K.faults sink.new }) None }
+        (record { taken = K.taken sink.old; faults = K.faults sink.old })
+        (record { taken = K.taken sink.new; faults = K.faults sink.new }) None }
     ensures never_usage { result ≢ Status.Usage }
     ensures never_read_fault { result ≢ Status.ReadFault }
 {

@@ -1,6 +1,6 @@
 //! The answers to `run` and `gen`.
 
-ghost use Rattle.std.specs.Prelude.{◌≡◌, ◌≢◌, ◌<◌, ◌≤◌, ◌^◌, ℕ, IfOk, None};
+ghost use Rattle.std.specs.Prelude.{◌≡◌, ◌≢◌, ◌<◌, ◌≤◌, ◌^◌, IfOk, None};
 ghost use Rattle.lay_layout.specs.history.Legal.{IsWhole};
 ghost use Rattle.lay_outside.specs.Outside.{Rose};
 ghost use Rattle.lay_words.specs.declared.form.Form.TheVariants as form;
@@ -43,10 +43,12 @@ pub(crate) fn run<R: Threads + Wait + Sync, S: Source, K: Sink, G: Gate + Sync>(
     requires workers { (0 < workers) × (workers ≤ 16) }
     requires kept { kept.old ≡ None }
     ensures ends { Ends (Reports (form.Run workers) (S.left source.old)) (Refuses (form.Run workers) (S.left source.old)) result
-        (record { taken = K.taken sink.old; faults = K.faults sink.old }) (record { taken = K.taken sink.new; faults = K.faults sink.new }) kept.new }
+        (record { taken = K.taken sink.old; faults = K.faults sink.old })
+        (record { taken = K.taken sink.new; faults = K.faults sink.new }) kept.new }
     ensures drained { result ≡ Status.Ok → IsDrained (S.left source.old) (S.left source.new) }
     ensures refused_read { result ≡ Status.Refused → IsReadOut (S.left source.old) (S.left source.new) }
-    ensures read_fault { result ≡ Status.ReadFault → Rose (S.faults source.old) (S.faults source.new) × (K.taken sink.new ≡ K.taken sink.old) }
+    ensures read_fault { result ≡ Status.ReadFault
+        → Rose (S.faults source.old) (S.faults source.new) × (K.taken sink.new ≡ K.taken sink.old) }
     ensures never_usage { result ≢ Status.Usage }
 {
     match run_input(means.alloc, source) {
@@ -68,7 +70,8 @@ fn driven<R: Threads + Wait + Sync, K: Sink, G: Gate + Sync>(
     requires workers { (0 < workers) × (workers ≤ 16) }
     requires kept { kept.old ≡ None }
     ensures ends { Ends (λ kept text. OfKept kept (λ s. IsRunReport run s text)) (λ line. ⊥) result
-        (record { taken = K.taken sink.old; faults = K.faults sink.old }) (record { taken = K.taken sink.new; faults = K.faults sink.new }) kept.new }
+        (record { taken = K.taken sink.old; faults = K.faults sink.old })
+        (record { taken = K.taken sink.new; faults = K.faults sink.new }) kept.new }
     ensures never_usage { result ≢ Status.Usage }
     ensures never_read_fault { result ≢ Status.ReadFault }
 {
@@ -111,7 +114,8 @@ pub(crate) fn generate<R: Threads + Wait + Sync, K: Sink, G: Gate + Sync>(
     requires workers { (0 < asked.workers) × (asked.workers ≤ 16) }
     requires kept { kept.old ≡ None }
     ensures ends { Ends (λ kept text. OfKept kept (λ s. IsSummary asked.size asked.seed s text)) (λ line. ⊥) result
-        (record { taken = K.taken sink.old; faults = K.faults sink.old }) (record { taken = K.taken sink.new; faults = K.faults sink.new }) kept.new }
+        (record { taken = K.taken sink.old; faults = K.faults sink.old })
+        (record { taken = K.taken sink.new; faults = K.faults sink.new }) kept.new }
     ensures never_refused { result ≢ Status.Refused }
     ensures never_usage { result ≢ Status.Usage }
     ensures never_read_fault { result ≢ Status.ReadFault }

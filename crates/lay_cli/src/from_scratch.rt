@@ -18,10 +18,12 @@ use std::alloc::Global;
 /// Lays out the run document that the source has left, its editors taken as none, and writes the report.
 pub fn scratch<S: Source, K: Sink>(alloc: Global, source: &mut S, sink: &mut K) -> Status
     ensures ends { Ends (Reports form.Scratch (S.left source.old)) (Refuses form.Scratch (S.left source.old)) result
-        (record { taken = K.taken sink.old; faults = K.faults sink.old }) (record { taken = K.taken sink.new; faults = K.faults sink.new }) None }
+        (record { taken = K.taken sink.old; faults = K.faults sink.old })
+        (record { taken = K.taken sink.new; faults = K.faults sink.new }) None }
     ensures drained { result ≡ Status.Ok → IsDrained (S.left source.old) (S.left source.new) }
     ensures refused_read { result ≡ Status.Refused → IsReadOut (S.left source.old) (S.left source.new) }
-    ensures read_fault { result ≡ Status.ReadFault → Rose (S.faults source.old) (S.faults source.new) × (K.taken sink.new ≡ K.taken sink.old) }
+    ensures read_fault { result ≡ Status.ReadFault
+        → Rose (S.faults source.old) (S.faults source.new) × (K.taken sink.new ≡ K.taken sink.old) }
     ensures never_usage { result ≢ Status.Usage }
 {
     match run_input(alloc, source) {
@@ -35,7 +37,8 @@ pub fn scratch<S: Source, K: Sink>(alloc: Global, source: &mut S, sink: &mut K) 
 /// Lays out a run's document, and writes the report.
 fn laid_out<K: Sink>(alloc: Global, run: &RunDoc, sink: &mut K) -> Status
     ensures ends { Ends (λ kept text. (kept ≡ None) × IsScratchReport run.now text) (λ line. ⊥) result
-        (record { taken = K.taken sink.old; faults = K.faults sink.old }) (record { taken = K.taken sink.new; faults = K.faults sink.new }) None }
+        (record { taken = K.taken sink.old; faults = K.faults sink.old })
+        (record { taken = K.taken sink.new; faults = K.faults sink.new }) None }
     ensures never_usage { result ≢ Status.Usage }
     ensures never_read_fault { result ≢ Status.ReadFault }
 {

@@ -1,7 +1,6 @@
 //! Reading a source to its end.
 
-ghost use Rattle.std.specs.Prelude.{◌≡◌, ◌<◌, ◌≤◌, ◌++◌, [], Some, Option, length, IfOk, OnOk, IfErr, IfSome};
-ghost use Rattle.lay_outside.specs.Outside.{Rose};
+ghost use Rattle.std.specs.Prelude.{◌≡◌, ◌<◌, ◌≤◌, ◌++◌, length, IfOk, OnOk, IfErr};
 ghost use Rattle.lay_cli.specs.Input.{WasAll, IsDrained, IsCause};
 
 use lay_outside::Source;

@@ -73,7 +73,8 @@ fn push_place(text: &mut String, place: Spot) -> Result<(), NoMemory>
 }
 
 fn push_node_fault(text: &mut String, node: u32, fault: EditFault) -> Result<(), NoMemory>
-    ensures { OnOk result (string_bytes text.new ≡ string_bytes text.old ++ codes "I5 " ++ decimal node ++ codes " E" ++ decimal (fault_number fault)) }
+    ensures { OnOk result
+        (string_bytes text.new ≡ string_bytes text.old ++ codes "I5 " ++ decimal node ++ codes " E" ++ decimal (fault_number fault)) }
 {
     push_number(text, "I5 ", u64::from(node))?;
     push_number(text, " E", fault_number(fault))

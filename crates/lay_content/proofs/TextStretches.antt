@@ -15,6 +15,7 @@ use Rattle.lay_space.specs.Modes.{collapses, joins_lines, wraps}
 use Rattle.lay_space.specs.Tokens.{cluster_tokens, kind_of, next_place, without_leading_spaces}
 use Rattle.lay_space.specs.Breaks.{back_break, break_after, broken, settled, solid_after}
 use Rattle.lay_space.specs.Segments.{bytes_of, cut, last_segment, segments_of, text_of}
+use Rattle.lay_space.specs.BreakPlaces.{is_linefeed}
 use Rattle.lay_line_content.specs.declared.content.Part.{Part}
 use Rattle.lay_line_content.specs.declared.content.Part.TheVariants as part
 use Rattle.lay_line_content.specs.declared.content.Stretch.{Stretch}
@@ -23,7 +24,7 @@ use Rattle.lay_content.specs.declared.text_parts.TextBox.{TextBox}
 use Rattle.lay_content.specs.BoxMeasuresValue.{BoxMeasuresValue}
 use Rattle.lay_content.specs.Stretches.{stretch_of, stretches_of}
 use Rattle.lay_content.specs.TextParts.{advance, cluster_parts, parts_between}
-use Rattle.lay_content.specs.TextStretches.{breaks, cut_parts, cuts, ends_line, is_space, last_stretch, text_stretch}
+use Rattle.lay_content.specs.TextStretches.{breaks, cut_parts, cuts, is_space, last_stretch, text_stretch}
 use Rattle.lay_content.proofs.CutParts.{cut_of, cut_text_parts, cuts_more, cuts_of}
 
 -- The stretches of these clusters and of the parts before them, which no line breaks between. `first` says whether a line
@@ -33,8 +34,8 @@ stretches_from t text first parts [] = last_stretch parts
 stretches_from t text first parts (w ∷ ws) =
     if first && is_space (kind_of t.mode text w.place (next_place text ws)) then stretches_from t text first parts ws
     else (if breaks (kind_of t.mode text w.place (next_place text ws))
-    then text_stretch (parts ++ cut_parts t text w (next_place text ws)) (ends_line (kind_of t.mode text w.place (next_place text ws)))
-    ∷ stretches_from t text (ends_line (kind_of t.mode text w.place (next_place text ws))) [] ws
+    then text_stretch (parts ++ cut_parts t text w (next_place text ws)) (is_linefeed (kind_of t.mode text w.place (next_place text ws)))
+    ∷ stretches_from t text (is_linefeed (kind_of t.mode text w.place (next_place text ws))) [] ws
     else stretches_from t text false (parts ++ cut_parts t text w (next_place text ws)) ws)
 
 -- the first of these clusters is of the text of the box t
@@ -171,7 +172,7 @@ cluster_as t w to k = record { item = 0; node = t.node; mode = t.mode; kind = k;
 abbrev turned : ClusterKind → Bool → List Part → (Bool → List Part → List Stretch) → List Part → List Stretch
 turned k first cut next ps =
     if first && is_space k then next first ps
-    else (if breaks k then text_stretch (ps ++ cut) (ends_line k) ∷ next (ends_line k) [] else next false (ps ++ cut))
+    else (if breaks k then text_stretch (ps ++ cut) (is_linefeed k) ∷ next (is_linefeed k) [] else next false (ps ++ cut))
 
 comes_kind : (M : BoxMeasuresValue) (C : Container) (items : List Item) (t : TextBox) (xs : List Token) (next : Bool → List Part → List Stretch) (w : ClusterWidth) (to : ℕ) (k : ClusterKind) → Comes M C items t xs next
     → wraps t.mode ≡ true → is_kept k ≡ false → (begins : Bool) (at : Option Bool) (solid first : Bool) (held : List Cluster) → Begins t held

@@ -4,13 +4,13 @@
 use Rattle.std.specs.Prelude.{ℤ, pos, ◌*ℤ◌, true, List, Option, Some, None, slice_get}
 use Rattle.lay_units.specs.Units.{percentage_of}
 use Rattle.lay_units.specs.declared.length.Unit.{Unit as Length}
+use Rattle.lay_units.specs.Lengths.{no_length}
 use Rattle.lay_style.specs.LengthValues.{length_of}
 use Rattle.lay_style.specs.declared.style_lengths.LengthPercentage.{LengthPercentage}
 use Rattle.lay_style.specs.declared.style_lengths.LengthPercentage.TheVariants as measure
 use Rattle.lay_box_tree.specs.declared.box_tree.BoxNode.{BoxNode}
 use Rattle.lay_face.specs.FaceValue.{FaceValue}
 use Rattle.lay_face.specs.Faces.{entry_of, thousandths_of}
-use Rattle.lay_sizes.specs.UsedLengths.{no_length}
 use Rattle.lay_space.specs.declared.segment.Segment.{Segment}
 use Rattle.lay_line_content.specs.declared.content.Stretch.{Stretch}
 use Rattle.lay_line_content.specs.LineContents.{LineContentValue, content_of}

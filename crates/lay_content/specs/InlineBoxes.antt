@@ -2,8 +2,9 @@
 -- margin, border and padding where it starts, and of its right ones where it ends. Where blocks broke it into parts, its
 -- left edges stand on the first part and its right ones on the last. 9.4.2 speaks of inline elements "with non-zero
 -- margins, padding, or borders": such an edge makes its line seen, one above or below each line that the box is on.
-use Rattle.std.specs.Prelude.{ℕ, ◌==◌, ℤ, pos, negsuc, ◌+ℤ◌, Bool, true, not, ◌&&◌, ◌||◌, List, [], ◌∷◌, ◌++◌, zero, suc, length, Option, Some, None, slice_get, if◌then◌else◌}
-use Rattle.lay_units.specs.declared.length.Unit.{Unit as Length}
+use Rattle.std.specs.Prelude.{ℕ, ◌+ℤ◌, Bool, ◌&&◌, ◌||◌, List, [], ◌∷◌}
+use Rattle.std.specs.Prelude.{◌++◌, zero, suc, length, Option, Some, None, slice_get, if◌then◌else◌}
+use Rattle.lay_units.specs.Lengths.{is_nonzero, no_length}
 use Rattle.lay_style.specs.declared.style.TextStyle.{TextStyle}
 use Rattle.lay_box_tree.specs.Roles.{role_of}
 use Rattle.lay_box_tree.specs.declared.box_role.Role.{Role}
@@ -13,7 +14,6 @@ use Rattle.lay_box_tree.specs.declared.inline_part.InlinePart.{InlinePart}
 use Rattle.lay_face.specs.FaceValue.{FaceValue}
 use Rattle.lay_sizes.specs.declared.sizing.BoxSizes.{BoxSizes}
 use Rattle.lay_sizes.specs.SizeColumns.{sizes_at}
-use Rattle.lay_sizes.specs.UsedLengths.{no_length}
 use Rattle.lay_line_content.specs.declared.content.InlineArea.{InlineArea}
 use Rattle.lay_line_content.specs.declared.content.InlineStart.{InlineStart}
 use Rattle.lay_line_content.specs.declared.content.InlineEnd.{InlineEnd}
@@ -26,22 +26,15 @@ use Rattle.lay_content.specs.BoxMeasuresValue.{BoxMeasuresValue, part_at}
 use Rattle.lay_content.specs.LineHeights.{ascent, descent, extent_of}
 use Rattle.lay_content.specs.VerticalAlignment.{shift_at}
 
-abbrev pub is_nonzero : Length → Bool
-is_nonzero u = nonzero u.0
-  where
-    nonzero : ℤ → Bool
-    nonzero (pos n) = not (n == 0)
-    nonzero (negsuc n) = true
-
 -- a margin, a border or a padding above or below isn't 0
 abbrev pub has_vertical_edges : BoxSizes → Bool
-has_vertical_edges z = is_nonzero z.margin_top || is_nonzero z.edges.top || is_nonzero z.edges.bottom || is_nonzero z.margin_bottom
+has_vertical_edges z = is_nonzero z.margin_top.0 || is_nonzero z.edges.top.0 || is_nonzero z.edges.bottom.0 || is_nonzero z.margin_bottom.0
 
 abbrev pub has_left_edges : BoxSizes → Bool
-has_left_edges z = is_nonzero z.widths.margin_left || is_nonzero z.edges.left
+has_left_edges z = is_nonzero z.widths.margin_left.0 || is_nonzero z.edges.left.0
 
 abbrev pub has_right_edges : BoxSizes → Bool
-has_right_edges z = is_nonzero z.edges.right || is_nonzero z.widths.margin_right
+has_right_edges z = is_nonzero z.edges.right.0 || is_nonzero z.widths.margin_right.0
 
 -- how far the inline box at k reaches above and below the baseline
 abbrev pub extent_in : FaceValue → Option BoxNode → Extent

@@ -26,7 +26,8 @@ SeenLinesAreSeen =
 -- Only a stretch that surely begins a line has floats that are met before its content, so each float of it has a place
 -- when its lines are laid (law `each_float_has_a_place` of lay_lines).
 abbrev pub HeadsOfContentBeginLines : Type 0
-HeadsOfContentBeginLines = (m : BoxMeasuresValue) (c : Container) (segments : List Segment) → HeadsBeginLines (content_in m c segments).stretches
+HeadsOfContentBeginLines = (m : BoxMeasuresValue) (c : Container) (segments : List Segment)
+    → HeadsBeginLines (content_in m c segments).stretches
 
 -- "This is the height of their margin box" (10.8.1): so far an atomic box reaches above and below its baseline together,
 -- and where it has none, it reaches nowhere below.

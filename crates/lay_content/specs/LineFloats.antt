@@ -1,6 +1,7 @@
 -- Floats that stand in the content of lines (CSS 2.2, 9.5 and 9.5.1): a float is as large as its margin box and stands
 -- between the content edges of the container.
 use Rattle.std.specs.Prelude.{ℕ, Option, Some, None, slice_get}
+use Rattle.lay_units.specs.Lengths.{no_length}
 use Rattle.lay_style.specs.declared.style_words.Clear.{Clear as ClearStyle}
 use Rattle.lay_style.specs.declared.style_words.Clear.TheVariants as clear
 use Rattle.lay_box_tree.specs.Roles.{role_of, clear_of}
@@ -14,7 +15,6 @@ use Rattle.lay_floats.specs.declared.requests.Side.{Side}
 use Rattle.lay_floats.specs.declared.requests.Side.TheVariants as side
 use Rattle.lay_sizes.specs.declared.own_boxes.OwnBox.{OwnBox}
 use Rattle.lay_sizes.specs.OwnBoxes.{margin_height, margin_width, own_box_at}
-use Rattle.lay_sizes.specs.UsedLengths.{no_length}
 use Rattle.lay_line_content.specs.declared.content.LineFloat.{LineFloat}
 use Rattle.lay_content.specs.declared.container.Container.{Container}
 use Rattle.lay_content.specs.BoxMeasuresValue.{BoxMeasuresValue}

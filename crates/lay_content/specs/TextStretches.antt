@@ -21,15 +21,6 @@ is_space Tab = false
 is_space ZeroWidthSpace = false
 is_space Other = false
 
--- whether a line has to break behind it
-abbrev pub ends_line : ClusterKind → Bool
-ends_line CollapsibleSpace = false
-ends_line PreservedSpace = false
-ends_line Linefeed = true
-ends_line Tab = false
-ends_line ZeroWidthSpace = false
-ends_line Other = false
-
 -- whether a line may break behind it, or has to
 abbrev pub breaks : ClusterKind → Bool
 breaks CollapsibleSpace = true

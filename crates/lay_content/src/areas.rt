@@ -1,8 +1,8 @@
 //! What is painted of texts, inline boxes and atomic boxes.
 
 ghost use Rattle.std.specs.Prelude.{◌≡◌, ◌^◌, pos, ◌+ℤ◌, All, Some, IfOk, if◌then◌else◌};
-ghost use Rattle.lay_sizes.specs.UsedLengths.{no_length};
 ghost use Rattle.lay_units.specs.Units.{IsUsed};
+ghost use Rattle.lay_units.specs.Lengths.{no_length};
 ghost use Rattle.lay_content.specs.AreaBounds.{AreaNear};
 ghost use Rattle.lay_content.specs.InlineBoxes.{area_at, area_in, areas_of, inline_area, text_area};
 ghost use Rattle.lay_sizes.specs.SizeBounds.{IsInset, SizeFits};

@@ -7,11 +7,10 @@ ghost use Rattle.lay_content.specs.AreaBounds.{AreaNear};
 ghost use Rattle.lay_content.specs.AtomicBoxes.{atomic_area, atomic_at, border_extent, margin_extent};
 
 use crate::box_measures::BoxMeasures;
-use crate::sums::sum_of;
 use crate::vertical_alignment::shift_at;
 use lay_line_content::{AtomicBox, Extent, InlineArea};
 use lay_sizes::OwnBox;
-use lay_units::Unit;
+use lay_units::{Unit, sum_of};
 
 /// The atomic box at a place.
 pub(crate) fn atomic_at(measures: &BoxMeasures<'_>, place: u32) -> AtomicBox

@@ -2,18 +2,18 @@
 
 ghost use Rattle.std.specs.Prelude.{◌≡◌, ◌+ℤ◌, if◌then◌else◌};
 ghost use Rattle.lay_units.specs.Units.{IsPosition};
-ghost use Rattle.lay_sizes.specs.UsedLengths.{no_length};
+ghost use Rattle.lay_units.specs.Lengths.{no_length};
 ghost use Rattle.lay_sizes.specs.SizeBounds.{SizeFits};
-ghost use Rattle.lay_content.specs.InlineBoxes.{end_at, end_in, extent_at, has_left_edges, has_right_edges, has_vertical_edges, is_nonzero, start_at, start_in};
+ghost use Rattle.lay_content.specs.InlineBoxes.{end_at, end_in, extent_at, has_left_edges};
+ghost use Rattle.lay_content.specs.InlineBoxes.{has_right_edges, has_vertical_edges, start_at, start_in};
 
 use crate::box_measures::BoxMeasures;
 use crate::line_heights::extent_of;
-use crate::sums::sum_of;
 use crate::vertical_alignment::shift_at;
 use lay_box_tree::InlinePart;
 use lay_line_content::{Extent, InlineEnd, InlineStart};
 use lay_sizes::BoxSizes;
-use lay_units::Unit;
+use lay_units::{Unit, is_nonzero, sum_of};
 use lay_valign::Shift;
 
 /// The start of the inline box at a place.
@@ -95,26 +95,20 @@ pub(crate) fn extent_at(measures: &BoxMeasures<'_>, k: usize) -> Extent
 fn has_vertical_edges(sizes: &BoxSizes) -> bool
     ensures { result ≡ has_vertical_edges sizes.now }
 {
-    is_nonzero(sizes.margin_top)
-        || is_nonzero(sizes.edges.top)
-        || is_nonzero(sizes.edges.bottom)
-        || is_nonzero(sizes.margin_bottom)
+    is_nonzero(sizes.margin_top.0)
+        || is_nonzero(sizes.edges.top.0)
+        || is_nonzero(sizes.edges.bottom.0)
+        || is_nonzero(sizes.margin_bottom.0)
 }
 
 fn has_left_edges(sizes: &BoxSizes) -> bool
     ensures { result ≡ has_left_edges sizes.now }
 {
-    is_nonzero(sizes.widths.margin_left) || is_nonzero(sizes.edges.left)
+    is_nonzero(sizes.widths.margin_left.0) || is_nonzero(sizes.edges.left.0)
 }
 
 fn has_right_edges(sizes: &BoxSizes) -> bool
     ensures { result ≡ has_right_edges sizes.now }
 {
-    is_nonzero(sizes.edges.right) || is_nonzero(sizes.widths.margin_right)
-}
-
-fn is_nonzero(length: Unit) -> bool
-    ensures { result ≡ is_nonzero length }
-{
-    length.0 != 0
+    is_nonzero(sizes.edges.right.0) || is_nonzero(sizes.widths.margin_right.0)
 }

@@ -19,7 +19,6 @@ mod line_floats;
 mod line_heights;
 mod seen_lines;
 mod stretches;
-mod sums;
 mod text_parts;
 mod text_stretches;
 mod vertical_alignment;

@@ -3,7 +3,8 @@
 ghost use Rattle.std.specs.Prelude.{◌≡◌, pos, ◌+ℤ◌, ◌-ℤ◌, ◌*ℤ◌, ◌≤ℤ◌};
 ghost use Rattle.lay_units.specs.Units.{IsPosition, IsSum, IsUsed, IsUsedSize, half_of};
 ghost use Rattle.lay_face.specs.Faces.{IsMeasure};
-ghost use Rattle.lay_content.specs.LineHeights.{ascent, descent, extent_of, font_size, leading, line_height, line_height_in, with_leading, x_height};
+ghost use Rattle.lay_content.specs.LineHeights.{ascent, descent, extent_of, font_size, leading};
+ghost use Rattle.lay_content.specs.LineHeights.{line_height, line_height_in, with_leading, x_height};
 
 use lay_face::Face;
 use lay_line_content::Extent;

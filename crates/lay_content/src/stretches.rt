@@ -85,8 +85,10 @@ impl Measured {
         container: Container,
         item: &Item,
     ) -> Result<(), NoMemory>
-        ensures heads { OnOk result (self.new.heads.items ≡ self.old.heads.items ++ (if self.old.ahead then floats_at measures.now container item.now else [])) }
-        ensures floats { OnOk result (self.new.floats.items ≡ self.old.floats.items ++ (if self.old.ahead then [] else floats_at measures.now container item.now)) }
+        ensures heads { OnOk result
+            (self.new.heads.items ≡ self.old.heads.items ++ (if self.old.ahead then floats_at measures.now container item.now else [])) }
+        ensures floats { OnOk result
+            (self.new.floats.items ≡ self.old.floats.items ++ (if self.old.ahead then [] else floats_at measures.now container item.now)) }
         ensures parts { OnOk result (self.new.parts.items ≡ self.old.parts.items ++ parts_at measures.now item.now) }
         ensures ahead { OnOk result (self.new.ahead ≡ (self.old.ahead && not (is_content item.now))) }
     {
@@ -102,8 +104,10 @@ impl Measured {
         container: Container,
         item: &Item,
     ) -> Result<(), NoMemory>
-        ensures heads { OnOk result (self.new.heads.items ≡ self.old.heads.items ++ (if self.old.ahead then floats_at measures.now container item.now else [])) }
-        ensures floats { OnOk result (self.new.floats.items ≡ self.old.floats.items ++ (if self.old.ahead then [] else floats_at measures.now container item.now)) }
+        ensures heads { OnOk result
+            (self.new.heads.items ≡ self.old.heads.items ++ (if self.old.ahead then floats_at measures.now container item.now else [])) }
+        ensures floats { OnOk result
+            (self.new.floats.items ≡ self.old.floats.items ++ (if self.old.ahead then [] else floats_at measures.now container item.now)) }
         ensures parts { self.new.parts.items ≡ self.old.parts.items }
         ensures ahead { self.new.ahead ≡ self.old.ahead }
     {

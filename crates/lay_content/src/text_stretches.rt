@@ -5,10 +5,11 @@ ghost use Rattle.lay_space.specs.declared.item.Item.TheVariants as item;
 ghost use Rattle.lay_space.specs.Modes.{collapses, wraps};
 ghost use Rattle.lay_space.specs.Segments.{segments_of};
 ghost use Rattle.lay_space.specs.Tokens.{kind_of};
+ghost use Rattle.lay_space.specs.BreakPlaces.{is_linefeed};
 ghost use Rattle.lay_content.specs.declared.container.Container.{Container};
 ghost use Rattle.lay_content.specs.BoxMeasuresValue.{BoxMeasuresValue};
 ghost use Rattle.lay_content.specs.Stretches.{stretches_of};
-ghost use Rattle.lay_content.specs.TextStretches.{breaks, cut_parts, cuts, ends_line, is_space, last_stretch, text_stretch};
+ghost use Rattle.lay_content.specs.TextStretches.{breaks, cut_parts, cuts, is_space, last_stretch, text_stretch};
 
 use crate::box_measures::BoxMeasures;
 use crate::container::Container;
@@ -74,7 +75,7 @@ fn text_stretches(
             continue;
         }
         put_cut(&mut parts, run, widths[k], to, kind)?;
-        first = ends_line(kind);
+        first = is_linefeed(kind);
         if breaks(kind) {
             put_stretch(alloc, &mut done, &mut parts, first)?;
         }
@@ -146,8 +147,8 @@ fn is_space(kind: ClusterKind) -> bool
     }
 }
 
-fn ends_line(kind: ClusterKind) -> bool
-    ensures { result ≡ ends_line kind }
+fn is_linefeed(kind: ClusterKind) -> bool
+    ensures { result ≡ is_linefeed kind }
 {
     match kind {
         ClusterKind::Linefeed => true,

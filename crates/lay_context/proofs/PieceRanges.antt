@@ -2,12 +2,11 @@
 use Rattle.std.proofs.Common.{ℕ, zero, suc, ℤ, ◌+ℤ◌, List, [], ◌∷◌, arith, Some, None, Option, IfSome, option_map, slice_get, subst, sym}
 use Rattle.std.proofs.lemmas.Int.{ints}
 use Rattle.std.proofs.lemmas.Option.{slice_get-map}
-use Rattle.lay_units.specs.Units.{IsPosition}
+use Rattle.lay_units.specs.Units.{IsPosition, IsNear}
 use Rattle.lay_units.specs.declared.length.Unit.{Unit as Length}
 use Rattle.lay_units.specs.declared.records.Rect.{Rect}
 use Rattle.lay_frag.specs.declared.frag.Frag.{Frag}
 use Rattle.lay_frag.specs.Pieces.{Context, AreInRange, IsRectInRange, IsContextInRange, moved, pieces_at}
-use Rattle.lay_pieces.specs.Corners.{IsNear}
 use Rattle.lay_pieces.specs.NearPieces.{AreNearPieces, IsRectNear}
 
 near_position : (v : ℤ) → IsNear v → IsPosition v

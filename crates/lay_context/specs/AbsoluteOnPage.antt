@@ -6,12 +6,12 @@ use Rattle.lay_units.specs.declared.length.Unit.{Unit as Length}
 use Rattle.lay_units.specs.declared.records.AbsOut.{AbsOut}
 use Rattle.lay_units.specs.declared.records.Len.TheVariants.{Of as of}
 use Rattle.lay_units.specs.declared.records.Rect.{Rect}
+use Rattle.lay_units.specs.Lengths.{no_length}
 use Rattle.lay_box_tree.specs.declared.box_tree.BoxNode.{BoxNode}
 use Rattle.lay_box_tree.specs.Kinds.{is_wrapper}
 use Rattle.lay_measure.specs.declared.preferred_widths.PreferredWidths.{PreferredWidths}
 use Rattle.lay_sizes.specs.declared.sizing.ContainingBlock.{ContainingBlock}
 use Rattle.lay_sizes.specs.SizeColumns.{sizes_at}
-use Rattle.lay_sizes.specs.UsedLengths.{no_length}
 use Rattle.lay_abspos.specs.declared.axis.ContentSize.TheVariants.{Shrinks as shrinks}
 use Rattle.lay_abspos.specs.AbsoluteAxis.{IsUsedAxis}
 use Rattle.lay_box_tree.specs.BoxColumns.{box_at}
@@ -97,7 +97,8 @@ IsAxisAcross false s own widths width out = IsUsedAxis (own_axis_across s own wi
 pub record StandsIn (p : PageLayout) (i : ℕ) (s : AbsoluteSetting) : Type 0 where
   pub across : AbsOut
   pub down : AbsOut
-  pub is_across : IsAxisAcross (is_table (boxes_in p.contexts i)) s (box_at (boxes_in p.contexts i) 0) (widths_in p.workings.widths i).widths
+  pub is_across
+      : IsAxisAcross (is_table (boxes_in p.contexts i)) s (box_at (boxes_in p.contexts i) 0) (widths_in p.workings.widths i).widths
       (sizes_at (sizes_in p.workings.sizes i).boxes 0).widths.width across
   pub is_down : IsUsedAxis (axis_of_height (is_wrapper (box_at (boxes_in p.contexts i) 0).kind) s (box_at (boxes_in p.contexts i) 0)
       (placement_in p.workings.places i).own.height) down

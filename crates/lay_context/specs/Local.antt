@@ -37,7 +37,8 @@ IsLocal input.Unmeasured (value.Measure widths) = widths ≡ not_measured
 IsLocal (input.Size i) (value.Size sizes) = AreContextBoxes i.boxes × HasSizes i sizes
 IsLocal (input.Place i at) (value.Place answer) =
     AreContextBoxes i.boxes × IsPlacement i answer.placement × IsOwnOffset at answer.placement.own answer.offset
-IsLocal (input.PlaceTable i at) (value.Place answer) = IsTablePlacement i answer.placement × IsOwnOffset at answer.placement.own answer.offset
+IsLocal (input.PlaceTable i at) (value.Place answer) =
+    IsTablePlacement i answer.placement × IsOwnOffset at answer.placement.own answer.offset
 IsLocal _ _ = ⊥
 
 -- there are as many of each
@@ -98,7 +99,8 @@ place_as flow (Some table) at = input.PlaceTable table at
 
 abbrev pub place_input : Medium → List FormattingContext → Workings → ℕ → Input
 place_input medium contexts w i =
-    place_as (flow_input medium contexts w i) (option_map (table_input contexts w i) (sizes_in w.sizes i).table) (stand_input medium contexts w i)
+    place_as (flow_input medium contexts w i) (option_map (table_input contexts w i) (sizes_in w.sizes i).table)
+    (stand_input medium contexts w i)
 
 -- what a task is given, from these values
 abbrev pub input_of : Medium → List FormattingContext → Workings → Task → Input

@@ -18,5 +18,6 @@ AreOfBoxes-prop boxes sized = hlevel props
 pub IsReady-prop : (contexts : List FormattingContext) (w : Workings) (task : Task) → IsProp (IsReady contexts w task)
 IsReady-prop contexts w task = hlevel (props, AreOfBoxes-prop)
 
-pub HaveContents-prop : (face : FaceValue) (contexts : List FormattingContext) (contents : List KeptSegments) → IsProp (HaveContents face contexts contents)
+pub HaveContents-prop : (face : FaceValue) (contexts : List FormattingContext) (contents : List KeptSegments)
+    → IsProp (HaveContents face contexts contents)
 HaveContents-prop face contexts contents = hlevel props

@@ -4,6 +4,7 @@
 use Rattle.std.specs.Prelude.{List, slice_get, Option, None, Some}
 use Rattle.lay_units.specs.declared.length.Unit.{Unit as Length}
 use Rattle.lay_units.specs.declared.records.Len.TheVariants.{Auto as auto, Of as of}
+use Rattle.lay_units.specs.Lengths.{no_length}
 use Rattle.lay_box_tree.specs.declared.box_tree.BoxKind.{BoxKind}
 use Rattle.lay_box_tree.specs.declared.box_tree.BoxKind.TheVariants as kind
 use Rattle.lay_box_tree.specs.declared.box_tree.BoxNode.{BoxNode}
@@ -11,7 +12,6 @@ use Rattle.lay_blocks.specs.declared.flow_box.HeightRule.{HeightRule}
 use Rattle.lay_flow_boxes.specs.PlaceInputs.{height_rule_of}
 use Rattle.lay_sizes.specs.declared.sizing.BoxSizes.{BoxSizes}
 use Rattle.lay_sizes.specs.SizeColumns.{sizes_at}
-use Rattle.lay_sizes.specs.UsedLengths.{no_length}
 
 abbrev pub height_of_content : HeightRule
 height_of_content = record { given = auto; min = no_length; max = None }

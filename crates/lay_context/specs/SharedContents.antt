@@ -28,7 +28,8 @@ pub record AreShared (face : FaceValue) (contexts : List FormattingContext) (con
 -- clustered once for widths and once more for lines.
 abbrev pub TextsAreKept : FaceValue → List FormattingContext → ℕ → KeptSegments → Type 0
 TextsAreKept face contexts i kept =
-    is_measured contexts i ≡ true → (k : ℕ) → HoldsAsked texts (boxes_in contexts i) k → kept_at kept k ≡ Some (segments_in face (boxes_in contexts i) k)
+    is_measured contexts i ≡ true → (k : ℕ) → HoldsAsked texts (boxes_in contexts i) k
+    → kept_at kept k ≡ Some (segments_in face (boxes_in contexts i) k)
 
 -- it is the content of their boxes, in this face, and of texts that are measured all of it
 pub record HaveContents (face : FaceValue) (contexts : List FormattingContext) (contents : List KeptSegments) : Type 0 where

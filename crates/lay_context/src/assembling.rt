@@ -39,7 +39,10 @@ pub fn assemble<V: Values>(alloc: Global, laid: &LaidContexts<'_, V>) -> Result<
 /// The tree of these formatting contexts, which stand there on the page. NoMemory is also the answer for 2^32 pieces or
 /// more.
 fn tree_of<V: Values>(alloc: Global, on_page: &ContextsOnPage<'_, '_, V>) -> Result<Tree, NoMemory>
-    ensures { IfOk result (λ t. t ≡ page_contexts on_page.now.laid.contexts.now (V.workings on_page.now.laid.known.now) on_page.now.corners.now (length on_page.now.laid.contexts.now)) }
+    ensures { IfOk result
+        (λ t. t
+        ≡ page_contexts on_page.now.laid.contexts.now (V.workings on_page.now.laid.known.now) on_page.now.corners.now
+        (length on_page.now.laid.contexts.now)) }
 {
     let contexts = on_page.laid.contexts;
     let count = contexts.len();
@@ -75,7 +78,8 @@ fn page_context<V: Values>(
     i: usize,
 ) -> Result<Placed, NoMemory>
     requires { i < length on_page.now.laid.contexts.now }
-    ensures value { IfOk result (λ c. c ≡ page_context on_page.now.laid.contexts.now (V.workings on_page.now.laid.known.now) on_page.now.corners.now i) }
+    ensures value { IfOk result
+        (λ c. c ≡ page_context on_page.now.laid.contexts.now (V.workings on_page.now.laid.known.now) on_page.now.corners.now i) }
     ensures range { IfOk result IsContextInRange }
     ensures few { IfOk result (λ c. length c.pieces ≤ 2147483648) }
 {
@@ -91,7 +95,8 @@ fn page_context<V: Values>(
 /// units, which it is in no document within the limits.
 fn page_rect<V: Values>(on_page: &ContextsOnPage<'_, '_, V>, i: usize) -> Result<Rect, NoMemory>
     requires { i < length on_page.now.laid.contexts.now }
-    ensures rect { IfOk result (λ r. r ≡ page_rect on_page.now.laid.contexts.now (V.workings on_page.now.laid.known.now) on_page.now.corners.now i) }
+    ensures rect { IfOk result
+        (λ r. r ≡ page_rect on_page.now.laid.contexts.now (V.workings on_page.now.laid.known.now) on_page.now.corners.now i) }
     ensures near { IfOk result IsRectNear }
 {
     let laid = &on_page.laid;

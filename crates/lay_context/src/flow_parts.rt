@@ -37,9 +37,19 @@ impl Model for FlowParts {
 
     ghost Value = { Plain };
 
-    ghost view = { λ i. record { boxes = i.boxes; sizes = i.sizes; inner = i.inner; pieces = i.pieces; own_height = i.own_height; face = i.face.value } };
+    ghost view = { λ i.
+        record { boxes = i.boxes; sizes = i.sizes; inner = i.inner; pieces = i.pieces; own_height = i.own_height; face = i.face.value } };
 
-    ghost invariant = { λ i. PlaceInputFits (record { boxes = i.boxes; sizes = i.sizes; inner = i.inner; pieces = i.pieces; own_height = i.own_height; face = i.face.value }) };
+    ghost invariant = { λ i.
+        PlaceInputFits
+        (record {
+          boxes = i.boxes;
+          sizes = i.sizes;
+          inner = i.inner;
+          pieces = i.pieces;
+          own_height = i.own_height;
+          face = i.face.value;
+        }) };
 }
 
 impl FlowParts {
@@ -51,8 +61,24 @@ impl FlowParts {
         pieces: SharedPieces,
         face: Arc<Face>,
     ) -> FlowParts
-        requires { PlaceInputFits (record { boxes = boxes; sizes = sizes; inner = inner; pieces = pieces; own_height = height_rule_of (sizes_at sizes 0); face = face.value }) }
-        ensures { result ≡ record { boxes = boxes; sizes = sizes; inner = inner; pieces = pieces; own_height = height_rule_of (sizes_at sizes 0); face = face.value } }
+        requires { PlaceInputFits
+            (record {
+              boxes = boxes;
+              sizes = sizes;
+              inner = inner;
+              pieces = pieces;
+              own_height = height_rule_of (sizes_at sizes 0);
+              face = face.value;
+            }) }
+        ensures { result
+            ≡ record {
+              boxes = boxes;
+              sizes = sizes;
+              inner = inner;
+              pieces = pieces;
+              own_height = height_rule_of (sizes_at sizes 0);
+              face = face.value;
+            } }
     {
         let own_height = height_rule_of(own_sizes(&boxes, &sizes));
         FlowParts {

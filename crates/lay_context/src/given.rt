@@ -5,8 +5,10 @@ ghost use Rattle.lay_sizes.specs.OwnBoxes.{OwnBoxFits, OwnBoxesFit};
 ghost use Rattle.lay_pieces.specs.InnerPieces.{AreNearInnerPieces, pieces_or_none};
 ghost use Rattle.lay_pieces.specs.NearPieces.{AreNearPieces};
 ghost use Rattle.lay_contexts.specs.FormattingContexts.{formatting_context_at};
-ghost use Rattle.lay_context.specs.DocumentLayout.{flow_number, inner_boxes, inner_pieces, inner_widths, inner_widths_in, own_box_in, pieces_in};
-ghost use Rattle.lay_context.specs.Local.{flow_input, input_of, measure_as, measure_input, place_input, size_input, stand_input, table_input};
+ghost use Rattle.lay_context.specs.DocumentLayout.{flow_number, inner_boxes, inner_pieces, inner_widths};
+ghost use Rattle.lay_context.specs.DocumentLayout.{inner_widths_in, own_box_in, pieces_in};
+ghost use Rattle.lay_context.specs.Local.{flow_input, input_of, measure_as, measure_input};
+ghost use Rattle.lay_context.specs.Local.{place_input, size_input, stand_input, table_input};
 ghost use Rattle.lay_context.specs.Settings.{sizes_in};
 ghost use Rattle.lay_context.specs.Settling.{IsReady};
 
@@ -68,7 +70,8 @@ fn measure_as<V: Values>(
     is_measured: bool,
     at: &KnownContext<'_, V>,
 ) -> Result<Input, NoMemory>
-    ensures { IfOk result (λ v. v ≡ measure_as is_measured (measure_input medium.now at.now.contexts.now (V.workings at.now.known.now) at.now.number)) }
+    ensures { IfOk result
+        (λ v. v ≡ measure_as is_measured (measure_input medium.now at.now.contexts.now (V.workings at.now.known.now) at.now.number)) }
 {
     if is_measured {
         Ok(Input::Measure(measure_input(alloc, medium, at)?))
@@ -91,7 +94,8 @@ fn measure_input<V: Values>(
 }
 
 fn size_input<V: Values>(medium: &Medium, ready: &ReadyToSize<'_, V>) -> Result<SizeInput, NoMemory>
-    ensures { IfOk result (λ v. v ≡ size_input medium.now ready.now.at.contexts.now (V.workings ready.now.at.known.now) ready.now.at.number) }
+    ensures { IfOk result
+        (λ v. v ≡ size_input medium.now ready.now.at.contexts.now (V.workings ready.now.at.known.now) ready.now.at.number) }
 {
     let at = &ready.at;
     let boxes = at.formatting_context().boxes().share()?;
@@ -105,7 +109,8 @@ fn place_input<V: Values>(
     medium: &Medium,
     ready: &ReadyToPlace<'_, V>,
 ) -> Result<Input, NoMemory>
-    ensures { IfOk result (λ v. v ≡ place_input medium.now ready.now.at.contexts.now (V.workings ready.now.at.known.now) ready.now.at.number) }
+    ensures { IfOk result
+        (λ v. v ≡ place_input medium.now ready.now.at.contexts.now (V.workings ready.now.at.known.now) ready.now.at.number) }
 {
     let stand = stand_input(medium, ready)?;
     match ready.at.known.sizes(ready.at.number).shared_table()? {
@@ -125,7 +130,8 @@ fn stand_input<V: Values>(
     medium: &Medium,
     ready: &ReadyToPlace<'_, V>,
 ) -> Result<StandInput, NoMemory>
-    ensures { IfOk result (λ v. v ≡ stand_input medium.now ready.now.at.contexts.now (V.workings ready.now.at.known.now) ready.now.at.number) }
+    ensures { IfOk result
+        (λ v. v ≡ stand_input medium.now ready.now.at.contexts.now (V.workings ready.now.at.known.now) ready.now.at.number) }
 {
     let at = &ready.at;
     let boxes = at.formatting_context().boxes().share()?;
@@ -160,7 +166,8 @@ fn flow_input<V: Values>(
     medium: &Medium,
     ready: &ReadyToPlace<'_, V>,
 ) -> Result<FlowParts, NoMemory>
-    ensures { IfOk result (λ v. v ≡ flow_input medium.now ready.now.at.contexts.now (V.workings ready.now.at.known.now) ready.now.at.number) }
+    ensures { IfOk result
+        (λ v. v ≡ flow_input medium.now ready.now.at.contexts.now (V.workings ready.now.at.known.now) ready.now.at.number) }
 {
     let at = &ready.at;
     let boxes = at.formatting_context().boxes().share()?;
@@ -180,7 +187,8 @@ fn inner_at<'a, V: Values>(at: &KnownContext<'a, V>, k: usize) -> KnownContext<'
     requires { k < length (formatting_context_at at.now.contexts.now at.now.number).inner }
     ensures contexts { result.contexts.now ≡ at.now.contexts.now }
     ensures known { result.known.now ≡ at.now.known.now }
-    ensures number { result.number ≡ flow_number at.now.contexts.now (slice_index (formatting_context_at at.now.contexts.now at.now.number).inner k) }
+    ensures number { result.number
+        ≡ flow_number at.now.contexts.now (slice_index (formatting_context_at at.now.contexts.now at.now.number).inner k) }
 {
     let inner = at.formatting_context().inner();
     let number = flow_number(at.contexts, inner[k]);
@@ -270,7 +278,8 @@ fn inner_pieces<V: Values>(
 
 /// The pieces of this one where it is anonymous, and 0 stands for none.
 fn pieces_in<V: Values>(at: &KnownContext<'_, V>) -> Result<Option<Arc<Pieces>>, NoMemory>
-    ensures pieces { IfOk result (λ p. pieces_or_none p ≡ pieces_in at.now.contexts.now (V.workings at.now.known.now).places at.now.number) }
+    ensures pieces { IfOk result
+        (λ p. pieces_or_none p ≡ pieces_in at.now.contexts.now (V.workings at.now.known.now).places at.now.number) }
     ensures near { IfOk result (λ p. AreNearPieces (pieces_or_none p)) }
 {
     if at.number == 0 || !at.formatting_context().is_anonymous() {

@@ -57,12 +57,16 @@ impl<'a, V: Values> Layouts for KnownContext<'a, V> {
 #[derive(Drop)]
 pub(crate) struct ReadyToSize<'a, V: Values> {
     pub at: KnownContext<'a, V>,
-    ghost ready: { IsReady at.contexts.now (V.workings at.known.now) (record { context = at.number; phase = Size }) } by { IsReady-prop at.contexts.now (V.workings at.known.now) (record { context = at.number; phase = Size }) },
+    ghost ready: { IsReady at.contexts.now (V.workings at.known.now)
+        (record { context = at.number; phase = Size }) } by { IsReady-prop at.contexts.now (V.workings at.known.now)
+            (record { context = at.number; phase = Size }) },
 }
 
 /// A formatting context for which all is known that its placement needs.
 #[derive(Drop)]
 pub(crate) struct ReadyToPlace<'a, V: Values> {
     pub at: KnownContext<'a, V>,
-    ghost ready: { IsReady at.contexts.now (V.workings at.known.now) (record { context = at.number; phase = Place }) } by { IsReady-prop at.contexts.now (V.workings at.known.now) (record { context = at.number; phase = Place }) },
+    ghost ready: { IsReady at.contexts.now (V.workings at.known.now)
+        (record { context = at.number; phase = Place }) } by { IsReady-prop at.contexts.now (V.workings at.known.now)
+            (record { context = at.number; phase = Place }) },
 }

@@ -1,7 +1,9 @@
 //! The laws of the definitions: a task has one value and needs what the table says, so that a document has one
 //! layout.
 
-ghost use Rattle.lay_context.specs.Laws.{AbsoluteBoxesStandInContainingBlocks, InputsComeOfNeeds, MeasuredGoesInward, MeasuredWhereShrunk, MeasuringAllChangesNoTree, NeedsComeFirst, OneLocal, OnePageCorners, OneSolution};
+ghost use Rattle.lay_context.specs.Laws.{AbsoluteBoxesStandInContainingBlocks, InputsComeOfNeeds, MeasuredGoesInward};
+ghost use Rattle.lay_context.specs.Laws.{MeasuredWhereShrunk, MeasuringAllChangesNoTree, NeedsComeFirst, OneLocal, OnePageCorners};
+ghost use Rattle.lay_context.specs.Laws.{OneSolution};
 
 use lay_context_sizes::{one_context_sizes, one_context_widths, widths_count_where_shrunk};
 use lay_contexts::{formatting_contexts_stand_in_order, one_formatting_context_list};

@@ -103,7 +103,8 @@ fn lay_contexts(
 /// Measures all formatting contexts, from the last one to the first.
 fn measure_all(alloc: Global, plan: &Plan<'_>, known: &mut Known) -> Result<(), NoMemory>
     requires before { HasCounts plan.now.contexts.now known.old }
-    ensures { OnOk result (AreDone plan.now.medium.now plan.now.contexts.now known.new (BeforeTurn plan.now.levels.now (length plan.now.contexts.now))) }
+    ensures { OnOk result
+        (AreDone plan.now.medium.now plan.now.contexts.now known.new (BeforeTurn plan.now.levels.now (length plan.now.contexts.now))) }
 {
     let count = plan.contexts.len();
     for done in 0..count {
@@ -124,8 +125,11 @@ fn lay_level(
     known: &mut Known,
     level: usize,
 ) -> Result<(), NoMemory>
-    requires before { AreDone plan.now.medium.now plan.now.contexts.now known.old (BeforeTurn plan.now.levels.now (round_start (length plan.now.contexts.now) level)) }
-    ensures { OnOk result (AreDone plan.now.medium.now plan.now.contexts.now known.new (BeforeTurn plan.now.levels.now (round_start (length plan.now.contexts.now) (level + 1)))) }
+    requires before { AreDone plan.now.medium.now plan.now.contexts.now known.old
+        (BeforeTurn plan.now.levels.now (round_start (length plan.now.contexts.now) level)) }
+    ensures { OnOk result
+        (AreDone plan.now.medium.now plan.now.contexts.now known.new
+        (BeforeTurn plan.now.levels.now (round_start (length plan.now.contexts.now) (level + 1)))) }
 {
     size_level(alloc, plan, known, level)?;
     place_level(alloc, plan, known, level)
@@ -137,8 +141,11 @@ fn size_level(
     known: &mut Known,
     level: usize,
 ) -> Result<(), NoMemory>
-    requires before { AreDone plan.now.medium.now plan.now.contexts.now known.old (BeforeTurn plan.now.levels.now (round_start (length plan.now.contexts.now) level)) }
-    ensures { OnOk result (AreDone plan.now.medium.now plan.now.contexts.now known.new (BeforeTurn plan.now.levels.now (round_start (length plan.now.contexts.now) level + length plan.now.contexts.now))) }
+    requires before { AreDone plan.now.medium.now plan.now.contexts.now known.old
+        (BeforeTurn plan.now.levels.now (round_start (length plan.now.contexts.now) level)) }
+    ensures { OnOk result
+        (AreDone plan.now.medium.now plan.now.contexts.now known.new
+        (BeforeTurn plan.now.levels.now (round_start (length plan.now.contexts.now) level + length plan.now.contexts.now))) }
 {
     let count = plan.contexts.len();
     for i in 0..count {
@@ -159,8 +166,11 @@ fn place_level(
     known: &mut Known,
     level: usize,
 ) -> Result<(), NoMemory>
-    requires before { AreDone plan.now.medium.now plan.now.contexts.now known.old (BeforeTurn plan.now.levels.now (round_start (length plan.now.contexts.now) level + length plan.now.contexts.now)) }
-    ensures { OnOk result (AreDone plan.now.medium.now plan.now.contexts.now known.new (BeforeTurn plan.now.levels.now (round_start (length plan.now.contexts.now) (level + 1)))) }
+    requires before { AreDone plan.now.medium.now plan.now.contexts.now known.old
+        (BeforeTurn plan.now.levels.now (round_start (length plan.now.contexts.now) level + length plan.now.contexts.now)) }
+    ensures { OnOk result
+        (AreDone plan.now.medium.now plan.now.contexts.now known.new
+        (BeforeTurn plan.now.levels.now (round_start (length plan.now.contexts.now) (level + 1)))) }
 {
     let count = plan.contexts.len();
     for done in 0..count {

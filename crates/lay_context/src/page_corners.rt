@@ -1,7 +1,8 @@
 //! Where formatting contexts stand on the page.
 
 ghost use Rattle.std.specs.Prelude.{◌≡◌, ◌<◌, ◌≤◌, ◌+ℤ◌, length, IfOk};
-ghost use Rattle.lay_pieces.specs.Corners.{AreNearCorners, IsCornerNear, IsNear, corner_at};
+ghost use Rattle.lay_units.specs.Units.{IsNear};
+ghost use Rattle.lay_pieces.specs.Corners.{AreNearCorners, IsCornerNear, corner_at};
 ghost use Rattle.lay_pieces.specs.Standings.{IsStandingNear, standing_at};
 ghost use Rattle.lay_context.specs.PageCorners.{HasPageCorners, beside, flow_standing, inner_corner, lowered, own_standing, standing_of};
 ghost use Rattle.lay_context.specs.PlacedContexts.{placed_in};

@@ -24,7 +24,8 @@ pub(crate) struct Plan<'a> {
     pub measured: &'a [bool],
     ghost has_levels: { HasLevels contexts.now levels.now },
     ghost grids: { GridsAreOfBoxes },
-    ghost have_contents: { HaveContents medium.now.face contexts.now contents.now } by { HaveContents-prop medium.now.face contexts.now contents.now },
+    ghost have_contents: { HaveContents medium.now.face contexts.now contents.now } by { HaveContents-prop
+        medium.now.face contexts.now contents.now },
     ghost are_measured: { AreMeasured contexts.now measured.now },
 }
 

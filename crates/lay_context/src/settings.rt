@@ -8,7 +8,8 @@ ghost use Rattle.lay_positioned.specs.Settings.{absolute_setting};
 ghost use Rattle.lay_abspos.specs.AbsoluteSettings.{SettingFits};
 ghost use Rattle.lay_context_sizes.specs.Inputs.{OwnSettingFits};
 ghost use Rattle.lay_abspos.specs.StandInputs.{OwnPlaceFits};
-ghost use Rattle.lay_context.specs.Settings.{caption_block, cell_given, cell_of, flow_setting, laid, own_place_of, setting_as, setting_in, setting_in_table, setting_of};
+ghost use Rattle.lay_context.specs.Settings.{caption_block, cell_given, cell_of, flow_setting, laid};
+ghost use Rattle.lay_context.specs.Settings.{own_place_of, setting_as, setting_in, setting_in_table, setting_of};
 
 use crate::known_context::{KnownContext, ReadyToSize};
 use crate::medium::Medium;
@@ -28,7 +29,8 @@ pub(crate) fn setting_of<V: Values>(
     medium: &Medium,
     ready: &ReadyToSize<'_, V>,
 ) -> Result<Setting, NoMemory>
-    ensures setting { IfOk result (λ s. s ≡ setting_of medium.now.viewport ready.now.at.contexts.now (V.workings ready.now.at.known.now) ready.now.at.number) }
+    ensures setting { IfOk result
+        (λ s. s ≡ setting_of medium.now.viewport ready.now.at.contexts.now (V.workings ready.now.at.known.now) ready.now.at.number) }
     ensures fits { IfOk result OwnSettingFits }
 {
     if is_absolute(ready.at.contexts, ready.at.number) {
@@ -42,7 +44,8 @@ pub(crate) fn own_place_of<V: Values>(
     medium: &Medium,
     at: &KnownContext<'_, V>,
 ) -> Result<OwnPlace, NoMemory>
-    ensures position { IfOk result (λ p. p ≡ own_place_of medium.now.viewport at.now.contexts.now (V.workings at.now.known.now) at.now.number) }
+    ensures position { IfOk result
+        (λ p. p ≡ own_place_of medium.now.viewport at.now.contexts.now (V.workings at.now.known.now) at.now.number) }
     ensures fits { IfOk result OwnPlaceFits }
 {
     if is_absolute(at.contexts, at.number) {
@@ -59,7 +62,8 @@ fn absolute_setting<V: Values>(
     medium: &Medium,
     at: &KnownContext<'_, V>,
 ) -> Result<AbsoluteSetting, NoMemory>
-    ensures setting { IfOk result (λ s. s ≡ absolute_setting medium.now.viewport at.now.contexts.now (laid (V.workings at.now.known.now)) at.now.number) }
+    ensures setting { IfOk result
+        (λ s. s ≡ absolute_setting medium.now.viewport at.now.contexts.now (laid (V.workings at.now.known.now)) at.now.number) }
     ensures fits { IfOk result SettingFits }
 {
     setting(medium.viewport(), at.contexts, at, at.number)
@@ -68,7 +72,8 @@ fn absolute_setting<V: Values>(
 /// The setting of the own box of a formatting context in flow or floating.
 fn flow_setting<V: Values>(medium: &Medium, ready: &ReadyToSize<'_, V>) -> Setting
     requires flow { is_absolute ready.now.at.contexts.now ready.now.at.number ≡ false }
-    ensures setting { result ≡ flow_setting medium.now.viewport ready.now.at.contexts.now (V.workings ready.now.at.known.now).sizes ready.now.at.number }
+    ensures setting { result
+        ≡ flow_setting medium.now.viewport ready.now.at.contexts.now (V.workings ready.now.at.known.now).sizes ready.now.at.number }
     ensures fits { OwnSettingFits result }
 {
     let at = &ready.at;

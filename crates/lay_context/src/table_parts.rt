@@ -31,7 +31,8 @@ impl Model for TableParts {
 
     ghost view = { λ i. record { boxes = i.boxes; sizes = i.sizes; table = i.table; inner = i.inner; pieces = i.pieces } };
 
-    ghost invariant = { λ i. TableInputFits (record { boxes = i.boxes; sizes = i.sizes; table = i.table; inner = i.inner; pieces = i.pieces }) };
+    ghost invariant = { λ i.
+        TableInputFits (record { boxes = i.boxes; sizes = i.sizes; table = i.table; inner = i.inner; pieces = i.pieces }) };
 }
 
 impl TableParts {

@@ -17,11 +17,11 @@ use Rattle.lay_table_sizes.specs.Laws.{OneCellSizes, OneTableSizes}
 use Rattle.lay_box_tree.specs.Containing.{container_of}
 use Rattle.lay_box_tree.specs.ContextBoxes.{AreContextBoxes, is_inner}
 use Rattle.lay_box_tree.proofs.ContainerSteps.{container_before}
-use Rattle.lay_pieces.specs.ContainingBlocks.{block_around, block_in, height_holder}
+use Rattle.lay_pieces.specs.ContainingBlocks.{block_around, height_holder}
 use Rattle.lay_box_tree.specs.BoxColumns.{box_at}
 use Rattle.lay_abspos.proofs.OneAbsoluteBox.{one_absolute_sizes_lem, one_stretched_height_lem, one_table_left_lem}
 use Rattle.lay_context_sizes.specs.ContextSizes.{IsSizedAs, IsStretchedIn, IsWrapperLeft, SizedContext, table_rule}
-use Rattle.lay_context_sizes.specs.FlowSizes.{HasFlowSizes, IsBoxSized, IsOwnSized, inside_rule, own_rule_of}
+use Rattle.lay_context_sizes.specs.FlowSizes.{HasFlowSizes, IsOwnSized, inside_rule}
 use Rattle.lay_context_sizes.specs.Inputs.{SizeInput, containing_block_in}
 use Rattle.lay_context_sizes.specs.Laws.{OneContextSizes}
 use Rattle.lay_context_sizes.specs.TableContexts.{is_table}

@@ -4,13 +4,13 @@
 use Rattle.std.specs.Prelude.{◌≡◌, Bool, true, false, List, [], Option, None, Some, IfSome}
 use Rattle.lay_units.specs.Units.{IsUsedSize}
 use Rattle.lay_units.specs.declared.length.Unit.{Unit as Length}
+use Rattle.lay_units.specs.Lengths.{no_length}
 use Rattle.lay_box_tree.specs.declared.box_tree.BoxNode.{BoxNode}
 use Rattle.lay_box_tree.specs.declared.box_tree.BoxKind.{BoxKind}
 use Rattle.lay_box_tree.specs.declared.box_tree.BoxKind.TheVariants as kind
 use Rattle.lay_box_tree.specs.declared.box_tree.Flow.{Flow}
 use Rattle.lay_box_tree.specs.declared.box_tree.Flow.TheVariants.{InFlow}
 use Rattle.lay_sizes.specs.SizeColumns.{sizes_at}
-use Rattle.lay_sizes.specs.UsedLengths.{no_length}
 use Rattle.lay_sizes.specs.declared.sizing.BoxSizes.{BoxSizes}
 use Rattle.lay_table_sizes.specs.TableSizes.{HasTableSizes}
 use Rattle.lay_table_sizes.specs.TableSizesValue.{TableSizesValue}

@@ -3,6 +3,7 @@
 -- inner contexts are sized there.
 use Rattle.std.specs.Prelude.{ℕ, ◌≡◌, ◌<◌, true, false, List, length, slice_get, Option, Some, None, if◌then◌else◌}
 use Rattle.lay_units.specs.declared.length.Unit.{Unit as Length}
+use Rattle.lay_units.specs.Lengths.{no_length}
 use Rattle.lay_style.specs.ComputedStyle.{style_at}
 use Rattle.lay_box_tree.specs.declared.box_tree.BoxNode.{BoxNode}
 use Rattle.lay_box_tree.specs.declared.box_tree.Flow.{Flow}
@@ -17,7 +18,6 @@ use Rattle.lay_sizes.specs.declared.sizing.WidthRule.{WidthRule}
 use Rattle.lay_sizes.specs.declared.sizing.WidthRule.TheVariants.{Fills, Inline, Replaced, ReplacedBlock, ShrinksToFit}
 use Rattle.lay_sizes.specs.BoxSizes.{IsSized}
 use Rattle.lay_sizes.specs.SizeColumns.{no_sizes, sizes_at}
-use Rattle.lay_sizes.specs.UsedLengths.{no_length}
 use Rattle.lay_table_sizes.specs.CellSizes.{IsCellSized}
 use Rattle.lay_box_tree.specs.ContextBoxes.{is_inner}
 use Rattle.lay_pieces.specs.ContainingBlocks.{block_around}

@@ -27,5 +27,6 @@ with_measured i m = record { boxes = i.boxes; measured = m; setting = i.setting 
 
 -- where the own box neither shrinks to fit nor is absolutely positioned, its preferred widths don't count
 abbrev pub WidthsCountWhereShrunk : Type 0
-WidthsCountWhereShrunk = (i : SizeInput) (m : MeasuredContext) (sized : SizedContext) → shrinks_to_fit i.boxes ≡ false → is_absolute_setting i.setting ≡ false
+WidthsCountWhereShrunk = (i : SizeInput) (m : MeasuredContext) (sized : SizedContext)
+    → shrinks_to_fit i.boxes ≡ false → is_absolute_setting i.setting ≡ false
     → HasSizes i sized → HasSizes (with_measured i m) sized

@@ -1,13 +1,13 @@
 //! The used sizes of boxes in block flow, from outer to inner boxes.
 
 ghost use Rattle.std.specs.Prelude.{◌≡◌, ◌<◌, true, false, length, slice_get, IfOk};
-ghost use Rattle.lay_units.specs.Units.{IsPosition};
+ghost use Rattle.lay_units.specs.Lengths.{no_length};
 ghost use Rattle.lay_sizes.specs.SizeBounds.{SizeFits};
 ghost use Rattle.lay_sizes.specs.SizeColumns.{HaveSizeBounds, no_sizes, sizes_at};
-ghost use Rattle.lay_sizes.specs.UsedLengths.{no_length};
 ghost use Rattle.lay_box_tree.specs.ContextBoxes.{is_inner};
 ghost use Rattle.lay_abspos.specs.OffsetBounds.{IsStart};
-ghost use Rattle.lay_context_sizes.specs.FlowSizes.{HasFlowSizes, HaveInsideSizes, IsBoxSized, IsOwnSized, floating_rule, inside_rule, own_rule, own_rule_of, rule_in_flow};
+ghost use Rattle.lay_context_sizes.specs.FlowSizes.{HasFlowSizes, HaveInsideSizes, IsBoxSized, IsOwnSized};
+ghost use Rattle.lay_context_sizes.specs.FlowSizes.{floating_rule, inside_rule, own_rule, own_rule_of, rule_in_flow};
 
 use crate::inputs::SizeInput;
 use crate::setting::Setting;

@@ -1,10 +1,9 @@
 //! Which formatting contexts are tables.
 
 ghost use Rattle.std.specs.Prelude.{◌≡◌};
-ghost use Rattle.lay_box_tree.specs.Kinds.{is_wrapper};
 ghost use Rattle.lay_context_sizes.specs.TableContexts.{is_table};
 
-use lay_box_tree::{BoxKind, BoxNode};
+use lay_box_tree::{BoxNode, is_wrapper};
 
 /// Whether the formatting context with these boxes is a table: its own box is the wrapper of one.
 pub(crate) fn is_table(boxes: &[BoxNode]) -> bool
@@ -14,10 +13,4 @@ pub(crate) fn is_table(boxes: &[BoxNode]) -> bool
         Some(node) => is_wrapper(&node.kind),
         None => false,
     }
-}
-
-fn is_wrapper(kind: &BoxKind) -> bool
-    ensures { result ≡ is_wrapper kind.now }
-{
-    matches!(kind, BoxKind::Wrapper | BoxKind::InlineWrapper)
 }

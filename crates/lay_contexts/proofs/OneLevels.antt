@@ -1,9 +1,6 @@
 -- A box that is generated holds boxes of one level.
-use Rattle.std.proofs.Common.{◌≡◌, ℕ, Bool, true, false, ◌&&◌, ◌||◌, not, List, [], ◌∷◌, ◌++◌, filter, refl, sym, ap, ◌∙◌, if◌then◌else◌, Option, None, Some}
+use Rattle.std.proofs.Common.{◌≡◌, Bool, true, false, ◌&&◌, ◌||◌, not, List, [], ◌∷◌, ◌++◌, filter, refl, sym, ap, ◌∙◌, if◌then◌else◌, Option, None, Some}
 use Rattle.std.specs.List.{list_any}
-use Rattle.lay_style.specs.declared.style.Style.{Style}
-use Rattle.lay_doc.specs.declared.node.Node.{Node}
-use Rattle.lay_box_tree.specs.declared.box_tree.Flow.{Flow}
 use Rattle.lay_box_tree.specs.declared.box_tree.Flow.TheVariants as flow
 use Rattle.lay_anonymous_boxes.specs.Boxes.{Tree, Trees, tree, no_trees, also, trees_of, facts_of, remade, all_remade, in_box}
 use Rattle.lay_anonymous_boxes.specs.BrokenInlines.{broken, is_block_box, is_no_text_box, is_unseen, part_over, parts_from}
@@ -18,9 +15,8 @@ use Rattle.lay_anonymous_boxes.specs.Runs.{anonymous_box, gathered, gathered_fro
 use Rattle.lay_anonymous_boxes.specs.declared.facts.Facts.{Facts}
 use Rattle.lay_anonymous_boxes.specs.declared.facts.Form.{Form}
 use Rattle.lay_anonymous_boxes.specs.declared.facts.Form.TheVariants as form
-use Rattle.lay_anonymous_boxes.specs.declared.facts.TextForm.TheVariants as text
 use Rattle.lay_boxgen.specs.NodeTrees.{tree_at}
-use Rattle.lay_boxgen.specs.Parts.{all_put, generated_of, is_closed, nothing, own_tree, part, put, put_list, whole}
+use Rattle.lay_boxgen.specs.Parts.{all_put, generated_of, is_closed, nothing, own_tree, put, put_list, whole}
 use Rattle.lay_contexts.specs.LevelLaws.{BoxesHoldOneLevel, EachBox, EachIn, EachOf, HoldsOneLevel, any_in, is_in_line}
 
 or_false : (a b : Bool) → a ≡ false → b ≡ false → (a || b) ≡ false

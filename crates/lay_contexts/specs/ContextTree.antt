@@ -40,4 +40,5 @@ pub record StandsOnce (nodes : List Node) (styles : List Style) (k : ℕ) : Type
   pub only : (a i : ℕ) → IsContextAt nodes styles a → StandsIn nodes styles k a i → (a ≡ around) × (i ≡ at)
 
 abbrev pub ContextsStandOnce : Type 0
-ContextsStandOnce = (d : Document) (styles : List Style) (k : ℕ) → IsDocument d → length styles ≡ length d.nodes → 0 < k → IsContextAt d.nodes styles k → StandsOnce d.nodes styles k
+ContextsStandOnce = (d : Document) (styles : List Style) (k : ℕ) → IsDocument d → length styles ≡ length d.nodes
+    → 0 < k → IsContextAt d.nodes styles k → StandsOnce d.nodes styles k

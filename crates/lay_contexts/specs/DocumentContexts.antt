@@ -34,5 +34,6 @@ OneListOfContexts = (d : Document) (styles : List Style) (spots others : List Co
     → AreDocumentContexts d.nodes styles spots → AreDocumentContexts d.nodes styles others → spots ≡ others
 
 abbrev pub ContextsStandInOrder : Type 0
-ContextsStandInOrder = (d : Document) (styles : List Style) (spots : List ContextSpot) (i : ℕ) → IsDocument d → length styles ≡ length d.nodes
+ContextsStandInOrder = (d : Document) (styles : List Style) (spots : List ContextSpot) (i : ℕ)
+    → IsDocument d → length styles ≡ length d.nodes
     → AreDocumentContexts d.nodes styles spots → 0 < i → i < length spots → (spot_at spots i).around < i

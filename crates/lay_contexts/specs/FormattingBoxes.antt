@@ -2,12 +2,10 @@
 -- context all boxes that are at home there. A root among these is a leaf, marked as the box of an inner formatting context:
 -- what is in it belongs to that. So a root stands in two lists, and another box in one.
 use Rattle.lay_box_tree.specs.BoxColumns.{box_at}
-use Rattle.std.specs.Prelude.{ℕ, zero, suc, ◌+◌, ◌==◌, ◌||◌, Bool, false, List, ◌∷◌, length, map, slice_index, slice_index_or, if◌then◌else◌}
+use Rattle.std.specs.Prelude.{ℕ, zero, suc, ◌+◌, ◌==◌, ◌||◌, Bool, false, List, ◌∷◌}
+use Rattle.std.specs.Prelude.{length, map, slice_index, if◌then◌else◌}
 use Rattle.std.specs.List.{filter, range_with_len}
-use Rattle.lay_style.specs.InitialStyle.{initial_style}
-use Rattle.lay_box_tree.specs.declared.box_tree.BoxKind.TheVariants.{Block}
 use Rattle.lay_box_tree.specs.declared.box_tree.BoxNode.{BoxNode}
-use Rattle.lay_box_tree.specs.declared.box_tree.Flow.TheVariants.{InFlow}
 use Rattle.lay_contexts.specs.Homes.{is_root}
 
 -- the box at k is at home in the root r
@@ -37,7 +35,8 @@ as_own b = placed b 0 false
 
 -- the box at k in the list of its home
 abbrev pub as_member : List BoxNode → List ℕ → ℕ → BoxNode
-as_member boxes homes k = placed (box_at boxes k) (place_inside boxes homes (box_at boxes k).parent) ((box_at boxes k).inner || is_root boxes k)
+as_member boxes homes k =
+    placed (box_at boxes k) (place_inside boxes homes (box_at boxes k).parent) ((box_at boxes k).inner || is_root boxes k)
 
 abbrev pub boxes_of_root : List BoxNode → List ℕ → ℕ → List BoxNode
 boxes_of_root boxes homes r = as_own (box_at boxes r) ∷ map (as_member boxes homes) (at_home_before homes r (length boxes))

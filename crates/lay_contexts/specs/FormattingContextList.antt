@@ -1,7 +1,8 @@
 -- The formatting contexts of a document (CSS 2.2, 9.4.1): in document order its contexts, and behind each those of the
 -- anonymous tables and cells in it (17.2.1), in the order of its boxes. Each is that of a root of a context, and is known by
 -- its number in the list: so many as there are roots before that one, in its context and in all contexts before.
-use Rattle.std.specs.Prelude.{ℕ, zero, suc, ◌≡◌, ◌+◌, ◌<◌, true, nat_lt, List, [], ◌∷◌, length, map, slice_index, slice_index_or, if◌then◌else◌}
+use Rattle.std.specs.Prelude.{ℕ, zero, suc, ◌≡◌, ◌+◌, ◌<◌, true, nat_lt, List, [], ◌∷◌}
+use Rattle.std.specs.Prelude.{length, map, slice_index, slice_index_or, if◌then◌else◌}
 use Rattle.lay_box_tree.specs.declared.box_tree.BoxNode.{BoxNode}
 use Rattle.lay_contexts.specs.Contexts.{Context, boxes_in, context_at}
 use Rattle.lay_contexts.specs.FormattingBoxes.{at_home_before, boxes_of_root, rank}

@@ -21,32 +21,39 @@ OneFormattingContextList = (contexts : List Context) (x y : List FormattingConte
 
 -- They stand in order, each behind the one around it.
 abbrev pub FormattingContextsStandInOrder : Type 0
-FormattingContextsStandInOrder = (contexts : List Context) (all : List FormattingContext) → AreContexts contexts → AreFormattingContextsOf contexts all
+FormattingContextsStandInOrder = (contexts : List Context) (all : List FormattingContext)
+    → AreContexts contexts → AreFormattingContextsOf contexts all
     → AreFormattingContexts all
 
 -- Out of one to its box in the one around it, and inside again there, leads back to it.
 abbrev pub InnerNumbersLeadBack : Type 0
-InnerNumbersLeadBack = (d : Document) (styles : List Style) (contexts : List Context) (all : List FormattingContext) (j : ℕ) → IsDocument d → length styles ≡ length d.nodes
+InnerNumbersLeadBack = (d : Document) (styles : List Style) (contexts : List Context) (all : List FormattingContext) (j : ℕ)
+    → IsDocument d → length styles ≡ length d.nodes
     → AreContextsOf d.nodes styles contexts → AreFormattingContextsOf contexts all → 0 < j → j < length all
     → slice_index (formatting_context_at all (formatting_context_at all j).outer).inner (formatting_context_at all j).outer_box ≡ j
 
 -- Its box there is an anchor just where its own box is absolutely positioned (9.6).
 abbrev pub AnchorsStandForAbsoluteBoxes : Type 0
-AnchorsStandForAbsoluteBoxes = (d : Document) (styles : List Style) (contexts : List Context) (all : List FormattingContext) (j : ℕ) → IsDocument d → length styles ≡ length d.nodes
+AnchorsStandForAbsoluteBoxes = (d : Document) (styles : List Style) (contexts : List Context) (all : List FormattingContext) (j : ℕ)
+    → IsDocument d → length styles ≡ length d.nodes
     → AreContextsOf d.nodes styles contexts → AreFormattingContextsOf contexts all → 0 < j → j < length all
-    → ((box_at (boxes_of all j) 0).flow ≡ Absolute) ↔ (role_at (boxes_of all (formatting_context_at all j).outer) (formatting_context_at all j).outer_box ≡ Anchor)
+    → ((box_at (boxes_of all j) 0).flow ≡ Absolute)
+    ↔ (role_at (boxes_of all (formatting_context_at all j).outer) (formatting_context_at all j).outer_box ≡ Anchor)
 
 -- the box stands at this place in the formatting context with this number
-pub record StandsAt (all : List FormattingContext) (number place : ℕ) (contexts : List Context) (homes : List (List ℕ)) (i k : ℕ) : Type 0 where
+pub record StandsAt (all : List FormattingContext) (number place : ℕ) (contexts : List Context) (homes : List (List ℕ)) (i k : ℕ)
+    : Type 0 where
   pub within : number < length all
   pub inside : place < length (boxes_of all number)
   pub box : box_at (boxes_of all number) place ≡ as_member (boxes_in contexts i) (homes_in homes i) k
 
 -- Each box of a context but its own stands in the list of its home.
 abbrev pub BoxesStandAtHome : Type 0
-BoxesStandAtHome = (contexts : List Context) (all : List FormattingContext) (of : AreFormattingContextsOf contexts all) (i k : ℕ) → AreContexts contexts
+BoxesStandAtHome = (contexts : List Context) (all : List FormattingContext) (of : AreFormattingContextsOf contexts all) (i k : ℕ)
+    → AreContexts contexts
     → i < length contexts → 0 < k → k < length (boxes_in contexts i)
-    → (let homes : List ℕ = homes_in of.homes i in StandsAt all (number_of contexts i (slice_index homes k)) (rank homes k) contexts of.homes i k)
+    → (let homes : List ℕ =
+    homes_in of.homes i in StandsAt all (number_of contexts i (slice_index homes k)) (rank homes k) contexts of.homes i k)
 
 -- And each root stands first in its own.
 abbrev pub RootsStandFirst : Type 0
@@ -69,6 +76,7 @@ IsWhole contexts i = (k : ℕ) → 0 < k → k < length (boxes_in contexts i) �
 
 -- In a context without anonymous tables and cells the formatting context has the same boxes.
 abbrev pub WholeContextsKeepBoxes : Type 0
-WholeContextsKeepBoxes = (contexts : List Context) (all : List FormattingContext) (i : ℕ) → AreContexts contexts → AreFormattingContextsOf contexts all
+WholeContextsKeepBoxes = (contexts : List Context) (all : List FormattingContext) (i : ℕ)
+    → AreContexts contexts → AreFormattingContextsOf contexts all
     → i < length contexts → IsWhole contexts i
     → boxes_of all (number_of contexts i 0) ≡ boxes_in contexts i

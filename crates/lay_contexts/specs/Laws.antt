@@ -22,21 +22,26 @@ pub record IsNotedAround (contexts : List Context) (j : ℕ) : Type 0 where
 
 -- Each context but the root's is noted in the one around it.
 abbrev pub ContextsAreNotedAround : Type 0
-ContextsAreNotedAround = (d : Document) (styles : List Style) (contexts : List Context) (j : ℕ) → IsDocument d → length styles ≡ length d.nodes
+ContextsAreNotedAround = (d : Document) (styles : List Style) (contexts : List Context) (j : ℕ)
+    → IsDocument d → length styles ≡ length d.nodes
     → AreContextsOf d.nodes styles contexts → 0 < j → j < length contexts → IsNotedAround contexts j
 
 -- in the one around it, what stands for the box of the context with the number j is in the flow of that box, and is an anchor
 -- just where that is absolutely positioned
 pub record KeepsFlowAround (contexts : List Context) (j : ℕ) : Type 0 where
   pub flow : flow_at (boxes_in contexts (context_at contexts j).outer) (context_at contexts j).outer_box ≡ flow_at (boxes_in contexts j) 0
-  pub anchor : is_anchor_at (boxes_in contexts (context_at contexts j).outer) (context_at contexts j).outer_box ≡ is_absolute (flow_at (boxes_in contexts j) 0)
+  pub anchor : is_anchor_at (boxes_in contexts (context_at contexts j).outer) (context_at contexts j).outer_box
+      ≡ is_absolute (flow_at (boxes_in contexts j) 0)
 
 -- For each context but the root's the one around it has that.
 abbrev pub ContextsKeepFlowAround : Type 0
-ContextsKeepFlowAround = (d : Document) (styles : List Style) (contexts : List Context) (j : ℕ) → IsDocument d → length styles ≡ length d.nodes
+ContextsKeepFlowAround = (d : Document) (styles : List Style) (contexts : List Context) (j : ℕ)
+    → IsDocument d → length styles ≡ length d.nodes
     → AreContextsOf d.nodes styles contexts → 0 < j → j < length contexts → KeepsFlowAround contexts j
 
 -- Anonymous boxes are in flow.
 abbrev pub AnonymousBoxesAreInFlow : Type 0
-AnonymousBoxesAreInFlow = (d : Document) (styles : List Style) (contexts : List Context) (i k : ℕ) → IsDocument d → length styles ≡ length d.nodes
-    → AreContextsOf d.nodes styles contexts → i < length contexts → is_anonymous (boxes_in contexts i) k ≡ true → flow_at (boxes_in contexts i) k ≡ InFlow
+AnonymousBoxesAreInFlow = (d : Document) (styles : List Style) (contexts : List Context) (i k : ℕ)
+    → IsDocument d → length styles ≡ length d.nodes
+    → AreContextsOf d.nodes styles contexts → i < length contexts → is_anonymous (boxes_in contexts i) k ≡ true
+    → flow_at (boxes_in contexts i) k ≡ InFlow

@@ -12,5 +12,6 @@ IsListed contexts homes all i r = formatting_context_at all (number_of contexts 
 -- those of all contexts before i are, and of the roots before n in the context i
 pub record AreListedTo (contexts : List Context) (homes : List (List ℕ)) (all : List FormattingContext) (i n : ℕ) : Type 0 where
   pub count : length all ≡ number_of contexts i n
-  pub before : (j r : ℕ) → j < i → r < length (boxes_in contexts j) → is_root (boxes_in contexts j) r ≡ true → IsListed contexts homes all j r
+  pub before : (j r : ℕ) → j < i → r < length (boxes_in contexts j) → is_root (boxes_in contexts j) r ≡ true
+      → IsListed contexts homes all j r
   pub here : (r : ℕ) → r < n → is_root (boxes_in contexts i) r ≡ true → IsListed contexts homes all i r

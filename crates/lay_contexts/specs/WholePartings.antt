@@ -21,4 +21,9 @@ whole_parting first next inside = record {
 
 abbrev pub parting_of : Parts → Parting
 parting_of (Whole first next inside) = whole_parting first next inside
-parting_of (Several columns) = record { homes = columns.homes.items; ranks = columns.ranks.ranks.items; at_home = columns.ranks.at_home.items; numbers = columns.numbers.items }
+parting_of (Several columns) = record {
+  homes = columns.homes.items;
+  ranks = columns.ranks.ranks.items;
+  at_home = columns.ranks.at_home.items;
+  numbers = columns.numbers.items;
+}

@@ -1,7 +1,6 @@
 //! The contexts of a document with their boxes, in document order.
 
-ghost use Rattle.std.specs.Prelude.{ℕ, ◌≡◌, ◌<◌, IfOk, length, replicate, slice_index};
-ghost use Rattle.lay_box_tree.specs.ContextBoxes.{AreContextBoxes};
+ghost use Rattle.std.specs.Prelude.{◌≡◌, ◌<◌, IfOk, length, replicate};
 ghost use Rattle.lay_contexts.specs.DocumentContexts.{AreDocumentContexts, root_spot, spot_at};
 ghost use Rattle.lay_contexts.specs.ContextList.{AreContextsOf, AreNumberedTo, boxes_at, boxes_of_spots, spot_of};
 ghost use Rattle.lay_contexts.specs.ContextOrder.{AreInOrder};

@@ -23,7 +23,8 @@ impl Model for Context {
 
     ghost Value = { Plain };
 
-    ghost view = { λ c. record { place = c.spot.place; outer = c.spot.around; outer_box = c.spot.at; boxes = c.boxes; inner = c.inner.items } };
+    ghost view = { λ c.
+        record { place = c.spot.place; outer = c.spot.around; outer_box = c.spot.at; boxes = c.boxes; inner = c.inner.items } };
 }
 
 impl Context {

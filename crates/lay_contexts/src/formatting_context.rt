@@ -24,7 +24,8 @@ impl Model for FormattingContext {
 
     ghost Value = { Plain };
 
-    ghost view = { λ c. record { anonymous = c.anonymous; outer = c.outer; outer_box = c.outer_box; boxes = c.boxes; inner = c.inner.items } };
+    ghost view = { λ c.
+        record { anonymous = c.anonymous; outer = c.outer; outer_box = c.outer_box; boxes = c.boxes; inner = c.inner.items } };
 }
 
 impl FormattingContext {

@@ -2,7 +2,8 @@
 
 ghost use Rattle.std.specs.Prelude.{◌≡◌, ◌<◌, ◌+◌, true, IfOk, OnOk, length};
 ghost use Rattle.lay_contexts.specs.Contexts.{boxes_in};
-ghost use Rattle.lay_contexts.specs.FormattingContextList.{AreFormattingContextsOf, formatting_context_of, inner_number, inner_numbers, number_at, rank_at, spot_of};
+ghost use Rattle.lay_contexts.specs.FormattingContextList.{AreFormattingContextsOf, formatting_context_of};
+ghost use Rattle.lay_contexts.specs.FormattingContextList.{inner_number, inner_numbers, number_at, rank_at, spot_of};
 ghost use Rattle.lay_contexts.specs.Homes.{is_root};
 ghost use Rattle.lay_contexts.specs.Listed.{AreListedTo};
 ghost use Rattle.lay_contexts.specs.Partings.{ArePartings, homes_of};

@@ -1,7 +1,9 @@
 //! The laws of the definitions. The functions do nothing.
 
 ghost use Rattle.lay_contexts.specs.Homes.{OneHome};
-ghost use Rattle.lay_contexts.specs.FormattingLaws.{AnchorsStandForAbsoluteBoxes, BoxesStandAtHome, ElementsAreContexts, FormattingContextsStandInOrder, InnerNumbersLeadBack, OneFormattingContextList, RootsStandFirst, WholeContextsKeepBoxes};
+ghost use Rattle.lay_contexts.specs.FormattingLaws.{AnchorsStandForAbsoluteBoxes, BoxesStandAtHome, ElementsAreContexts};
+ghost use Rattle.lay_contexts.specs.FormattingLaws.{FormattingContextsStandInOrder, InnerNumbersLeadBack};
+ghost use Rattle.lay_contexts.specs.FormattingLaws.{OneFormattingContextList, RootsStandFirst, WholeContextsKeepBoxes};
 
 /// A box has one home.
 pub fn one_home()

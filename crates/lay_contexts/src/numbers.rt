@@ -1,7 +1,6 @@
 //! The numbers of the roots of a context.
 
 ghost use Rattle.std.specs.Prelude.{◌≡◌, ◌<◌, ◌≤◌, ◌+◌, IfOk, length, if◌then◌else◌};
-ghost use Rattle.lay_contexts.specs.FormattingContextList.{roots_before};
 ghost use Rattle.lay_contexts.specs.Homes.{is_root};
 ghost use Rattle.lay_contexts.specs.Partings.{AreNumbersTo, most_formatting_contexts};
 

@@ -2,7 +2,6 @@
 
 ghost use Rattle.std.specs.Prelude.{◌≡◌, ◌<◌, ◌≤◌, [], IfOk, IsTrue, length, slice_index, slice_index_or};
 ghost use Rattle.lay_box_tree.specs.ContextBoxes.{AreContextBoxes};
-ghost use Rattle.lay_contexts.specs.Contexts.{boxes_in};
 ghost use Rattle.lay_contexts.specs.Partings.{ArePartings, IsParting, most_formatting_contexts, parting_at};
 ghost use Rattle.lay_contexts.specs.WholePartings.{HasOneRoot};
 

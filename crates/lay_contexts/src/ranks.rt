@@ -91,7 +91,8 @@ fn rank(homes: &[usize], at_home: &mut Vec<Places>, k: usize) -> Result<usize, N
     requires before { (r : ℕ) → r < length homes.now → slice_index_or at_home.old.items r [] ≡ at_home_before homes.now r k }
     ensures rank { IfOk result (λ n. n ≡ rank homes.now k) }
     ensures lists { OnOk result (length at_home.new.items ≡ length homes.now) }
-    ensures after { OnOk result ((r : ℕ) → r < length homes.now → slice_index_or at_home.new.items r [] ≡ at_home_before homes.now r (k + 1)) }
+    ensures after { OnOk result
+        ((r : ℕ) → r < length homes.now → slice_index_or at_home.new.items r [] ≡ at_home_before homes.now r (k + 1)) }
 {
     if k == 0 {
         return Ok(0);

@@ -2,7 +2,7 @@
 
 ghost use Rattle.std.specs.Prelude.{ℕ, ◌≡◌, ◌<◌, ◌≤◌, true, IfOk, length};
 ghost use Rattle.lay_box_tree.specs.ContextBoxes.{AreContextBoxes};
-ghost use Rattle.lay_contexts.specs.FormattingBoxes.{as_member, as_own, boxes_of_root, place_inside, placed};
+ghost use Rattle.lay_contexts.specs.FormattingBoxes.{as_member, boxes_of_root, place_inside, placed};
 ghost use Rattle.lay_box_tree.specs.BoxColumns.{box_at};
 ghost use Rattle.lay_contexts.specs.Homes.{is_root};
 ghost use Rattle.lay_contexts.specs.Partings.{IsParting};

@@ -1,5 +1,5 @@
 -- Claims of cells, and what becomes of them.
-use Rattle.std.proofs.Common.{◌≡◌, ◌<◌, ◌≤◌, ◌+◌, ◌^◌, ◌⊎◌, ℕ, refl, ap, ◌∙◌, subst, arith, inl, inr}
+use Rattle.std.proofs.Common.{◌≡◌, ℕ, ap, ◌∙◌, subst, arith, inl, inr}
 use Rattle.lay_layout.specs.cells.declared.answers.Finished.{Finished}
 use Rattle.lay_layout.specs.cells.declared.answers.Released.{Released}
 use Rattle.lay_document_cells.specs.shape.declared.cell_key.CellKey.{CellKey}
@@ -13,7 +13,7 @@ use Rattle.lay_core.specs.CellLaws.{BatchesAreUnseen, ClaimsAreUnseen, FinishesA
 use Rattle.lay_core.specs.Claims.{DrawsFew}
 use Rattle.lay_core.specs.State.{HasNumbers, IsKept, State, document_cells, with_cells}
 use Rattle.lay_core.specs.Work.{ChangesCells}
-use Rattle.lay_core.proofs.CellWork.{IsWork, back_work, finish_work}
+use Rattle.lay_core.proofs.CellWork.{IsWork}
 use Rattle.lay_core.proofs.Kept.{work_keeps}
 
 numbers_left : (s : State) (n room : ℕ) (d : DocumentCells) → IsKept s n room → HasNumbers s → CellsDrawFew (document_cells s) d → HasNumbers (with_cells s d)

@@ -9,7 +9,6 @@ use Rattle.lay_document_cells.specs.shape.declared.cell_key.CellKey.{CellKey}
 use Rattle.lay_document_cells.specs.cell_work.Claims.{Claim}
 use Rattle.lay_document_cells.specs.claim_lists.declared.outcome.Outcome.{Outcome}
 use Rattle.lay_document_cells.specs.Outcomes.{Tally}
-use Rattle.lay_document_cells.specs.State.{State as DocumentCells}
 use Rattle.lay_document_cells.specs.Steps.{CellDone, Works}
 use Rattle.lay_document_cells.specs.declared.answers.Answer.{Answer}
 use Rattle.lay_document_cells.specs.declared.answers.Next.{Next}

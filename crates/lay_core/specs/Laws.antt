@@ -40,12 +40,14 @@ OnePublishing = (s t u : State) (p q : Publish) → IsDocument s.document → (p
 
 -- an edit has one reply and leaves one state, also of cells
 abbrev pub OneEdit : Type 0
-OneEdit = (s t u : State) (editor index : ℕ) (edits : List Change) (q r : Reply) → IsCore s → IsCore t → (q ≡ NoMemory → ⊥) → (r ≡ NoMemory → ⊥)
+OneEdit = (s t u : State) (editor index : ℕ) (edits : List Change) (q r : Reply) → IsCore s → IsCore t
+    → (q ≡ NoMemory → ⊥) → (r ≡ NoMemory → ⊥)
     → EditsTo s editor index edits q t → EditsTo s editor index edits r u → (q ≡ r) × (t ≡ u)
 
 -- and what is seen of it comes of what was seen, whatever the cells were
 abbrev pub OneSeenEdit : Type 0
-OneSeenEdit = (s z t u : State) (editor index : ℕ) (edits : List Change) (q r : Reply) → AreSeenAlike s z → (q ≡ NoMemory → ⊥) → (r ≡ NoMemory → ⊥)
+OneSeenEdit = (s z t u : State) (editor index : ℕ) (edits : List Change) (q r : Reply) → AreSeenAlike s z
+    → (q ≡ NoMemory → ⊥) → (r ≡ NoMemory → ⊥)
     → EditsTo s editor index edits q t → EditsTo z editor index edits r u → (q ≡ r) × AreSeenAlike t u
 
 -- so it is with `Latest`, where some cell was dirty in both or in neither, and with `Sync`
@@ -55,7 +57,8 @@ OneLatest = (s z t u : State) (editor index : ℕ) (q r : Reply) → IsDocument 
     → LatestTo s editor index q t → LatestTo z editor index r u → (q ≡ r) × AreSeenAlike t u
 
 abbrev pub OneSync : Type 0
-OneSync = (s z t u : State) (editor index : ℕ) (q r : Reply) → IsDocument s.document → AreSeenAlike s z → (q ≡ NoMemory → ⊥) → (r ≡ NoMemory → ⊥)
+OneSync = (s z t u : State) (editor index : ℕ) (q r : Reply) → IsDocument s.document → AreSeenAlike s z
+    → (q ≡ NoMemory → ⊥) → (r ≡ NoMemory → ⊥)
     → SyncTo s editor index q t → SyncTo z editor index r u → (q ≡ r) × AreSeenAlike t u
 
 -- the last version has a tree, which is the layout of the document, and each of whose contexts was counted

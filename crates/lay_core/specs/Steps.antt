@@ -1,5 +1,6 @@
 -- What the calls of editors on a core leave.
-use Rattle.std.specs.Prelude.{ℕ, ⊤, ◌≡◌, ◌+◌, ◌-◌, ◌&&◌, not, List, [], ◌∷◌, ◌++◌, Bool, true, false, Option, Some, None, is_some, if◌then◌else◌}
+use Rattle.std.specs.Prelude.{ℕ, ⊤, ◌≡◌, ◌+◌, ◌-◌, ◌&&◌, not, List, [], ◌∷◌, ◌++◌, Bool}
+use Rattle.std.specs.Prelude.{true, false, Option, Some, None, is_some, if◌then◌else◌}
 use Rattle.lay_layout.specs.doc.declared.edit.Edit.{Edit as Change}
 use Rattle.lay_layout.specs.doc.Document.{Document}
 use Rattle.lay_layout.specs.edit_lists.EditLists.{after_all, fault_at, first}
@@ -34,7 +35,8 @@ abbrev pub EditsTo : State → (editor index : ℕ) → List Change → Reply �
 EditsTo s editor index edits (Accepted version) t =
     (first s.document edits ≡ None) × (version ≡ accepted s.history + 1)
     × EditsDocument (called s (Edit editor index edits (Accepted version))) edits t
-EditsTo s editor index edits (Refused place f) t = (first s.document edits ≡ Some (place, f)) × (t ≡ called s (Edit editor index edits (Refused place f)))
+EditsTo s editor index edits (Refused place f) t =
+    (first s.document edits ≡ Some (place, f)) × (t ≡ called s (Edit editor index edits (Refused place f)))
 EditsTo s editor index edits (Shown version) t = ⊥
 EditsTo s editor index edits NoMemory t = (fault_at s.document edits 0 ≡ None) × (t ≡ called s (Edit editor index edits NoMemory))
 

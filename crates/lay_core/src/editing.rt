@@ -1,6 +1,6 @@
 //! An edit of a document with its cells.
 
-ghost use Rattle.std.specs.Prelude.{◌≡◌, ◌<◌, ◌≤◌, ◌^◌, ◌-◌, ◌+◌};
+ghost use Rattle.std.specs.Prelude.{◌<◌, ◌≤◌, ◌^◌, ◌-◌, ◌+◌};
 ghost use Rattle.lay_core.specs.Changes.{ChangesTo};
 
 use lay_document_cells::DocumentCells;

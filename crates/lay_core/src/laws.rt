@@ -1,8 +1,12 @@
 //! The laws of the core: what editors see after a call is decided by what they saw before, but for want of memory; and no call but an
 //! edit makes a cell, drops one or dirties one.
 
-ghost use Rattle.lay_core.specs.CellLaws.{BatchesAreUnseen, BatchesAreWork, ClaimsAreUnseen, ClaimsAreWork, FinishesAreUnseen, FinishesAreWork, GiveBacksAreUnseen, GiveBacksAreWork, LatestIsWork, NextClaimsAreUnseen, NextClaimsAreWork, OutcomesAreUnseen, OutcomesAreWork, PublishingIsWork, RefreshingIsWork, SettlingIsUnseen, SettlingIsWork, StoppingIsUnseen, StoppingIsWork, SyncIsWork};
-ghost use Rattle.lay_core.specs.Laws.{LastTree, OneEdit, OneLatest, OnePublishing, OneRefreshing, OneSeenEdit, OneSettling, OneSync, ShownTrees};
+ghost use Rattle.lay_core.specs.CellLaws.{BatchesAreUnseen, BatchesAreWork, ClaimsAreUnseen, ClaimsAreWork, FinishesAreUnseen};
+ghost use Rattle.lay_core.specs.CellLaws.{FinishesAreWork, GiveBacksAreUnseen, GiveBacksAreWork, LatestIsWork, NextClaimsAreUnseen};
+ghost use Rattle.lay_core.specs.CellLaws.{NextClaimsAreWork, OutcomesAreUnseen, OutcomesAreWork, PublishingIsWork, RefreshingIsWork};
+ghost use Rattle.lay_core.specs.CellLaws.{SettlingIsUnseen, SettlingIsWork, StoppingIsUnseen, StoppingIsWork, SyncIsWork};
+ghost use Rattle.lay_core.specs.Laws.{LastTree, OneEdit, OneLatest, OnePublishing, OneRefreshing};
+ghost use Rattle.lay_core.specs.Laws.{OneSeenEdit, OneSettling, OneSync, ShownTrees};
 
 use lay_document_cells::cell_work::Layout;
 use lay_document_cells::{claims_work, one_edit as one_cells_edit};

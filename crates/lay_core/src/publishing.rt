@@ -99,8 +99,12 @@ pub(crate) fn refreshed(
     requires trees { HasTrees history.old.items trees.old.items }
     requires room { last_or None (versions_of trees.old.items) ≢ Some version → length history.old.items < vec_capacity history.old }
     requires draws { cells.old.cells.draws ≤ 2 ^ 63 + 2 ^ 51 }
-    ensures ok { OnOk result ((s : State) → RefreshesTo (parts s cells.old history.old.items trees.old.items) (parts s cells.new history.new.items trees.new.items)) }
-    ensures err { OnErr result ((s : State) → MaySettle (parts s cells.old history.old.items trees.old.items) (parts s cells.new history.new.items trees.new.items)) }
+    ensures ok { OnOk result
+        ((s : State)
+        → RefreshesTo (parts s cells.old history.old.items trees.old.items) (parts s cells.new history.new.items trees.new.items)) }
+    ensures err { OnErr result
+        ((s : State)
+        → MaySettle (parts s cells.old history.old.items trees.old.items) (parts s cells.new history.new.items trees.new.items)) }
     ensures cause { OnErr result ((are_clean cells.old.cells.rows ≡ false) ⊎ (last_or None (versions_of trees.old.items) ≢ Some version)) }
     ensures draws { cells.new.cells.draws ≤ cells.old.cells.draws + 2 ^ 18 }
     ensures capacity { vec_capacity history.new ≡ vec_capacity history.old }
@@ -135,7 +139,9 @@ fn published(
     requires version { version ≡ accepted history.old.items }
     requires trees { HasTrees history.old.items trees.old.items }
     requires room { last_or None (versions_of trees.old.items) ≢ Some version → length history.old.items < vec_capacity history.old }
-    ensures ok { OnOk result ((s : State) → Publishes (parts s cells.now history.old.items trees.old.items) (parts s cells.now history.new.items trees.new.items)) }
+    ensures ok { OnOk result
+        ((s : State)
+        → Publishes (parts s cells.now history.old.items trees.old.items) (parts s cells.now history.new.items trees.new.items)) }
     ensures other { OnErr result (last_or None (versions_of trees.old.items) ≢ Some version) }
     ensures same_history { OnErr result (history.new.items ≡ history.old.items) }
     ensures same_trees { OnErr result (trees.new.items ≡ trees.old.items) }

@@ -26,8 +26,10 @@ pub(crate) fn shown_present(
     requires trees { HasTrees history.old.items trees.old.items }
     requires room { length history.old.items < vec_capacity history.old }
     requires draws { cells.old.cells.draws ≤ 2 ^ 63 + 2 ^ 51 }
-    ensures shows { (s : State) → ShowsPresent (parts s cells.old history.old.items trees.old.items) result (parts s cells.new history.new.items trees.new.items) }
-    ensures cause { result ≡ Reply.NoMemory → (are_clean cells.old.cells.rows ≡ false) ⊎ (last_or None (versions_of trees.old.items) ≢ Some version) }
+    ensures shows { (s : State)
+        → ShowsPresent (parts s cells.old history.old.items trees.old.items) result (parts s cells.new history.new.items trees.new.items) }
+    ensures cause { result ≡ Reply.NoMemory
+        → (are_clean cells.old.cells.rows ≡ false) ⊎ (last_or None (versions_of trees.old.items) ≢ Some version) }
     ensures draws { cells.new.cells.draws ≤ cells.old.cells.draws + 2 ^ 18 }
     ensures capacity { vec_capacity history.new ≡ vec_capacity history.old }
 {

@@ -1,5 +1,5 @@
 -- The rows after a new shape and after marks: each is made anew, with no input, or was there with the same key, input and turns.
-use Rattle.std.proofs.Common.{◌≡◌, ◌⊎◌, inl, inr, ◌+◌, ℕ, zero, suc, List, [], ◌∷◌, slice_get, None, Some, refl, ap, sym, subst, ◌∙◌}
+use Rattle.std.proofs.Common.{◌≡◌, ◌⊎◌, inl, inr, ℕ, zero, suc, List, [], ◌∷◌, slice_get, None, Some, refl, ap, sym, subst}
 use Rattle.lay_layout.specs.cells.Marks.{Marks, Reached, marked}
 use Rattle.lay_layout.specs.cells.Reshapes.{Carries, Rebuilds, RebuildsAll}
 use Rattle.lay_layout.specs.cells.Rows.{Row}

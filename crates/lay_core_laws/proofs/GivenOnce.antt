@@ -25,7 +25,7 @@ use Rattle.lay_list_steps.specs.cell_work.CellLocal.{IsCellLocal}
 use Rattle.lay_list_steps.specs.cell_work.CellValues.{CellValue}
 use Rattle.lay_list_steps.specs.cell_work.KeptValues.{workings_of}
 use Rattle.lay_core.specs.document_cells.State.{AreListsOf}
-use Rattle.lay_core_laws.specs.GivenInputs.{DependsOn, IsCellOfKey, IsGivenAmong, IsGivenIn, IsRightAmong, directly, input_among, through}
+use Rattle.lay_core_laws.specs.GivenInputs.{DependsOn, IsCellOfKey, IsGivenAmong, IsRightAmong, directly, input_among, through}
 use Rattle.lay_core_laws.specs.Laws.{OneGivenInput}
 use Rattle.lay_core_laws.proofs.OneLists.{apart, counted, in_order, one_lists}
 

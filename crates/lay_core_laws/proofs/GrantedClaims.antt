@@ -1,5 +1,5 @@
 -- The claims that a core grants in a batch are for what cells are given among the contexts of its document, which goes one way.
-use Rattle.std.proofs.Common.{◌≡◌, ⊎_elim, inl, inr, ℕ, List, [], ◌∷◌, ◌++◌, slice_get, Option, Result, Some, refl, ap, sym, subst, ◌∙◌}
+use Rattle.std.proofs.Common.{◌≡◌, inl, inr, ℕ, List, slice_get, Option, Result, Some, refl, ap, sym, subst, ◌∙◌}
 use Rattle.lay_layout.specs.units.declared.memory.NoMemory.{NoMemory}
 use Rattle.lay_layout.specs.doc.Document.{Document, IsDocument}
 use Rattle.lay_layout.proofs.lay_history.Lists.{get_more}
@@ -14,9 +14,9 @@ use Rattle.lay_core.specs.document_cells.Batches.{ClaimsSome as CellsClaimSome, 
 use Rattle.lay_core.specs.document_cells.Claims.{AnswersNext, Passes, none as none_passed, reused, taken}
 use Rattle.lay_core.specs.document_cells.declared.answers.Next.TheVariants.{Granted}
 use Rattle.lay_core.specs.document_cells.declared.idle.IdleKind.{IdleKind}
-use Rattle.lay_core.specs.document_cells.State.{AreListsOf, State as DocumentCells}
-use Rattle.lay_core.specs.document_cells.Steps.{ClaimsTo, IsGivenNow}
-use Rattle.lay_core.specs.State.{State, document_cells}
+use Rattle.lay_core.specs.document_cells.State.{State as DocumentCells}
+use Rattle.lay_core.specs.document_cells.Steps.{IsGivenNow}
+use Rattle.lay_core.specs.State.{document_cells}
 use Rattle.lay_core_laws.specs.Laws.{GrantedBatchesAreOneByOne, GrantedClaimsHaveOneWork}
 use Rattle.lay_outcome_laws.specs.Laws.{BatchesAreOneByOne, OneWork}
 use Rattle.lay_core_laws.proofs.OneLists.{in_order}

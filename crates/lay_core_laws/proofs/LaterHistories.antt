@@ -1,5 +1,5 @@
 -- Histories with more entries: their versions so far are the same, and without an accepted list of edits there is none more.
-use Rattle.std.proofs.Common.{◌≡◌, ◌≤◌, ◌+◌, ℕ, List, [], ◌∷◌, ◌++◌, length, refl, ap, sym, ◌∙◌, arith}
+use Rattle.std.proofs.Common.{◌≡◌, ◌+◌, List, [], ◌∷◌, ◌++◌, length, ap, ◌∙◌, arith}
 use Rattle.lay_layout.specs.doc.Document.{Document}
 use Rattle.lay_layout.specs.edit_lists.declared.history.Entry.{Entry}
 use Rattle.lay_layout.specs.history.Histories.{accepted, doc_at, list_in}

@@ -1,6 +1,7 @@
 -- The changes of a cell's input in a history: there is one list of them, and not more turns than changes, since from a version to a later
 -- one in which the cell is given another input some list of edits changes it.
-use Rattle.std.proofs.Common.{◌≡◌, ◌≢◌, ◌⊎◌, ⊎_elim, inl, inr, ◌<◌, ◌≤◌, ◌+◌, ◌-◌, ℕ, zero, suc, Bool, true, false, List, [], ◌∷◌, length, take, slice_get, Option, None, Some, refl, ap, sym, subst, ◌∙◌, arith}
+use Rattle.std.proofs.Common.{◌≡◌, ◌⊎◌, ⊎_elim, inl, inr, ◌<◌, ◌≤◌, ◌+◌, ◌-◌, ℕ, zero, suc, Bool, true, false, List, [], ◌∷◌, length, take, slice_get, Option, None, Some, refl, ap, sym, subst, ◌∙◌, arith}
+use Rattle.lay_layout.specs.positioned.Levels.{one_if}
 use Rattle.lay_layout.specs.doc.Document.{Document}
 use Rattle.lay_layout.specs.edit_lists.declared.history.Entry.{Entry}
 use Rattle.lay_layout.specs.face.FaceValue.{FaceValue}
@@ -9,7 +10,7 @@ use Rattle.lay_layout.proofs.lay_history.Lists.{get_some, some_is, take_whole}
 use Rattle.lay_list_steps.specs.shape.declared.cell_key.CellKey.{CellKey}
 use Rattle.lay_list_steps.specs.cell_work.CellInputs.{CellInput}
 use Rattle.lay_core_laws.specs.GivenInputs.{HasCell, IsGivenIn}
-use Rattle.lay_core_laws.specs.InputChanges.{AreChanges, ChangesInput, IsChange, KeepsInput, changes, one_if}
+use Rattle.lay_core_laws.specs.InputChanges.{AreChanges, ChangesInput, IsChange, KeepsInput, changes}
 use Rattle.lay_core_laws.specs.Laws.{OneGivenInput, OneListOfChanges, TurnsAreFew}
 use Rattle.lay_core_laws.specs.Turns.{StaysThere, Turned, again, first}
 use Rattle.lay_core_laws.proofs.TurnSteps.{has_cell, last_given, last_within}

@@ -1,5 +1,5 @@
 -- A document has one list of contexts and one of formatting contexts.
-use Rattle.std.proofs.Common.{◌≡◌, length, ap, ◌∙◌}
+use Rattle.std.proofs.Common.{◌≡◌, length, ◌∙◌}
 use Rattle.lay_layout.specs.doc.Document.{Document, IsDocument, declarations_of, parents_of}
 use Rattle.lay_layout.specs.doc.Laws.{OneStyleColumn}
 use Rattle.lay_layout.proofs.lay_boxgen.NodeColumns.{length-parents}

@@ -1,25 +1,21 @@
 -- Whatever calls came to a core, what was handed in for each cell last was given to it in some version, after as many turns as it has.
-use Rattle.std.proofs.Common.{◌≡◌, ⊎_elim, inl, inr, ◌<◌, ◌≤◌, ◌+◌, ℕ, List, [], ◌∷◌, ◌++◌, length, slice_get, Option, None, Some, refl, ap, sym, subst, ◌∙◌, arith}
+use Rattle.std.proofs.Common.{◌≡◌, inl, inr, ◌≤◌, ◌+◌, ℕ, List, [], ◌∷◌, ◌++◌, slice_get, Option, None, Some, refl, ap, sym, subst, ◌∙◌, arith}
 use Rattle.lay_layout.specs.doc.Document.{Document}
 use Rattle.lay_layout.specs.doc.Laws.{OneStyleColumn}
 use Rattle.lay_layout.specs.doc.declared.edit.Edit.{Edit as Change}
-use Rattle.lay_layout.specs.edit_lists.EditLists.{after_all}
 use Rattle.lay_layout.specs.edit_lists.declared.command.Reply.TheVariants.{Accepted}
 use Rattle.lay_layout.specs.edit_lists.declared.history.Entry.{Entry}
 use Rattle.lay_layout.specs.edit_lists.declared.history.Entry.TheVariants.{Edit}
 use Rattle.lay_layout.specs.face.FaceValue.{FaceValue}
 use Rattle.lay_layout.specs.history.Histories.{accepted, doc_at}
-use Rattle.lay_layout.specs.history.Legal.{doc_after}
 use Rattle.lay_layout.proofs.lay_history.OneMore.{accepted_more}
 use Rattle.lay_layout.specs.cells.Shapes.{IsIn}
 use Rattle.lay_layout.specs.contexts.FormattingLaws.{OneFormattingContextList}
 use Rattle.lay_layout.specs.contexts.Laws.{OneContextList}
 use Rattle.lay_list_steps.specs.shape.Shapes.{shape_of}
 use Rattle.lay_list_steps.specs.shape.declared.cell_key.CellKey.{CellKey}
-use Rattle.lay_list_steps.specs.shape.declared.context_phase.ContextPhase.{ContextPhase}
 use Rattle.lay_list_steps.proofs.lay_cell_steps.ChangedRow.{in_order}
 use Rattle.lay_list_steps.proofs.lay_cell_steps.RowsOfContexts.{row_of}
-use Rattle.lay_list_steps.specs.cell_laws.DocumentCells.{AreDocumentCells}
 use Rattle.lay_list_steps.specs.cell_laws.KeptInputs.{InputsAreKept}
 use Rattle.lay_list_steps.specs.cell_laws.SoundCells.{CellRow, CellState}
 use Rattle.lay_list_steps.specs.cell_work.CellInputs.{CellInput}
@@ -29,15 +25,15 @@ use Rattle.lay_core.specs.document_cells.State.{AreListsOf, IsOfDocument, State 
 use Rattle.lay_core.specs.State.{IsCore, State, document_cells}
 use Rattle.lay_core.specs.Steps.{EditsTo, IsNewCore}
 use Rattle.lay_core_laws.specs.GivenInputs.{HasCell, IsGivenIn}
-use Rattle.lay_core_laws.specs.InputChanges.{AreChanges, changes}
+use Rattle.lay_core_laws.specs.InputChanges.{changes}
 use Rattle.lay_core_laws.specs.Laws.{GrantsArePaidByChanges, GrantsAreWithin, OneGivenInput, OriginsStay, TurnsAreChanges, TurnsAreFew, TurnsAreOfVersions, TurnsAreWithin}
-use Rattle.lay_core_laws.specs.ReachedCores.{CallsTo, IsReached, called, new}
-use Rattle.lay_core_laws.specs.Turns.{HasTurned, HasTurnedTo}
+use Rattle.lay_core_laws.specs.ReachedCores.{IsReached, called, new}
+use Rattle.lay_core_laws.specs.Turns.{HasTurned}
 use Rattle.lay_core_laws.proofs.CarriedTurns.{IsFrom, IsNewRow, IsOldRow, marks_from, rebuilt_from}
 use Rattle.lay_core_laws.proofs.LaterHistories.{Rests, one_entry}
 use Rattle.lay_core_laws.proofs.QuietCalls.{Called, IsQuiet, accepts, rests, what_called}
-use Rattle.lay_core_laws.proofs.TurnSteps.{GoesOn, StaysOn, TurnsTo, handed_in, has_turned_on, not_turned, turns_below}
-use Rattle.lay_core_laws.proofs.WorkTurns.{AreHeld, HoldsOfAll, IsHeld, works_keep}
+use Rattle.lay_core_laws.proofs.TurnSteps.{GoesOn, StaysOn, handed_in, has_turned_on, not_turned, turns_below}
+use Rattle.lay_core_laws.proofs.WorkTurns.{HoldsOfAll, works_keep}
 
 lists_are : (s : State) (sound : IsOfDocument (document_cells s)) → AreListsOf s.document sound.lists
 lists_are s sound = (

@@ -1,6 +1,6 @@
 -- What a cell that is ready is given among the values that cells keep is what it is given in the layout of the document: all that it depends
 -- on is clean, and so right beside what it is given now.
-use Rattle.std.proofs.Common.{◌≡◌, ◌<◌, ℕ, List, length, Option, None, Some, option_map, refl, ap, sym, subst, ◌∙◌}
+use Rattle.std.proofs.Common.{◌≡◌, ◌<◌, List, length, Option, None, Some, option_map, refl, ap, sym, subst, ◌∙◌}
 use Rattle.lay_layout.specs.doc.Document.{Document}
 use Rattle.lay_layout.specs.face.FaceValue.{FaceValue}
 use Rattle.lay_layout.specs.cells.Looks.{AreClean, IsClean, Looks}
@@ -9,8 +9,6 @@ use Rattle.lay_layout.specs.cells.Shapes.{IsIn}
 use Rattle.lay_layout.specs.cells.declared.answers.Look.TheVariants.{Ready}
 use Rattle.lay_layout.specs.contexts.Contexts.{Context}
 use Rattle.lay_layout.specs.contexts.FormattingContexts.{FormattingContext}
-use Rattle.lay_layout.specs.context.declared.task.Phase.{Phase}
-use Rattle.lay_layout.specs.context.Medium.{Medium}
 use Rattle.lay_layout.specs.context.Solves.{medium_of}
 use Rattle.lay_list_steps.specs.shape.declared.cell_key.CellKey.{CellKey}
 use Rattle.lay_list_steps.specs.shape.declared.context_phase.ContextPhase.{ContextPhase}

@@ -1,8 +1,6 @@
 -- Where the value of each cell is right, the tree of these values is the layout of the document.
-use Rattle.std.proofs.Common.{◌≡◌, ◌<◌, ℕ, length, refl}
+use Rattle.std.proofs.Common.{◌<◌, ℕ, length, refl}
 use Rattle.lay_layout.specs.doc.Document.{Document, IsDocument}
-use Rattle.lay_layout.specs.face.FaceValue.{FaceValue}
-use Rattle.lay_layout.specs.frag.Pieces.{Context as PageContext}
 use Rattle.lay_layout.specs.contexts.Laws.{AnonymousBoxesAreInFlow}
 use Rattle.lay_layout.specs.context.declared.task.Phase.{Phase}
 use Rattle.lay_layout.specs.context.Solves.{medium_of}
@@ -14,7 +12,7 @@ use Rattle.lay_list_steps.proofs.lay_cell_laws.CleanCells.{all_done, has_counts}
 use Rattle.lay_list_steps.proofs.lay_cell_laws.RootsOfContexts.{AreCalm}
 use Rattle.lay_list_steps.specs.cell_work.KeptValues.{workings_of}
 use Rattle.lay_layout.specs.cells.Shapes.{IsIn}
-use Rattle.lay_core_laws.specs.GivenInputs.{DependsOn, IsRightAmong, directly, through}
+use Rattle.lay_core_laws.specs.GivenInputs.{DependsOn, directly, through}
 use Rattle.lay_core_laws.specs.Laws.{LayoutsGiveInputs}
 use Rattle.lay_core.specs.document_cells.State.{AreListsOf}
 use Rattle.lay_core_laws.proofs.OneLists.{counted, in_order}

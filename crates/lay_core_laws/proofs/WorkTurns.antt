@@ -1,5 +1,5 @@
 -- Work on the cells of a document hands in for each cell what that is given in the layout of the document, and keeps the cells its cells.
-use Rattle.std.proofs.Common.{◌≡◌, ⊎_elim, inl, inr, ◌<◌, ◌+◌, ℕ, List, length, slice_set, Option, Some, refl, ap, sym, subst, ◌∙◌, arith}
+use Rattle.std.proofs.Common.{◌≡◌, ⊎_elim, inl, inr, ◌<◌, ◌+◌, ℕ, List, length, slice_set, Option, Some, ap, sym, subst, ◌∙◌, arith}
 use Rattle.lay_layout.specs.doc.Document.{Document}
 use Rattle.lay_layout.specs.doc.Laws.{OneStyleColumn}
 use Rattle.lay_layout.specs.face.FaceValue.{FaceValue}
@@ -34,7 +34,7 @@ use Rattle.lay_list_steps.specs.cell_work.CellInputs.{CellInput}
 use Rattle.lay_list_steps.specs.cell_work.CellLocal.{IsCellLocal}
 use Rattle.lay_list_steps.specs.cell_work.CellValues.{CellValue}
 use Rattle.lay_core.specs.document_cells.State.{AreListsOf, State}
-use Rattle.lay_core.specs.document_cells.Steps.{ClaimsTo, FinishesTo, GivesBackTo, Step, Works, claim, finish, give_back, none, step}
+use Rattle.lay_core.specs.document_cells.Steps.{ClaimsTo, Step, Works, claim, finish, give_back, none, step}
 use Rattle.lay_core_laws.specs.GivenInputs.{IsGivenIn}
 use Rattle.lay_core_laws.proofs.OneLists.{one_lists}
 use Rattle.lay_core_laws.proofs.ReadyGiven.{ready_given}

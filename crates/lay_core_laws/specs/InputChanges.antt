@@ -5,6 +5,7 @@ use Rattle.lay_layout.specs.doc.Document.{Document}
 use Rattle.lay_layout.specs.edit_lists.declared.history.Entry.{Entry}
 use Rattle.lay_layout.specs.face.FaceValue.{FaceValue}
 use Rattle.lay_layout.specs.history.Histories.{accepted, doc_at}
+use Rattle.lay_layout.specs.positioned.Levels.{one_if}
 use Rattle.lay_list_steps.specs.shape.declared.cell_key.CellKey.{CellKey}
 use Rattle.lay_list_steps.specs.cell_work.CellInputs.{CellInput}
 use Rattle.lay_core_laws.specs.GivenInputs.{HasCell, IsGivenIn}
@@ -33,10 +34,6 @@ pub record AreChanges (init : Document) (face : FaceValue) (history : List Entry
   pub count : length flags ≡ accepted history
   pub each : (version : ℕ) (flag : Bool) → slice_get flags version ≡ Some flag
       → IsChange face key (doc_at init history version) (doc_at init history (version + 1)) flag
-
-abbrev pub one_if : Bool → ℕ
-one_if true = 1
-one_if false = 0
 
 -- how many lists of edits change it
 abbrev pub changes : List Bool → ℕ

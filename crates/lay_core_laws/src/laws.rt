@@ -1,6 +1,8 @@
 //! The laws.
 
-ghost use Rattle.lay_core_laws.specs.Laws.{GrantedBatchesAreOneByOne, GrantedClaimsHaveOneWork, GrantsArePaidByChanges, GrantsAreWithin, LayoutsGiveInputs, OneGivenInput, OneListOfChanges, OriginsStay, ReadyCellsAreGiven, TurnsAreChanges, TurnsAreFew, TurnsAreOfVersions, TurnsAreWithin};
+ghost use Rattle.lay_core_laws.specs.Laws.{GrantedBatchesAreOneByOne, GrantedClaimsHaveOneWork, GrantsArePaidByChanges};
+ghost use Rattle.lay_core_laws.specs.Laws.{GrantsAreWithin, LayoutsGiveInputs, OneGivenInput, OneListOfChanges, OriginsStay};
+ghost use Rattle.lay_core_laws.specs.Laws.{ReadyCellsAreGiven, TurnsAreChanges, TurnsAreFew, TurnsAreOfVersions, TurnsAreWithin};
 
 use lay_core::document_cells::claims_work;
 use lay_layout::contexts::{

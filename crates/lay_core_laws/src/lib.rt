@@ -2,8 +2,8 @@
 //!
 //! `specs/ReachedCores.antt` says which cores calls lead to. `specs/GivenInputs.antt` says what a cell is given in the layout of a
 //! document (CSS 2.2, 9.4.1), whatever cells keep; `specs/InputChanges.antt` how often that changes in a history, and `specs/Turns.antt`
-//! how often it turned. `specs/Laws.antt` says that the turns of a cell that is there are at most these changes, and that batches of claims come to what
-//! the claims come to one after another.
+//! how often it turned. `specs/Laws.antt` says that the turns of a cell that is there are at most these changes, and that batches of
+//! claims come to what the claims come to one after another.
 #![tactic(auto)]
 
 mod laws;

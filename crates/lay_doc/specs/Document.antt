@@ -1,5 +1,6 @@
 -- A document: a viewport in px, and its nodes in document order, each with the place of its parent.
-use Rattle.std.specs.Prelude.{ℕ, zero, ◌≡◌, ◌+◌, ◌<◌, ◌≤◌, List, [], ◌∷◌, map, length, sum_by, slice_index, suc, ◌||◌, nat_lt, Bool, true, false}
+use Rattle.std.specs.Prelude.{ℕ, zero, ◌≡◌, ◌+◌, ◌<◌, ◌≤◌, List, [], ◌∷◌, map, length}
+use Rattle.std.specs.Prelude.{sum_by, slice_index, suc, ◌||◌, nat_lt, Bool, true, false}
 use Rattle.std.specs.List.{All, insert}
 use Rattle.lay_units.specs.Limits.{longest_text, most_depth, most_nodes, most_text}
 use Rattle.lay_style.specs.Values.{Declaration}
@@ -52,8 +53,8 @@ is_text_at (n ∷ ns) (suc k) = is_text_at ns k
 abbrev pub IsNode : Node → Type 0
 IsNode n = IsNodeForm n.kind n.decls n.text
 
--- ids differ and aren't 0, each node is what one of its kind may be, the first node is an element without parent, each other node's parent is an
--- element before it, the nodes of each subtree stand together, and the limits hold
+-- ids differ and aren't 0, each node is what one of its kind may be, the first node is an element without parent, each other
+-- node's parent is an element before it, the nodes of each subtree stand together, and the limits hold
 pub record IsDocument (d : Document) : Type 0 where
   pub wide : 1 ≤ d.width
   pub narrow : d.width ≤ 1000000
@@ -68,7 +69,8 @@ pub record IsDocument (d : Document) : Type 0 where
   pub ids : (j k : ℕ) → j < k → k < length d.nodes → slice_index (ids_of d.nodes) j ≡ slice_index (ids_of d.nodes) k → ⊥
   pub named : (k : ℕ) → k < length d.nodes → 0 < slice_index (ids_of d.nodes) k
   pub depth_root : slice_index (depths_of d.nodes) 0 ≡ 1
-  pub depth : (k : ℕ) → 0 < k → k < length d.nodes → slice_index (depths_of d.nodes) k ≡ slice_index (depths_of d.nodes) (slice_index (parents_of d.nodes) k) + 1
+  pub depth : (k : ℕ) → 0 < k → k < length d.nodes
+      → slice_index (depths_of d.nodes) k ≡ slice_index (depths_of d.nodes) (slice_index (parents_of d.nodes) k) + 1
   pub shallow : (k : ℕ) → k < length d.nodes → slice_index (depths_of d.nodes) k ≤ most_depth
   pub short : (k : ℕ) → k < length d.nodes → slice_index (text_lengths_of d.nodes) k ≤ longest_text
   pub small : text_size d.nodes ≤ most_text

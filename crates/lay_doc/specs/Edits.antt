@@ -1,5 +1,6 @@
 -- The first fault of an edit, and the document after an edit that has none.
-use Rattle.std.specs.Prelude.{ℕ, ◌+◌, ◌==◌, ◌||◌, not, List, length, slice_index, Option, Some, None, nat_lt, nat_le, is_some, if◌then◌else◌}
+use Rattle.std.specs.Prelude.{ℕ, ◌+◌, ◌==◌, ◌||◌, not, List, length, slice_index, Option}
+use Rattle.std.specs.Prelude.{Some, None, nat_lt, nat_le, is_some, if◌then◌else◌}
 use Rattle.lay_units.specs.Limits.{most_depth, most_nodes}
 use Rattle.lay_style.specs.Places.{place_of}
 use Rattle.lay_doc.specs.declared.node.Node.{Node}
@@ -8,7 +9,8 @@ use Rattle.lay_doc.specs.declared.edit.Edit.TheVariants.{SetStyle, ClearStyle, S
 use Rattle.lay_doc.specs.declared.edit.BadDeclaration.{BadDeclaration}
 use Rattle.lay_doc.specs.declared.edit.BadDeclaration.TheVariants.{Property as no_property, Value as no_value}
 use Rattle.lay_doc.specs.declared.edit.EditFault.{EditFault}
-use Rattle.lay_doc.specs.declared.edit.EditFault.TheVariants.{NoNode, NotElement, IdTaken, BadIndex, TooManyNodes, TooDeep, TextTooLong, BadProperty, BadValue}
+use Rattle.lay_doc.specs.declared.edit.EditFault.TheVariants.{NoNode, NotElement, IdTaken, BadIndex, TooManyNodes}
+use Rattle.lay_doc.specs.declared.edit.EditFault.TheVariants.{TooDeep, TextTooLong, BadProperty, BadValue}
 use Rattle.lay_doc.specs.NewNodes.{NewNodeValue, is_element}
 use Rattle.lay_doc.specs.Tree.{child_count, slot_of}
 use Rattle.lay_doc.specs.Document.{Document, parents_of, ids_of, depths_of, text_size, is_element_at, is_too_long, inserted, becomes}

@@ -1,6 +1,7 @@
 -- The index of a document: from the id of a node to the number of its insertion, which never changes, and
 -- for each such number the present place of its node. The first ids are in order, and a map has the others.
-use Rattle.std.specs.Prelude.{ℕ, ◌≡◌, ◌<◌, ◌-◌, ◌&&◌, Bool, List, length, nat_lt, nat_le, slice_index, Option, Some, option_map, IfSome, if◌then◌else◌}
+use Rattle.std.specs.Prelude.{ℕ, ◌≡◌, ◌<◌, ◌-◌, ◌&&◌, Bool, List, length, nat_lt, nat_le}
+use Rattle.std.specs.Prelude.{slice_index, Option, Some, option_map, IfSome, if◌then◌else◌}
 use Rattle.std.specs.BTreeMap.{get}
 use Rattle.std.specs.Ordering.{nat_cmp}
 use Rattle.lay_style.specs.Places.{place_of}

@@ -12,7 +12,8 @@ use Rattle.lay_doc.specs.NewNodes.{IsNodeForm}
 use Rattle.lay_doc.specs.Tree.{IsTree}
 
 abbrev pub OneStyleColumn : Type 0
-OneStyleColumn = (parents : List ℕ) (decls : List (List Declaration)) (ss ts : List Style) → IsTree parents → HasStyles parents decls ss → HasStyles parents decls ts → ss ≡ ts
+OneStyleColumn = (parents : List ℕ) (decls : List (List Declaration)) (ss ts : List Style) → IsTree parents
+    → HasStyles parents decls ss → HasStyles parents decls ts → ss ≡ ts
 
 -- a node that an edit puts in is what one of its kind may be
 abbrev pub PutsNode : Edit → Type 0

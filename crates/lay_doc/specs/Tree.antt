@@ -1,6 +1,7 @@
 -- A tree in document order, as the list of the place of each node's parent. The root stands at place 0,
 -- and its own entry is 0.
-use Rattle.std.specs.Prelude.{ℕ, ◌≡◌, ◌+◌, ◌-◌, ◌<◌, ◌≤◌, ◌==◌, List, [], ◌∷◌, length, drop, slice_index, count_by, if◌then◌else◌, nat_lt, ◌↔◌}
+use Rattle.std.specs.Prelude.{ℕ, ◌≡◌, ◌+◌, ◌-◌, ◌<◌, ◌≤◌, ◌==◌, List, [], ◌∷◌, length}
+use Rattle.std.specs.Prelude.{drop, slice_index, count_by, if◌then◌else◌, nat_lt, ◌↔◌}
 use Rattle.std.specs.List.{between}
 
 -- the root stands first, a parent before its children, and the nodes of each subtree together
@@ -44,7 +45,8 @@ shifted at k = if nat_lt k at then k else (k + 1)
 
 -- in a tree a slot is the only one of its index, and `slot_of` is it
 abbrev pub OneSlot : Type 0
-OneSlot = (parents : List ℕ) (p index at : ℕ) → IsTree parents → p < length parents → IsSlot parents p index at → at ≡ slot_of parents p index
+OneSlot = (parents : List ℕ) (p index at : ℕ) → IsTree parents → p < length parents → IsSlot parents p index at
+    → at ≡ slot_of parents p index
 
 -- the place behind the node at p and its descendants
 abbrev pub end_of : List ℕ → ℕ → ℕ
@@ -57,4 +59,5 @@ pub data IsUnder (parents : List ℕ) (p : ℕ) : ℕ → Type 0 where
 
 -- in a tree just the node at p and its descendants stand from p up to its end
 abbrev pub HasSubtree : Type 0
-HasSubtree = (parents : List ℕ) (p k : ℕ) → IsTree parents → p < length parents → k < length parents → IsUnder parents p k ↔ ((p ≤ k) × (k < end_of parents p))
+HasSubtree = (parents : List ℕ) (p k : ℕ) → IsTree parents → p < length parents → k < length parents
+    → IsUnder parents p k ↔ ((p ≤ k) × (k < end_of parents p))

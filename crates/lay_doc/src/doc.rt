@@ -1,12 +1,15 @@
 //! A document.
 
-ghost use Rattle.std.specs.Prelude.{◌≡◌, ◌↔◌, ◌+◌, ◌<◌, ◌≤◌, ◌==◌, length, slice_index, true, false, Some, None, Err, IfOk, IfErr, IfSome, OnOk, OnErr};
+ghost use Rattle.std.specs.Prelude.{◌≡◌, ◌↔◌, ◌+◌, ◌<◌, ◌≤◌, ◌==◌, length, slice_index, true};
+ghost use Rattle.std.specs.Prelude.{false, Some, None, Err, IfOk, IfErr, IfSome, OnOk, OnErr};
 ghost use Rattle.lay_units.specs.Limits.{longest_text, most_depth, most_nodes, most_text};
 ghost use Rattle.lay_style.specs.Places.{place_of};
-ghost use Rattle.lay_doc.specs.Document.{IsDocument, ids_of, parents_of, depths_of, text_size, is_element_at, is_text_at, inserted, becomes, root_document};
+ghost use Rattle.lay_doc.specs.Document.{IsDocument, ids_of, parents_of, depths_of, text_size};
+ghost use Rattle.lay_doc.specs.Document.{is_element_at, is_text_at, inserted, becomes, root_document};
 ghost use Rattle.lay_doc.specs.NodeRefs.{node_at, parent_id};
 ghost use Rattle.lay_doc.specs.Tree.{IsSlot, children_before, child_count, end_of};
-ghost use Rattle.lay_doc.specs.Changes.{style_fault, text_fault, text_fault_at, with_style, without_style, with_text, changed_at, after_change};
+ghost use Rattle.lay_doc.specs.Changes.{style_fault, text_fault, text_fault_at, with_style};
+ghost use Rattle.lay_doc.specs.Changes.{without_style, with_text, changed_at, after_change};
 ghost use Rattle.lay_doc.specs.Removal.{remove_fault, removed, after_remove};
 ghost use Rattle.lay_doc.specs.Edits.{root_fault, fault, after, insert_fault, fault_below, last_index, after_insert, inserted_below};
 
@@ -450,7 +453,12 @@ impl Doc {
         requires shallow { slice_index (depths_of self.old.nodes) place < most_depth }
         requires short { length new.text ≤ longest_text }
         requires small { text_size self.old.nodes + length new.text ≤ most_text }
-        ensures ok { OnOk result (self.new ≡ record self.old { nodes = inserted self.old.nodes at (becomes new place (slice_index (depths_of self.old.nodes) place + 1)) }) }
+        ensures ok { OnOk result
+            (self.new
+            ≡ record self.old {
+              nodes =
+                  inserted self.old.nodes at (becomes new place (slice_index (depths_of self.old.nodes) place + 1));
+            }) }
         ensures err { OnErr result (self.new ≡ self.old) }
     {
         let bytes = new.content().len();

@@ -1,6 +1,7 @@
 //! The places of a document's nodes, by their ids.
 
-ghost use Rattle.std.specs.Prelude.{◌≡◌, ◌==◌, ◌<◌, ◌≤◌, ◌+◌, ◌-◌, ◌++◌, ◌∷◌, ℕ, [], None, Some, length, map, slice_index, vec_capacity, if◌then◌else◌, IfOk, OnOk, OnErr};
+ghost use Rattle.std.specs.Prelude.{◌≡◌, ◌==◌, ◌<◌, ◌≤◌, ◌+◌, ◌-◌, ◌++◌, ◌∷◌, ℕ, [], None, Some, length};
+ghost use Rattle.std.specs.Prelude.{map, slice_index, vec_capacity, if◌then◌else◌, IfOk, OnOk, OnErr};
 ghost use Rattle.std.specs.BTreeMap.{get};
 ghost use Rattle.std.specs.Ordering.{nat_cmp};
 ghost use Rattle.lay_units.specs.Limits.{most_nodes};
@@ -52,7 +53,8 @@ impl IdIndex {
         requires few { length nodes.now ≤ most_nodes }
         requires from { from ≤ to }
         requires to { to ≤ length nodes.now }
-        requires apart { (j k : ℕ) → j < k → k < length nodes.now → slice_index (ids_of nodes.now) j ≡ slice_index (ids_of nodes.now) k → ⊥ }
+        requires apart { (j k : ℕ) → j < k → k < length nodes.now
+            → slice_index (ids_of nodes.now) j ≡ slice_index (ids_of nodes.now) k → ⊥ }
         ensures { IfOk result (λ index. IsIndexOf index (remove_range (ids_of nodes.now) from to)) }
     {
         let mut index = IdIndex::new(alloc);
@@ -87,7 +89,8 @@ impl IdIndex {
         requires fresh { number_in self.old id ≡ None }
         requires few { length self.old.places.items ≤ most_nodes }
         requires within { (n : ℕ) → n < length self.old.places.items → slice_index self.old.places.items n < length self.old.places.items }
-        ensures numbers { OnOk result ((x : ℕ) → number_in self.new x ≡ (if x == id then Some (length self.old.places.items) else number_in self.old x)) }
+        ensures numbers { OnOk result
+            ((x : ℕ) → number_in self.new x ≡ (if x == id then Some (length self.old.places.items) else number_in self.old x)) }
         ensures places { OnOk result (self.new.places.items ≡ map (shifted at) self.old.places.items ++ at ∷ []) }
         ensures same_order { OnErr result (self.new.in_order ≡ self.old.in_order) }
         ensures same_numbers { OnErr result (self.new.numbers.entries ≡ self.old.numbers.entries) }
@@ -106,7 +109,8 @@ impl IdIndex {
     fn add_number(&mut self, id: u32) -> Result<(), NoMemory>
         requires fresh { number_in self.old id ≡ None }
         requires few { length self.old.places.items ≤ most_nodes }
-        ensures numbers { OnOk result ((x : ℕ) → number_in self.new x ≡ (if x == id then Some (length self.old.places.items) else number_in self.old x)) }
+        ensures numbers { OnOk result
+            ((x : ℕ) → number_in self.new x ≡ (if x == id then Some (length self.old.places.items) else number_in self.old x)) }
         ensures same_places { self.new.places.items ≡ self.old.places.items }
         ensures same_capacity { vec_capacity self.new.places ≡ vec_capacity self.old.places }
         ensures same_order { OnErr result (self.new.in_order ≡ self.old.in_order) }

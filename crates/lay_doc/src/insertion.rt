@@ -1,6 +1,7 @@
 //! The list of nodes and its index, when a node is put into it.
 
-ghost use Rattle.std.specs.Prelude.{◌≡◌, ◌<◌, ◌≤◌, ℕ, None, length, map, slice_index, slice_index_or, slice_set, vec_capacity, vec_len, OnOk, OnErr};
+ghost use Rattle.std.specs.Prelude.{◌≡◌, ◌<◌, ◌≤◌, ℕ, None, length, map, slice_index};
+ghost use Rattle.std.specs.Prelude.{slice_index_or, slice_set, vec_capacity, vec_len, OnOk, OnErr};
 ghost use Rattle.std.specs.List.{insert};
 ghost use Rattle.lay_units.specs.Limits.{most_nodes};
 ghost use Rattle.lay_style.specs.Places.{place_of};

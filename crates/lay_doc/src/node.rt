@@ -1,6 +1,6 @@
 //! Nodes.
 
-ghost use Rattle.std.specs.Prelude.{◌≡◌, ◌≤◌, [], ℤ, pos, ◌≤ℤ◌, IfOk};
+ghost use Rattle.std.specs.Prelude.{◌≡◌, ◌≤◌, [], pos, ◌≤ℤ◌, IfOk};
 ghost use Rattle.lay_doc.specs.Document.{becomes};
 ghost use Rattle.lay_doc.specs.NewNodes.{is_element, is_text};
 

@@ -51,7 +51,8 @@ fn cut(nodes: &mut Vec<Node>, from: usize, to: usize)
 /// parents of the nodes before them stand before them too.
 fn close_parents(nodes: &mut Vec<Node>, from: usize, to: usize)
     requires from { from ≤ to }
-    requires kept { (k : ℕ) → k < length nodes.old.items → from ≤ slice_index (parents_of nodes.old.items) k → to ≤ slice_index (parents_of nodes.old.items) k }
+    requires kept { (k : ℕ) → k < length nodes.old.items → from ≤ slice_index (parents_of nodes.old.items) k
+        → to ≤ slice_index (parents_of nodes.old.items) k }
     requires before { (k : ℕ) → k < from → slice_index (parents_of nodes.old.items) k < from }
     ensures { nodes.new.items ≡ map (moved_back from to) nodes.old.items }
 {

@@ -47,7 +47,8 @@ abbrev pub NextClaimsWork : Type 0
 NextClaimsWork = (s t : State) (answer : Next) → AnswersNext s answer t → Works s t
 
 abbrev pub BatchesWork : Type 0
-BatchesWork = (s t : State) (limit : ℕ) (claims : List Claim) (answer : Result (Option IdleKind) NoMemory) → ClaimsSome s limit claims answer t → Works s t
+BatchesWork = (s t : State) (limit : ℕ) (claims : List Claim) (answer : Result (Option IdleKind) NoMemory)
+    → ClaimsSome s limit claims answer t → Works s t
 
 abbrev pub OutcomesWork : Type 0
 OutcomesWork = (s t : State) (outcomes : List Outcome) (tally : Tally) → FinishesAll s outcomes tally t → Works s t
@@ -58,7 +59,8 @@ SettlingGivesNothingBack = (s t : State) → Settles s t → GivesNoneBack s.cel
 
 -- a list of edits leaves one state
 abbrev pub OneEdit : Type 0
-OneEdit = (s t u : State) (edits : List Edit) → IsOfDocument s → IsDocument (after_all s.document edits) → EditsTo s edits t → EditsTo s edits u → t ≡ u
+OneEdit = (s t u : State) (edits : List Edit) → IsOfDocument s → IsDocument (after_all s.document edits)
+    → EditsTo s edits t → EditsTo s edits u → t ≡ u
 
 -- where all cells are clean, three grants were counted for each context
 abbrev pub CleanCellsAreCounted : Type 0

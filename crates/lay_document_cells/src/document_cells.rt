@@ -62,7 +62,8 @@ impl Model for DocumentCells {
 
     ghost view = { λ d. record { document = d.doc; face = d.face.value; cells = d.cells; laid = d.laid } };
 
-    ghost invariant = { λ d. IsKeptWith (record { document = d.doc; face = d.face.value; cells = d.cells; laid = d.laid }) d.medium d.table d.since };
+    ghost invariant = { λ d.
+        IsKeptWith (record { document = d.doc; face = d.face.value; cells = d.cells; laid = d.laid }) d.medium d.table d.since };
 }
 
 impl DocumentCells {

@@ -1,7 +1,8 @@
 //! The laws of the definitions. The functions do nothing.
 
 ghost use Rattle.lay_document_cells.specs.TreeLengths.{TreesListContexts};
-ghost use Rattle.lay_document_cells.specs.Laws.{BatchesWork, ClaimsWork, CleanCellsAreCounted, NextClaimsWork, OneEdit, OutcomesWork, SettlingGivesNothingBack, SettlingWorks, StoppingWorks, WorkKeepsCells};
+ghost use Rattle.lay_document_cells.specs.Laws.{BatchesWork, ClaimsWork, CleanCellsAreCounted, NextClaimsWork, OneEdit, OutcomesWork};
+ghost use Rattle.lay_document_cells.specs.Laws.{SettlingGivesNothingBack, SettlingWorks, StoppingWorks, WorkKeepsCells};
 
 use lay_layout::cell_progress::{
     claims_count, claims_keep_rows, clean_cells_count, finishes_count, finishes_keep_rows,

@@ -64,7 +64,8 @@ AnswersBytes bytes wish (Refusal line) = IsRefusal bytes wish line
 -- the answer for what was read of one tree
 abbrev pub AnswersReading : Reading → Answer → Type 0
 AnswersReading s (Picture text) = IfSome s.wanted (λ version. s.is_shown ≡ true) × (text ≡ picture (plain_pieces s.pieces.items))
-AnswersReading s (Refusal line) = (version : ℕ) × (s.wanted ≡ Some version) × (s.is_shown ≡ false) × (line ≡ refusal (codes "refused version ") version)
+AnswersReading s (Refusal line) =
+    (version : ℕ) × (s.wanted ≡ Some version) × (s.is_shown ≡ false) × (line ≡ refusal (codes "refused version ") version)
 
 -- the answer for what was read of the last tree, with a piece that is marked
 abbrev pub AnswersHit : PieceName → Reading → Answer → Type 0

@@ -3,7 +3,8 @@
 -- Boxes are labelled in the order of the pieces. Where a label is in the way of the next one, that stands behind it, so those of boxes
 -- with one corner stand side by side. A box has no label where it has no room for it there, where its number stands at that
 -- corner already, or where a label is still in the way. So no two labels overlap.
-use Rattle.std.specs.Prelude.{ℕ, ◌≡◌, ◌+◌, ◌*◌, ◌&&◌, ◌==◌, Bool, not, ℤ, pos, ◌+ℤ◌, ◌-ℤ◌, ◌≤ℤ◌, ◌<ℤ◌, List, [], ◌∷◌, ◌++◌, length, fold, Option, Some, None, int_le, int_lt, if◌then◌else◌, true}
+use Rattle.std.specs.Prelude.{ℕ, ◌≡◌, ◌+◌, ◌*◌, ◌&&◌, ◌==◌, Bool, not, ℤ, pos, ◌+ℤ◌, ◌-ℤ◌, ◌≤ℤ◌, ◌<ℤ◌, List, []}
+use Rattle.std.specs.Prelude.{◌∷◌, ◌++◌, length, fold, Option, Some, None, int_le, int_lt, if◌then◌else◌, true}
 use Rattle.std.specs.List.{All, AllPairs, Any, list_any}
 use Rattle.std.specs.Ordering.{int_eq}
 use Rattle.std.specs.Fmt.{decimal}
@@ -13,7 +14,6 @@ use Rattle.lay_drawing.specs.declared.label.Label.{Label}
 use Rattle.lay_drawing.specs.declared.mark.Marked.{Marked}
 use Rattle.lay_drawing.specs.Changes.{is_box}
 use Rattle.lay_drawing.specs.Frames.{edges, IsWithin}
-use Rattle.lay_drawing.specs.Reading.{◌>>=◌}
 
 abbrev pub label_width : ℕ → ℤ
 label_width node = pos (384 * length (decimal node) + 384)

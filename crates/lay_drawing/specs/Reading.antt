@@ -1,6 +1,7 @@
 -- Lines read back, field by field. What is read is what is written (`specs/Lines.antt`): `one_line_lem` and
 -- `line_read_lem` say so.
-use Rattle.std.specs.Prelude.{ℕ, ◌^◌, ◌==◌, ◌&&◌, ◌||◌, Bool, not, false, pos, neg_ℤ, List, [], ◌∷◌, length, codes, Option, Some, None, nat_lt, nat_le, if◌then◌else◌, option_and_then}
+use Rattle.std.specs.Prelude.{ℕ, ◌^◌, ◌==◌, ◌&&◌, ◌||◌, Bool, not, false, pos, neg_ℤ, List, [], ◌∷◌, length}
+use Rattle.std.specs.Prelude.{codes, Option, Some, None, nat_lt, nat_le, if◌then◌else◌, option_and_then}
 use Rattle.std.specs.List.{list_all, slice_split}
 use Rattle.std.specs.Char.{is_ascii_digit}
 use Rattle.std.specs.Str.{bytes_eq}

@@ -2,7 +2,8 @@
 -- First comes the history: a line for each command and each version that was published. A line that shows a version
 -- is followed by the pieces of its tree, one line each; the last version and its pieces follow the history, and then,
 -- where it is told, the count of contexts that were laid out.
-use Rattle.std.specs.Prelude.{ℕ, ◌≡◌, ◌+◌, ◌==◌, Bool, true, false, List, [], ◌∷◌, ◌++◌, length, Option, Some, None, IfSome, option_and_then, if◌then◌else◌}
+use Rattle.std.specs.Prelude.{ℕ, ◌≡◌, ◌+◌, ◌==◌, Bool, true, false, List, [], ◌∷◌, ◌++◌, length}
+use Rattle.std.specs.Prelude.{Option, Some, None, IfSome, option_and_then, if◌then◌else◌}
 use Rattle.std.specs.List.{flat_map, list_any, All}
 use Rattle.lay_frag.specs.declared.frag.Frag.{Frag}
 use Rattle.lay_drawing.specs.declared.line.Line.{Line}
@@ -147,7 +148,8 @@ pub record ShowsNoTree (bytes : List ℕ) (version : ℕ) : Type 0 where
 
 -- no line that may stand there stands in front of what is left, and nothing is left only where lines are missing
 pub record IsNoLine (place : Place) (rest : List ℕ) : Type 0 where
-  pub none : (line : Line) (next : Place) (more : List ℕ) → IsLine line → next_place line place ≡ Some next → rest ≡ line_text line ++ more → ⊥
+  pub none : (line : Line) (next : Place) (more : List ℕ) → IsLine line → next_place line place ≡ Some next
+      → rest ≡ line_text line ++ more → ⊥
   pub missing : rest ≡ [] → is_whole place ≡ false
 
 -- the line of this number, from 1, is the first that is none of a report

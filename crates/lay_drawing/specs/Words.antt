@@ -2,7 +2,8 @@
 -- the option `--between` with those of two, or the option `--hit` with the kind, the node and the part of a piece, as the program
 -- `lay` names the one that is seen at a point; one of them, and once at most. Without them the last tree is asked for. Numbers are
 -- written as a report writes them.
-use Rattle.std.specs.Prelude.{ℕ, ◌≡◌, ◌==◌, ◌&&◌, true, List, [], ◌∷◌, length, codes, map, string_bytes, String, Option, Some, None, option_and_then, if◌then◌else◌}
+use Rattle.std.specs.Prelude.{ℕ, ◌≡◌, ◌==◌, ◌&&◌, true, List, [], ◌∷◌, length, codes, map}
+use Rattle.std.specs.Prelude.{string_bytes, String, Option, Some, None, option_and_then, if◌then◌else◌}
 use Rattle.std.specs.declared.alloc.Global.{Global}
 use Rattle.clap.specs.Words.{App, Rule, new_app, new_rule, with_rule, fault_of, matches_of}
 use Rattle.clap.specs.declared.builder.action.ArgAction.TheVariants.{Append}
@@ -16,14 +17,31 @@ version_rule = record (new_rule (codes "version")) { long = Some (codes "version
 
 -- an option with two values
 abbrev pub between_rule : Rule
-between_rule = record (new_rule (codes "between")) { long = Some (codes "between"); action = Some Append; range = Some (record { start_inclusive = 2; end_inclusive = 2 }) }
+between_rule =
+    record
+    (new_rule (codes "between")) {
+      long = Some (codes "between");
+      action = Some Append;
+      range = Some (record { start_inclusive = 2; end_inclusive = 2 });
+    }
 
 -- and one with three
 abbrev pub hit_rule : Rule
-hit_rule = record (new_rule (codes "hit")) { long = Some (codes "hit"); action = Some Append; range = Some (record { start_inclusive = 3; end_inclusive = 3 }) }
+hit_rule =
+    record
+    (new_rule (codes "hit")) {
+      long = Some (codes "hit");
+      action = Some Append;
+      range = Some (record { start_inclusive = 3; end_inclusive = 3 });
+    }
 
 abbrev pub bare_app : App
-bare_app = let a = new_app (codes "lay_picture") in record a { top = record a.top { no_binary_name = true; disable_help_flag = true; disable_version_flag = true } }
+bare_app = let a =
+    new_app
+    (codes "lay_picture") in record a {
+      top =
+          record a.top { no_binary_name = true; disable_help_flag = true; disable_version_flag = true };
+    }
 
 -- the command with its three options
 abbrev pub our_app : App
@@ -37,7 +55,10 @@ between_at a b = option_and_then (λ before. option_and_then (λ after. Some (Be
 
 abbrev pub hit_at : List ℕ → List ℕ → List ℕ → Option Wish
 hit_at k n p =
-    option_and_then (λ kind. option_and_then (λ node. option_and_then (λ part. Some (Hit (record { kind = kind; node = node; part = part }))) (small_of p)) (small_of n)) (kind_of k)
+    option_and_then
+    (λ kind.
+    option_and_then (λ node. option_and_then (λ part. Some (Hit (record { kind = kind; node = node; part = part }))) (small_of p))
+    (small_of n)) (kind_of k)
 
 -- the wish of these values of `--version`, where there are none of `--between`
 abbrev pub wish_with_one : List (List ℕ) → Option Wish
@@ -71,7 +92,8 @@ wish_with versions between (k ∷ more) = if length versions == 0 && length betw
 abbrev pub wish_of : List (List ℕ) → Option Wish
 wish_of words =
     if length (fault_of our_app words) == 0
-    then wish_with (values_at (codes "version") (matches_of our_app words)) (values_at (codes "between") (matches_of our_app words)) (values_at (codes "hit") (matches_of our_app words))
+    then wish_with (values_at (codes "version") (matches_of our_app words))
+    (values_at (codes "between") (matches_of our_app words)) (values_at (codes "hit") (matches_of our_app words))
     else None
 
 -- what the words ask for

@@ -1,6 +1,6 @@
 //! The answer to the bytes of a report.
 
-ghost use Rattle.std.specs.Prelude.{◌≡◌, ◌++◌, codes, IfOk, IfErr, IfSome, OnOk};
+ghost use Rattle.std.specs.Prelude.{◌≡◌, IfOk, IfErr, IfSome};
 ghost use Rattle.std.specs.List.{All};
 ghost use Rattle.std.specs.Option.{IsSome};
 ghost use Rattle.lay_drawing.specs.Lines.{IsPiece};
@@ -8,7 +8,6 @@ ghost use Rattle.lay_drawing.specs.Marks.{IsMarked, plain_pieces};
 ghost use Rattle.lay_drawing.specs.Changes.{differences};
 ghost use Rattle.lay_drawing.specs.Hits.{hit_pieces};
 ghost use Rattle.lay_drawing.specs.Picture.{picture};
-ghost use Rattle.lay_drawing.specs.Input.{IsDrained};
 ghost use Rattle.lay_drawing.specs.Answers.{refusal, AnswersBytes, AnswersReading, AnswersHit, AnswersBoth, IsLack, DrainsFor};
 
 use crate::changes::differences;

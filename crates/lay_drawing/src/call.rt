@@ -1,8 +1,7 @@
 //! The call that the program makes.
 
-ghost use Rattle.std.specs.Prelude.{◌≡◌, ◌≢◌, ◌⊎◌, ℕ, List, codes, Option, Some, IfSome};
-ghost use Rattle.lay_outside.specs.Outside.{Rose, Took, TookFront, IsQuiet};
-ghost use Rattle.lay_frag.specs.declared.frag.Frag.{Frag};
+ghost use Rattle.std.specs.Prelude.{◌≡◌, ◌≢◌, ◌⊎◌, ℕ, List, codes, Some, IfSome};
+ghost use Rattle.lay_outside.specs.Outside.{Rose, Took, TookFront};
 ghost use Rattle.lay_drawing.specs.Input.{IsDrained};
 ghost use Rattle.lay_drawing.specs.Words.{AskFor, AreWrong};
 ghost use Rattle.lay_drawing.specs.Answers.{IsPicture, IsRefusal, IsAnswer};
@@ -57,18 +56,23 @@ pub fn draw<S: Source, K: Sink>(
 ) -> Ending
     // The picture is that of the pieces which the report's lines spell, or of the differences of two such trees, and nothing is left.
     ensures drawn { result ≡ Ending.Drawn → (wish : Wish) × AskFor words.now wish × IsDrained (S.left source.old) (S.left source.new)
-        × IfSome (S.left source.old) (λ bytes. (text : List ℕ) × IsPicture bytes wish text × Took (K.taken sink.old) (K.taken sink.new) text) }
+        × IfSome (S.left source.old)
+        (λ bytes. (text : List ℕ) × IsPicture bytes wish text × Took (K.taken sink.old) (K.taken sink.new) text) }
     ensures refused { result ≡ Ending.Refused → (wish : Wish) × AskFor words.now wish
-        × IfSome (S.left source.old) (λ bytes. (line : List ℕ) × IsRefusal bytes wish line × Took (K.taken sink.old) (K.taken sink.new) line) }
+        × IfSome (S.left source.old)
+        (λ bytes. (line : List ℕ) × IsRefusal bytes wish line × Took (K.taken sink.old) (K.taken sink.new) line) }
     ensures usage { result ≡ Ending.Usage → AreWrong words.now × Took (K.taken sink.old) (K.taken sink.new) (codes "usage\n") }
-    ensures read_fault { result ≡ Ending.ReadFault → Rose (S.faults source.old) (S.faults source.new) × (K.taken sink.new ≡ K.taken sink.old) }
+    ensures read_fault { result ≡ Ending.ReadFault
+        → Rose (S.faults source.old) (S.faults source.new) × (K.taken sink.new ≡ K.taken sink.old) }
     ensures write_fault { result ≡ Ending.WriteFault → Rose (K.faults sink.old) (K.faults sink.new) }
     ensures no_memory { result ≡ Ending.NoMemory → K.taken sink.new ≡ K.taken sink.old }
 
     // After a fault of the sink it has a front of an answer.
     ensures front { result ≡ Ending.WriteFault → (wish : Wish) → AskFor words.now wish
-        → IfSome (S.left source.old) (λ bytes. (text : List ℕ) × IsAnswer bytes wish text × TookFront (K.taken sink.old) (K.taken sink.new) text) }
-    ensures usage_front { result ≡ Ending.WriteFault → AreWrong words.now → TookFront (K.taken sink.old) (K.taken sink.new) (codes "usage\n") }
+        → IfSome (S.left source.old)
+        (λ bytes. (text : List ℕ) × IsAnswer bytes wish text × TookFront (K.taken sink.old) (K.taken sink.new) text) }
+    ensures usage_front { result ≡ Ending.WriteFault → AreWrong words.now
+        → TookFront (K.taken sink.old) (K.taken sink.new) (codes "usage\n") }
 
     // Wrong words read nothing.
     ensures unread { AreWrong words.now → (S.left source.new ≡ S.left source.old) × (S.faults source.new ≡ S.faults source.old) }
@@ -84,7 +88,8 @@ pub fn draw<S: Source, K: Sink>(
 /// Writes the line `usage`, for words that are wrong or can't be had as text.
 pub fn usage<K: Sink>(sink: &mut K) -> Ending
     ensures told { result ≢ Ending.WriteFault → (result ≡ Ending.Usage) × Took (K.taken sink.old) (K.taken sink.new) (codes "usage\n") }
-    ensures failed { result ≡ Ending.WriteFault → Rose (K.faults sink.old) (K.faults sink.new) × TookFront (K.taken sink.old) (K.taken sink.new) (codes "usage\n") }
+    ensures failed { result ≡ Ending.WriteFault
+        → Rose (K.faults sink.old) (K.faults sink.new) × TookFront (K.taken sink.old) (K.taken sink.new) (codes "usage\n") }
     ensures either { (result ≡ Ending.Usage) ⊎ (result ≡ Ending.WriteFault) }
 {
     told(sink, "usage\n", Ending::Usage)
@@ -93,14 +98,19 @@ pub fn usage<K: Sink>(sink: &mut K) -> Ending
 /// Reads the source and writes the answer to its bytes.
 fn drawn<S: Source, K: Sink>(alloc: Global, wish: Wish, source: &mut S, sink: &mut K) -> Ending
     ensures drawn { result ≡ Ending.Drawn → IsDrained (S.left source.old) (S.left source.new)
-        × IfSome (S.left source.old) (λ bytes. (text : List ℕ) × IsPicture bytes wish text × Took (K.taken sink.old) (K.taken sink.new) text) }
-    ensures refused { result ≡ Ending.Refused → IfSome (S.left source.old) (λ bytes. (line : List ℕ) × IsRefusal bytes wish line × Took (K.taken sink.old) (K.taken sink.new) line) }
+        × IfSome (S.left source.old)
+        (λ bytes. (text : List ℕ) × IsPicture bytes wish text × Took (K.taken sink.old) (K.taken sink.new) text) }
+    ensures refused { result ≡ Ending.Refused
+        → IfSome (S.left source.old)
+        (λ bytes. (line : List ℕ) × IsRefusal bytes wish line × Took (K.taken sink.old) (K.taken sink.new) line) }
     ensures never_usage { result ≢ Ending.Usage }
-    ensures read_fault { result ≡ Ending.ReadFault → Rose (S.faults source.old) (S.faults source.new) × (K.taken sink.new ≡ K.taken sink.old) }
+    ensures read_fault { result ≡ Ending.ReadFault
+        → Rose (S.faults source.old) (S.faults source.new) × (K.taken sink.new ≡ K.taken sink.old) }
     ensures write_fault { result ≡ Ending.WriteFault → Rose (K.faults sink.old) (K.faults sink.new) }
     ensures no_memory { result ≡ Ending.NoMemory → K.taken sink.new ≡ K.taken sink.old }
     ensures front { result ≡ Ending.WriteFault
-        → IfSome (S.left source.old) (λ bytes. (text : List ℕ) × IsAnswer bytes wish text × TookFront (K.taken sink.old) (K.taken sink.new) text) }
+        → IfSome (S.left source.old)
+        (λ bytes. (text : List ℕ) × IsAnswer bytes wish text × TookFront (K.taken sink.old) (K.taken sink.new) text) }
 {
     match answer_to(alloc, wish, source) {
         Ok(Answer::Picture(text)) => told(sink, text.as_str(), Ending::Drawn),

@@ -3,7 +3,8 @@
 ghost use Rattle.std.specs.Prelude.{◌≡◌, ◌++◌, IfOk, OnOk, map};
 ghost use Rattle.std.specs.List.{flat_map, list_any};
 ghost use Rattle.lay_drawing.specs.Marks.{marked};
-ghost use Rattle.lay_drawing.specs.Changes.{is_box, is_line, is_text, is_kind, is_named, is_sized, is_placed, is_moved, is_same, mark_after, mark_before, left_of, differences, NothingDiffers};
+ghost use Rattle.lay_drawing.specs.Changes.{is_box, is_line, is_text, is_kind, is_named, is_sized, is_placed, is_moved};
+ghost use Rattle.lay_drawing.specs.Changes.{is_same, mark_after, mark_before, left_of, differences, NothingDiffers};
 
 use crate::mark::{Mark, Marked};
 use lay_frag::{Frag, FragKind};

@@ -1,6 +1,6 @@
 //! The edges of pieces, and the frame that holds them all.
 
-ghost use Rattle.std.specs.Prelude.{◌≡◌, ◌+ℤ◌, fold};
+ghost use Rattle.std.specs.Prelude.{◌≡◌, fold};
 ghost use Rattle.std.specs.List.{All};
 ghost use Rattle.lay_units.specs.Units.{IsPosition};
 ghost use Rattle.lay_drawing.specs.Lines.{IsPiece};

@@ -1,6 +1,6 @@
 //! Reading a report from a source.
 
-ghost use Rattle.std.specs.Prelude.{◌≡◌, ◌≤◌, ◌⊎◌, OnOk, IfOk, IfErr, ℕ, List, Some};
+ghost use Rattle.std.specs.Prelude.{◌≡◌, ◌⊎◌, OnOk, IfOk, IfErr, ℕ, List, Some};
 ghost use Rattle.lay_drawing.specs.Input.{IsDrained, HasReport, IsCause};
 ghost use Rattle.lay_drawing.specs.States.{HasRead, WasReport, Reads, Stops, StopsAtEnd};
 ghost use Rattle.lay_drawing.specs.declared.state.Stop.{Stop};

@@ -4,7 +4,9 @@ ghost use Rattle.std.specs.Prelude.{◌≡◌, ◌≤ℤ◌, ◌-ℤ◌, pos, If
 ghost use Rattle.std.specs.List.{All};
 ghost use Rattle.std.specs.Fmt.{decimal};
 ghost use Rattle.lay_drawing.specs.Marks.{IsMarked};
-ghost use Rattle.lay_drawing.specs.Labels.{label_width, is_at, meets, is_in_way, behind, begin_at, is_told, crosses, overlaps, is_free, span_up_to, place_in, label_at, label_in, label_for, with_label, labels_of, LabelsAreApart, LabelsAreInBoxes};
+ghost use Rattle.lay_drawing.specs.Labels.{label_width, is_at, meets, is_in_way, behind, begin_at, is_told};
+ghost use Rattle.lay_drawing.specs.Labels.{crosses, overlaps, is_free, span_up_to, place_in, label_at, label_in};
+ghost use Rattle.lay_drawing.specs.Labels.{label_for, with_label, labels_of, LabelsAreApart, LabelsAreInBoxes};
 
 use crate::changes::is_box;
 use crate::frame::{Frame, Span, edges};

@@ -1,9 +1,9 @@
 //! Pictures of reports: from the words of a command line and the bytes of a report to an SVG document.
 //!
 //! `specs/Lines.antt` says how a line of a report is written, `specs/Reports.antt` which lines stand where and which
-//! pieces are shown, `specs/Changes.antt` what two trees differ in, `specs/Hits.antt` which piece is marked, `specs/Picture.antt` the picture of pieces, with lengths in
-//! px written exactly (`specs/Pixels.antt`) and labels that don't overlap (`specs/Labels.antt`), and `specs/Answers.antt` which
-//! text answers which words and bytes.
+//! pieces are shown, `specs/Changes.antt` what two trees differ in, `specs/Hits.antt` which piece is marked,
+//! `specs/Picture.antt` the picture of pieces, with lengths in px written exactly (`specs/Pixels.antt`) and labels that don't
+//! overlap (`specs/Labels.antt`), and `specs/Answers.antt` which text answers which words and bytes.
 #![tactic(auto)]
 
 mod answer;

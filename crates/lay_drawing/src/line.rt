@@ -1,7 +1,8 @@
 //! The lines of a report.
 
-ghost use Rattle.std.specs.Prelude.{◌≡◌, map, codes};
-ghost use Rattle.lay_drawing.specs.Reading.{line_of, edit_of, reply_of, refused_of, place_of, fault_of, read_of, shown_of, counted_of, piece_of, rect_of, kind_of, is_word};
+ghost use Rattle.std.specs.Prelude.{◌≡◌, map};
+ghost use Rattle.lay_drawing.specs.Reading.{line_of, edit_of, reply_of, refused_of, place_of, fault_of};
+ghost use Rattle.lay_drawing.specs.Reading.{read_of, shown_of, counted_of, piece_of, rect_of, kind_of, is_word};
 
 use crate::numbers::{number, position, small};
 use lay_doc::NodeId;

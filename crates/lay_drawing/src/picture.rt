@@ -1,11 +1,13 @@
 //! The picture of pieces.
 
-ghost use Rattle.std.specs.Prelude.{◌≡◌, ◌++◌, ◌+ℤ◌, ◌-ℤ◌, pos, IfOk, OnOk, codes, string_bytes};
+ghost use Rattle.std.specs.Prelude.{◌≡◌, ◌++◌, IfOk, OnOk, string_bytes};
 ghost use Rattle.std.specs.List.{All};
 ghost use Rattle.std.specs.Fmt.{decimal};
 ghost use Rattle.lay_frag.specs.Lines.{kind_word};
 ghost use Rattle.lay_drawing.specs.Marks.{IsMarked};
-ghost use Rattle.lay_drawing.specs.Picture.{length_text, outside, full_size, full_sizes, view_text, opening, class_text, title_text, place_text, size, sizes, number_left, number_base, label_text, label_texts, shape, shapes, picture};
+ghost use Rattle.lay_drawing.specs.Picture.{length_text, outside, full_size, full_sizes, view_text, opening};
+ghost use Rattle.lay_drawing.specs.Picture.{class_text, title_text, place_text, size, sizes, number_left};
+ghost use Rattle.lay_drawing.specs.Picture.{number_base, label_text, label_texts, shape, shapes, picture};
 
 use crate::frame::{Frame, Span, edges, frame_of};
 use crate::label::{Label, labels_of};

@@ -1,7 +1,6 @@
 //! Lengths in px, written exactly.
 
-ghost use Rattle.std.specs.Prelude.{◌≡◌, ◌++◌, ◌<◌, ◌≤◌, ◌^◌, OnOk, string_bytes};
-ghost use Rattle.std.specs.Fmt.{decimal};
+ghost use Rattle.std.specs.Prelude.{◌≡◌, ◌++◌, ◌<◌, OnOk, string_bytes};
 ghost use Rattle.lay_drawing.specs.Pixels.{fraction_digits, fraction_text, magnitude_text, px_text, FractionsAreExact};
 
 use lay_units::NoMemory;

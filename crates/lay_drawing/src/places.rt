@@ -1,7 +1,8 @@
 //! Which line may stand where, and which shows the wanted tree.
 
 ghost use Rattle.std.specs.Prelude.{◌≡◌};
-ghost use Rattle.lay_drawing.specs.Reports.{next_place, after_entry, after_read, after_final, after_piece, after_laid, is_whole, is_version, shows, shows_read, shows_final};
+ghost use Rattle.lay_drawing.specs.Reports.{next_place, after_entry, after_read, after_final, after_piece};
+ghost use Rattle.lay_drawing.specs.Reports.{after_laid, is_whole, is_version, shows, shows_read, shows_final};
 
 use crate::line::Line;
 

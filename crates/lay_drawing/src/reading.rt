@@ -1,7 +1,6 @@
 //! A report that is read byte by byte: where it is, and the pieces of the wanted tree so far.
-ghost use Rattle.std.specs.Prelude.{◌≡◌, ◌+◌, ◌∷◌, [], ◌++◌, ◌&&◌, ◌||◌, not, if◌then◌else◌, OnOk, OnErr, IfErr, IfOk, ℕ, List};
-ghost use Rattle.std.specs.List.{All};
-ghost use Rattle.lay_drawing.specs.Lines.{IsLine, IsPiece};
+ghost use Rattle.std.specs.Prelude.{◌≡◌, ◌+◌, ◌∷◌, [], ◌++◌, ◌&&◌, ◌||◌, not, if◌then◌else◌, OnOk, OnErr, IfErr, ℕ, List};
+ghost use Rattle.lay_drawing.specs.Lines.{IsLine};
 ghost use Rattle.lay_drawing.specs.Reports.{is_piece, piece_in, shows};
 ghost use Rattle.lay_drawing.specs.States.{HasRead, Adds, CantAdd, IsNext, Reads, Stops, WasReport, StopsAtEnd};
 
@@ -101,10 +100,14 @@ impl Reading {
     /// Keeps a piece of the wanted tree.
     fn keep(&mut self, line: &Line) -> Result<(), Stop>
         requires { IsLine line.now }
-        ensures same { (self.new.place ≡ self.old.place) × (self.new.count ≡ self.old.count) × (self.new.wanted ≡ self.old.wanted) × (self.new.text ≡ self.old.text) }
-        ensures shown { OnOk result (self.new.is_shown ≡ (if self.old.is_open then self.old.is_shown else self.old.is_shown || shows self.old.wanted line.now)) }
-        ensures open { OnOk result (self.new.is_open ≡ (if self.old.is_open then is_piece line.now else not self.old.is_shown && shows self.old.wanted line.now)) }
-        ensures pieces { OnOk result (self.new.pieces.items ≡ self.old.pieces.items ++ (if self.old.is_open then piece_in line.now else [])) }
+        ensures same { (self.new.place ≡ self.old.place) × (self.new.count ≡ self.old.count)
+            × (self.new.wanted ≡ self.old.wanted) × (self.new.text ≡ self.old.text) }
+        ensures shown { OnOk result
+            (self.new.is_shown ≡ (if self.old.is_open then self.old.is_shown else self.old.is_shown || shows self.old.wanted line.now)) }
+        ensures open { OnOk result
+            (self.new.is_open ≡ (if self.old.is_open then is_piece line.now else not self.old.is_shown && shows self.old.wanted line.now)) }
+        ensures pieces { OnOk result
+            (self.new.pieces.items ≡ self.old.pieces.items ++ (if self.old.is_open then piece_in line.now else [])) }
         ensures err { IfErr result (λ e. e ≡ Stop.NoMemory) }
     {
         if self.is_open {

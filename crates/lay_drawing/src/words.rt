@@ -2,9 +2,9 @@
 
 ghost use Rattle.std.specs.Prelude.{◌≡◌, IfOk, [], map, string_bytes, codes, false, option_map, unwrap_or};
 ghost use Rattle.clap.specs.Words.{app_of, found_of, rows_of, rule_of};
-ghost use Rattle.lay_drawing.specs.Reading.{kind_of, number_of, small_of};
 ghost use Rattle.lay_words.specs.Agree.{values_at};
-ghost use Rattle.lay_drawing.specs.Words.{our_app, version_rule, between_rule, hit_rule, tree_at, between_at, hit_at, wish_with_one, wish_with_two, wish_with_three, wish_with_rest, wish_of_trees, wish_with, wish_of};
+ghost use Rattle.lay_drawing.specs.Words.{our_app, version_rule, between_rule, hit_rule, tree_at, between_at, hit_at, wish_with_one};
+ghost use Rattle.lay_drawing.specs.Words.{wish_with_two, wish_with_three, wish_with_rest, wish_of_trees, wish_with, wish_of};
 
 use crate::hit::PieceName;
 use crate::line::kind;
@@ -91,7 +91,9 @@ fn hit<'a>(alloc: Global) -> Arg<'a>
 
 /// What is asked for in what `clap` found.
 fn wish_found(matches: &ArgMatches<'_>) -> Option<Wish>
-    ensures { result ≡ wish_with (values_at (codes "version") (rows_of (found_of matches.now))) (values_at (codes "between") (rows_of (found_of matches.now)))
+    ensures { result
+        ≡ wish_with (values_at (codes "version") (rows_of (found_of matches.now)))
+        (values_at (codes "between") (rows_of (found_of matches.now)))
         (values_at (codes "hit") (rows_of (found_of matches.now))) }
 {
     let versions = given(matches.get_raw("version"));

@@ -1,11 +1,10 @@
 -- Lists of one edit, and lists of two lists; what a list without a fault leaves.
-use Rattle.std.proofs.Common.{◌≡◌, ℕ, zero, suc, ◌+◌, List, [], ◌∷◌, ◌++◌, length, Option, Some, None, option_map, refl, sym, ap, ◌∙◌, arith, All}
+use Rattle.std.proofs.Common.{◌≡◌, ℕ, suc, ◌+◌, List, [], ◌∷◌, ◌++◌, length, Option, Some, None, option_map, refl, ap, ◌∙◌, arith}
 use Rattle.std.proofs.lemmas.List.Sums.{fold-append}
 use Rattle.lay_doc.specs.declared.edit.Edit.{Edit}
 use Rattle.lay_doc.specs.declared.edit.EditFault.{EditFault}
-use Rattle.lay_doc.specs.Document.{Document, IsDocument}
+use Rattle.lay_doc.specs.Document.{Document}
 use Rattle.lay_doc.specs.Edits.{fault, after}
-use Rattle.lay_doc.specs.Laws.{PutsNode}
 use Rattle.lay_doc.proofs.EditedDocuments.{edits_leave_documents}
 use Rattle.lay_edits.specs.EditLists.{after_all, behind, fault_at, first, first_or}
 use Rattle.lay_edits.specs.Laws.{ListsLeaveDocuments, OneEditAlone, TwoLists, first_of_two}

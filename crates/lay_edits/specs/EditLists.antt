@@ -1,6 +1,7 @@
 -- A list of edits, which a document takes whole or not at all. Its edits are read in order: each meets the document as those before it
 -- leave it. The first fault of a list is that at the least place, counted from 0, whose edit has one there.
-use Rattle.std.specs.Prelude.{ℕ, suc, ◌≡◌, ◌+◌, ◌<◌, ◌≤◌, List, [], ◌∷◌, length, take, fold, slice_get, Option, Some, None, option_map, option_and_then}
+use Rattle.std.specs.Prelude.{ℕ, suc, ◌≡◌, ◌+◌, ◌<◌, ◌≤◌, List, [], ◌∷◌, length, take, fold}
+use Rattle.std.specs.Prelude.{slice_get, Option, Some, None, option_map, option_and_then}
 use Rattle.lay_doc.specs.declared.edit.Edit.{Edit}
 use Rattle.lay_doc.specs.declared.edit.EditFault.{EditFault}
 use Rattle.lay_doc.specs.Document.{Document}

@@ -30,8 +30,10 @@ first_of_two count (Some p) second = Some p
 -- a list of two lists is one after the other
 abbrev pub TwoLists : Type 0
 TwoLists = (d : Document) (xs ys : List Edit)
-    → (first d (xs ++ ys) ≡ first_of_two (length xs) (first d xs) (first (after_all d xs) ys)) × (after_all d (xs ++ ys) ≡ after_all (after_all d xs) ys)
+    → (first d (xs ++ ys) ≡ first_of_two (length xs) (first d xs) (first (after_all d xs) ys))
+    × (after_all d (xs ++ ys) ≡ after_all (after_all d xs) ys)
 
 -- a list without a fault leaves a document
 abbrev pub ListsLeaveDocuments : Type 0
-ListsLeaveDocuments = (d : Document) (edits : List Edit) → IsDocument d → All PutsNode edits → first d edits ≡ None → IsDocument (after_all d edits)
+ListsLeaveDocuments = (d : Document) (edits : List Edit) → IsDocument d → All PutsNode edits
+    → first d edits ≡ None → IsDocument (after_all d edits)

@@ -2,7 +2,8 @@
 -- advances of its characters. Word-spacing is added at each U+0020 and U+00A0, and letter-spacing once
 -- after each cluster, so a letter and its combining marks aren't parted. A linefeed ends its line and has
 -- no width: CR LF, one cluster, is as wide as the CR.
-use Rattle.std.specs.Prelude.{ℕ, ◌+◌, ◌==◌, ◌||◌, ◌&&◌, slice_index, ℤ, pos, ◌+ℤ◌, Bool, true, List, [], ◌∷◌, All, length, if◌then◌else◌, chars}
+use Rattle.std.specs.Prelude.{ℕ, ◌+◌, ◌==◌, ◌||◌, ◌&&◌, slice_index, ℤ, pos, ◌+ℤ◌, Bool}
+use Rattle.std.specs.Prelude.{true, List, [], ◌∷◌, All, length, if◌then◌else◌, chars}
 use Rattle.lay_units.specs.Units.{IsPosition, IsUsed}
 use Rattle.lay_units.specs.declared.records.ClusterWidth.{ClusterWidth}
 use Rattle.lay_face.specs.declared.clusters.Setting.{Setting}

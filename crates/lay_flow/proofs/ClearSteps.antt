@@ -4,6 +4,7 @@ use Rattle.std.proofs.lemmas.Bool.{cases_lt, cases_eq}
 use Rattle.lay_blocks.specs.declared.flow_box.FlowBox.{FlowBox}
 use Rattle.lay_blocks.specs.Boxes.{box_at, parent_at, parents_of}
 use Rattle.lay_units.specs.declared.length.Unit.{Unit as Length}
+use Rattle.lay_units.specs.Units.{IsUsed}
 use Rattle.lay_margins.specs.StrutValue.{StrutValue}
 use Rattle.lay_margins.specs.Collapse.{Holds}
 use Rattle.lay_floats.specs.declared.placed.Placed.{Placed}
@@ -19,7 +20,7 @@ use Rattle.lay_blocks.specs.BlockPositions.{IsBlockLayout, is_lines, start_befor
 use Rattle.lay_blocks.specs.BlockFloats.{Spot, shape_at, floats_before}
 use Rattle.lay_blocks.specs.Clearance.{IsHypothetical, HasClearedFloat, IsAbove, lower_of, HasClearance}
 use Rattle.lay_flow.specs.Pass.State.{PassState, IsAt, Settled, columns_of, Clearances, clearances_of, ended_run}
-use Rattle.lay_flow.specs.Pass.Bounds.{IsEdgeNear, IsCollapseNear}
+use Rattle.lay_flow.specs.Pass.Bounds.{IsEdgeNear}
 use Rattle.lay_flow.specs.Pass.Struts.{StrutFits}
 use Rattle.lay_flow.specs.Pass.Placed.{Placing, PlacesTo}
 use Rattle.lay_flow.specs.Pass.Knows.{Knows, IsReady, MayBe, IsCandidate, AreExtentsKept, ArePlacesKept}
@@ -217,7 +218,7 @@ module _ (boxes : List FlowBox) (tree : IsTree (parents_of boxes)) (are_tree : I
   module _ (hypothetical : ℤ) (flows : (shape_at boxes k).float ≡ None) (settled : length placing.places ≡ now.first) (edge_is : IsMarkWithout boxes now placing k hypothetical)
       (decides : HasWaitingFloat boxes now.first k ⊎ IsAboveFloats placing.floats (shape_at boxes k).clear hypothetical)
       (marks edges : List Length) (flags : List Bool) (placing' : Placing) (end edge : ℤ) (bottom' : Option Length) (strut' : StrutValue)
-      (ends : RunEnds now end) (ended : IsCollapseNear (end -ℤ now.start)) (settles : Settled boxes (ended_run (columns_of now) k end) now.marks marks)
+      (ends : RunEnds now end) (ended : IsUsed (end -ℤ now.start)) (settles : Settled boxes (ended_run (columns_of now) k end) now.marks marks)
       (placed : PlacesTo boxes marks placing' k) (kept : AreExtentsKept boxes (length placing.places) placing.extents placing'.extents) (same : ArePlacesKept placing.places placing'.places)
       (is_bottom' : IsClearEdge placing'.floats (shape_at boxes k).clear bottom') (lower : edge ≡ lower_of bottom' hypothetical) (near : IsEdgeNear (weight boxes k) edge)
       (wrote_flag : Wrote flag_at now.clears flags k true) (wrote_edge : Wrote length_at now.clear_edges edges k edge) (fits' : StrutFits strut') (empty : Holds strut' []) where

@@ -2,7 +2,7 @@
 use Rattle.std.proofs.Common.{◌≡◌, ℕ, ◌+◌, ◌*◌, ◌<◌, ◌≤◌, true, false, ℤ, pos, ◌+ℤ◌, List, length, All, refl, ap, ◌∙◌, arith, subst}
 use Rattle.std.proofs.lemmas.Int.{ints}
 use Rattle.std.proofs.lemmas.List.Elements.{All-weaker}
-use Rattle.lay_units.specs.Units.{IsPosition}
+use Rattle.lay_units.specs.Units.{IsPosition, IsNear}
 use Rattle.lay_units.specs.declared.length.Unit.{Unit as Length}
 use Rattle.lay_floats.specs.declared.placed.Placed.{Placed}
 use Rattle.lay_floats.specs.Within.{BoxWithin, IsWithin}
@@ -15,7 +15,7 @@ use Rattle.lay_blocks.specs.Boxes.{box_at}
 use Rattle.lay_blocks.specs.Lengths.{length_at}
 use Rattle.lay_blocks.specs.BlockFloats.{content_of, line_content_of}
 use Rattle.lay_blocks.specs.BlockPositions.{is_lines}
-use Rattle.lay_blocks.specs.BlockSizes.{IsInset, IsNear}
+use Rattle.lay_blocks.specs.BlockSizes.{IsInset}
 use Rattle.lay_blocks.specs.FlowBoxes.{AreFlowBoxes}
 use Rattle.lay_blocks.specs.MarginRuns.{block_at, block_of}
 use Rattle.lay_blocks.specs.Weights.{weight, weight_of}

@@ -4,13 +4,14 @@ use Rattle.std.proofs.lemmas.Bool.{cases_eq}
 use Rattle.std.proofs.lemmas.Int.{ints}
 use Rattle.lay_blocks.specs.declared.flow_box.FlowBox.{FlowBox}
 use Rattle.lay_units.specs.declared.length.Unit.{Unit as Length}
+use Rattle.lay_units.specs.Units.{IsBoxSize}
+use Rattle.lay_units.specs.Lengths.{no_length}
 use Rattle.lay_margins.specs.Collapse.{Holds, collapse}
 use Rattle.lay_floats.specs.declared.placed.Placed.{Placed}
 use Rattle.lay_floats.specs.declared.requests.Clear.TheVariants.{Both as clear_both}
 use Rattle.lay_floats.specs.ClearEdge.{IsClearEdge}
 use Rattle.lay_heights.specs.AutoHeights.{root_height_of}
-use Rattle.lay_blocks.specs.Lengths.{length_at, no_length}
-use Rattle.lay_blocks.specs.BlockSizes.{IsBoxSize}
+use Rattle.lay_blocks.specs.Lengths.{length_at}
 use Rattle.lay_blocks.specs.Children.{last_child, flag_at}
 use Rattle.lay_blocks.specs.MarginRuns.{Entry, margins, block_at, run_at, run_before}
 use Rattle.lay_blocks.specs.BlockLayout.{BlockLayout, Extents}

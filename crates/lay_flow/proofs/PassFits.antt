@@ -5,17 +5,17 @@ use Rattle.std.proofs.lemmas.Int.{ints}
 use Rattle.lay_blocks.specs.declared.flow_box.FlowBox.{FlowBox}
 use Rattle.lay_blocks.specs.Boxes.{parent_at, parents_of}
 use Rattle.lay_blocks.proofs.BoxTrees.{parent_before}
-use Rattle.lay_units.specs.Units.{IsPosition}
+use Rattle.lay_units.specs.Units.{IsPosition, IsBoxSize, IsNear, IsUsed}
 use Rattle.lay_units.specs.declared.length.Unit.{Unit as Length}
 use Rattle.lay_margins.specs.StrutValue.{StrutValue}
 use Rattle.lay_doc.specs.Tree.{IsTree}
 use Rattle.lay_blocks.specs.Lengths.{length_at}
-use Rattle.lay_blocks.specs.BlockSizes.{IsInset, IsBoxSize, IsNear}
+use Rattle.lay_blocks.specs.BlockSizes.{IsInset}
 use Rattle.lay_blocks.specs.Children.{flag_at}
 use Rattle.lay_blocks.specs.MarginRuns.{block_at, parts_tops}
 use Rattle.lay_blocks.specs.BlockPositions.{is_solid}
 use Rattle.lay_flow.specs.Pass.State.{PassState, RunEnd, Settled, columns_of, ended_run}
-use Rattle.lay_flow.specs.Pass.Bounds.{StateFits, IsStartNear, IsRunNear, IsEdgeNear, IsMarkNear, IsCollapseNear, reach}
+use Rattle.lay_flow.specs.Pass.Bounds.{StateFits, IsStartNear, IsRunNear, IsEdgeNear, IsMarkNear, reach}
 use Rattle.lay_flow.specs.Pass.Struts.{StrutFits}
 use Rattle.lay_flow.proofs.Openings.{pushed}
 use Rattle.lay_flow.proofs.SoFar.{Wrote}
@@ -37,7 +37,7 @@ module _ (boxes : List FlowBox) (are : AreFlowBoxes boxes) (now : PassState) (p 
       start_is_near (weight boxes now.first) now.start (light_at boxes are now.first (omega (arith, a, b))) fits.start_near
 
 -- a mark at the end of a run, of a box from the run's first one on
-pub end_near : (f k : ℕ) (start end : ℤ) → IsRunNear f start → IsCollapseNear (end -ℤ start) → f ≤ k → IsMarkNear k end
+pub end_near : (f k : ℕ) (start end : ℤ) → IsRunNear f start → IsUsed (end -ℤ start) → f ≤ k → IsMarkNear k end
 end_near f k start end near collapsed le =
     let a = near.0 in let b = near.1 in let c = collapsed.0 in let d = collapsed.1 in
     (omega (arith, ints, a, c, le), omega (arith, ints, b, d, le))
@@ -58,7 +58,7 @@ pub start_edge_near : (k : ℕ) (v : ℤ) → IsStartNear k v → IsEdgeNear k v
 start_edge_near k v near = let a = near.0 in let b = near.1 in (omega (arith, ints, a), omega (arith, ints, b))
 
 -- what a run reaches that may begin before the box at k
-pub ahead_near : (k : ℕ) (start end : ℤ) → IsStartNear k start → IsCollapseNear (end -ℤ start) → IsEdgeNear k end
+pub ahead_near : (k : ℕ) (start end : ℤ) → IsStartNear k start → IsUsed (end -ℤ start) → IsEdgeNear k end
 ahead_near k start end near collapsed = let a = near.0 in let b = near.1 in let c = collapsed.0 in let d = collapsed.1 in (omega (arith, ints, a, c), omega (arith, ints, b, d))
 
 pub later_near : (j k : ℕ) (v : ℤ) → j ≤ k → IsStartNear j v → IsStartNear k v
@@ -68,7 +68,7 @@ pub edge_later_near : (j k : ℕ) (v : ℤ) → j < k → IsEdgeNear j v → IsS
 edge_later_near j k v lt near = let a = near.0 in let b = near.1 in (omega (arith, ints, a, lt), omega (arith, ints, b, lt))
 
 -- the start of a run that ends near a clear edge
-pub above_near : (k : ℕ) (edge start : ℤ) → IsEdgeNear k edge → IsCollapseNear (edge -ℤ start) → IsRunNear k start
+pub above_near : (k : ℕ) (edge start : ℤ) → IsEdgeNear k edge → IsUsed (edge -ℤ start) → IsRunNear k start
 above_near k edge start near collapsed = let a = near.0 in let b = near.1 in let c = collapsed.0 in let d = collapsed.1 in (omega (arith, ints, a, d), omega (arith, ints, b, c))
 
 pub run_later_near : (j k : ℕ) (v : ℤ) → j < k → IsRunNear j v → IsStartNear k v
@@ -102,7 +102,7 @@ settled_near boxes run old new tree positive within was ended settled (suc n) j 
 ]
 
 -- a run ends
-module _ (boxes : List FlowBox) (tree : IsTree (parents_of boxes)) (now : PassState) (p m : ℕ) (was : StateFits boxes now p m) (end : ℤ) (ended : IsCollapseNear (end -ℤ now.start)) where
+module _ (boxes : List FlowBox) (tree : IsTree (parents_of boxes)) (now : PassState) (p m : ℕ) (was : StateFits boxes now p m) (end : ℤ) (ended : IsUsed (end -ℤ now.start)) where
   pub marks_near : (n : ℕ) → n ≤ length boxes → (marks : List Length) → Settled boxes (ended_run (columns_of now) n end) now.marks marks → (j : ℕ) → IsMarkNear (weight boxes j) (length_at marks j)
   marks_near n within marks settled j = settled_near boxes (ended_run (columns_of now) n end) now.marks marks tree was.first_least within was.mark_near
       (λ i le. end_near (weight boxes now.first) (weight boxes i) now.start end was.start_near ended (weight_up boxes now.first i le)) settled (j + 1) j (omega arith)
@@ -133,7 +133,7 @@ module _ (boxes : List FlowBox) (tree : IsTree (parents_of boxes)) (now : PassSt
   }
 
   pub fits_parting : (k : ℕ) (marks : List Length) (end start : ℤ) (strut' : StrutValue) → k < length boxes → StateFits boxes now (parent_at boxes k) k
-      → Settled boxes (ended_run (columns_of now) (k + 1) end) now.marks marks → IsCollapseNear (end -ℤ now.start) → IsStartNear (weight boxes (k + 1)) start → StrutFits strut'
+      → Settled boxes (ended_run (columns_of now) (k + 1) end) now.marks marks → IsUsed (end -ℤ now.start) → IsStartNear (weight boxes (k + 1)) start → StrutFits strut'
       → StateFits boxes (record now { marks = marks; start = start; strut = strut'; first = k + 1; hangs = false }) k (k + 1)
   fits_parting k marks end start strut' within was settled ended near fits' = record {
     parent = omega arith;
@@ -152,7 +152,7 @@ module _ (boxes : List FlowBox) (tree : IsTree (parents_of boxes)) (now : PassSt
   }
 
   pub fits_cleared : (k : ℕ) (marks edges : List Length) (flags : List Bool) (end edge : ℤ) (strut' : StrutValue) → 0 < k → StateFits boxes now (parent_at boxes k) k
-      → Settled boxes (ended_run (columns_of now) k end) now.marks marks → IsCollapseNear (end -ℤ now.start) → IsEdgeNear (weight boxes k) edge → StrutFits strut'
+      → Settled boxes (ended_run (columns_of now) k end) now.marks marks → IsUsed (end -ℤ now.start) → IsEdgeNear (weight boxes k) edge → StrutFits strut'
       → StateFits boxes (record now { marks = marks; clears = flags; clear_edges = edges; start = edge; strut = strut'; first = k; hangs = true }) (parent_at boxes k) k
   fits_cleared k marks edges flags end edge strut' positive was settled ended near fits' = record {
     parent = was.parent;
@@ -183,7 +183,7 @@ module _ (boxes : List FlowBox) (tree : IsTree (parents_of boxes)) (now : PassSt
       | inr ne ↦ subst (P j) (sym (wrote.other j ne)) (each j)
     ]
 
-    pub fits_started : (start : ℤ) → now.hangs ≡ true → IsCollapseNear (now.start -ℤ start) → StateFits boxes (record now { start = start; hangs = false }) p m
+    pub fits_started : (start : ℤ) → now.hangs ≡ true → IsUsed (now.start -ℤ start) → StateFits boxes (record now { start = start; hangs = false }) p m
     fits_started start hangs collapsed = record {
       parent = was.parent;
       within = was.within;
@@ -202,7 +202,7 @@ module _ (boxes : List FlowBox) (tree : IsTree (parents_of boxes)) (now : PassSt
 
     pub fits_through : (marks heights : List Length) (flags : List Bool) (end : ℤ) (strut' : StrutValue) → now.first ≤ p
         → Wrote length_at now.marks marks p end → Wrote length_at now.heights heights p (pos 0) → Wrote flag_at now.through flags p true
-        → IsCollapseNear (end -ℤ now.start) → StrutFits strut'
+        → IsUsed (end -ℤ now.start) → StrutFits strut'
         → StateFits boxes (record now { marks = marks; heights = heights; through = flags; strut = strut' }) (parent_at boxes p) m
     fits_through marks heights flags end strut' waits wrote_mark wrote_height wrote_flag ended fits' = record {
       parent = up_parent;
@@ -239,7 +239,7 @@ module _ (boxes : List FlowBox) (tree : IsTree (parents_of boxes)) (now : PassSt
     }
 
     pub fits_parted : (marks heights : List Length) (end height start : ℤ) (strut' : StrutValue)
-        → Settled boxes (ended_run (columns_of now) m end) now.marks marks → IsCollapseNear (end -ℤ now.start)
+        → Settled boxes (ended_run (columns_of now) m end) now.marks marks → IsUsed (end -ℤ now.start)
         → IsStartNear (weight boxes m) start → (is_solid (block_at boxes p).inside ≡ false → IsBoxSize height) → Wrote length_at now.heights heights p height → StrutFits strut'
         → StateFits boxes (record now { marks = marks; heights = heights; start = start; strut = strut'; first = m; hangs = false }) (parent_at boxes p) m
     fits_parted marks heights end height start strut' settled ended near size wrote fits' =

@@ -5,6 +5,7 @@ use Rattle.lay_blocks.specs.declared.flow_box.FlowBox.{FlowBox}
 use Rattle.lay_blocks.specs.Boxes.{box_at, parent_at, parents_of}
 use Rattle.lay_blocks.proofs.BoxTrees.{parent_before}
 use Rattle.lay_units.specs.declared.length.Unit.{Unit as Length}
+use Rattle.lay_units.specs.Units.{IsBoxSize, IsUsed}
 use Rattle.lay_margins.specs.StrutValue.{StrutValue}
 use Rattle.lay_margins.specs.Collapse.{Holds, collapse}
 use Rattle.lay_lines.specs.Lines.{AreLines}
@@ -13,7 +14,6 @@ use Rattle.lay_floats.specs.SolidPlace.{IsSolidPlace}
 use Rattle.lay_floats.specs.Within.{IsWithin}
 use Rattle.lay_doc.specs.Tree.{IsTree}
 use Rattle.lay_blocks.specs.Lengths.{length_at}
-use Rattle.lay_blocks.specs.BlockSizes.{IsBoxSize}
 use Rattle.lay_blocks.specs.Children.{flag_at}
 use Rattle.lay_blocks.specs.MarginRuns.{block_at, parts_tops, joins_bottom, may_collapse_through, may_join_bottoms}
 use Rattle.lay_blocks.specs.BlockLayout.{BlockLayout, Extents}
@@ -21,7 +21,7 @@ use Rattle.lay_blocks.specs.BlockPositions.{border_height, is_placed, is_solid, 
 use Rattle.lay_blocks.specs.BlockFloats.{Spot, content_of, line_content_of, lines_at, shape_at, place_at, floats_before, float_request, solid_request, ceiling}
 use Rattle.lay_flow.specs.Pass.State.{PassState, IsAt, Settled, columns_of, Clearances, clearances_of, ended_run}
 use Rattle.lay_blocks.specs.FlowBoxes.{AreFlowBoxes}
-use Rattle.lay_flow.specs.Pass.Bounds.{IsStartNear, IsMarkNear, IsCollapseNear, is_barred, reach}
+use Rattle.lay_flow.specs.Pass.Bounds.{IsStartNear, IsMarkNear, is_barred, reach}
 use Rattle.lay_flow.specs.Pass.Struts.{StrutFits}
 use Rattle.lay_flow.specs.Pass.Placed.{Placing, PlacesTo}
 use Rattle.lay_flow.specs.Pass.Knows.{Knows, IsReady, MayBe, IsCandidate, HaveNoExtent, AreClears, AreDecided, AreExtentsKept, ArePlacesKept}
@@ -118,7 +118,7 @@ module _ (boxes : List FlowBox) (tree : IsTree (parents_of boxes)) (now : PassSt
   }
 
   pub knows_parting : (k : ℕ) (marks : List Length) (end start : ℤ) (strut strut' : StrutValue) → AreFlowBoxes boxes → 0 < k → k < length boxes → parts_tops boxes k ≡ true → IsReady boxes now placing k
-      → WithMargin now.strut strut (block_at boxes k).margin_top.0 → RunEnds (pushed now strut) end → IsCollapseNear (end -ℤ now.start)
+      → WithMargin now.strut strut (block_at boxes k).margin_top.0 → RunEnds (pushed now strut) end → IsUsed (end -ℤ now.start)
       → Settled boxes (ended_run (columns_of now) (k + 1) end) now.marks marks → start ≡ end +ℤ (block_at boxes k).edge_top.0 → StrutFits strut' → Holds strut' []
       → Knows boxes (record now { marks = marks; start = start; strut = strut'; first = k + 1; hangs = false }) placing (margin_place k (k + 1))
   knows_parting k marks end start strut strut' input positive within parting was holds ends ended settled starts fits' empty =
@@ -142,7 +142,7 @@ module _ (boxes : List FlowBox) (tree : IsTree (parents_of boxes)) (now : PassSt
     places_within : length placing.places ≤ length boxes
     places_within = let early = was.early in let few = was.fits.first_most in let within = was.fits.within in omega (arith, early, few, within)
 
-    pub knows_started : (start : ℤ) → may_collapse_through (block_at boxes p) ≡ true → now.hangs ≡ true → now.first ≡ p → ((ms : List ℤ) → Holds now.strut ms → start ≡ now.start -ℤ collapse ms) → IsCollapseNear (now.start -ℤ start)
+    pub knows_started : (start : ℤ) → may_collapse_through (block_at boxes p) ≡ true → now.hangs ≡ true → now.first ≡ p → ((ms : List ℤ) → Holds now.strut ms → start ≡ now.start -ℤ collapse ms) → IsUsed (now.start -ℤ start)
         → Knows boxes (record now { start = start; hangs = false }) placing (margin_place p m)
     knows_started start may hangs first value collapsed = record {
       fits = fits_started boxes tree now p m positive was.fits start hangs collapsed;
@@ -156,7 +156,7 @@ module _ (boxes : List FlowBox) (tree : IsTree (parents_of boxes)) (now : PassSt
     }
 
     pub knows_through : (marks heights : List Length) (flags : List Bool) (end : ℤ) (strut' : StrutValue) → may_collapse_through (block_at boxes p) ≡ true → now.first ≤ p → (now.hangs ≡ true → now.first < p)
-        → RunEnds now end → IsCollapseNear (end -ℤ now.start)
+        → RunEnds now end → IsUsed (end -ℤ now.start)
         → Wrote length_at now.marks marks p end → Wrote length_at now.heights heights p (pos 0) → Wrote flag_at now.through flags p true
         → StrutFits strut' → WithMargin now.strut strut' (block_at boxes p).margin_bottom.0
         → Knows boxes (record now { marks = marks; heights = heights; through = flags; strut = strut' }) placing (margin_place (parent_at boxes p) m)
@@ -260,7 +260,7 @@ module _ (boxes : List FlowBox) (tree : IsTree (parents_of boxes)) (now : PassSt
             (starts ∙ (λ i. marked i +ℤ (sym wrote.here) i)) holds
 
     pub knows_parted : (marks heights : List Length) (placing' : Placing) (end mark height start : ℤ) (strut' : StrutValue) → (may_join_bottoms (block_at boxes p) && not (is_barred boxes now p)) ≡ false → (may_collapse_through (block_at boxes p) ≡ true → p < now.first)
-        → RunEnds now end → IsCollapseNear (end -ℤ now.start)
+        → RunEnds now end → IsUsed (end -ℤ now.start)
         → Settled boxes (ended_run (columns_of now) m end) now.marks marks
         → PlacesTo boxes marks placing' m → AreExtentsKept boxes (length placing.places) placing.extents placing'.extents → ArePlacesKept placing.places placing'.places
         → mark ≡ length_at marks p → (is_solid (block_at boxes p).inside ≡ false → IsBoxSize height) → height ≡ border_height (block_at boxes p) (length_at placing'.extents p) (held_height (block_at boxes p).inside (length_at placing'.extents p) (end -ℤ (mark +ℤ (block_at boxes p).edge_top.0)))

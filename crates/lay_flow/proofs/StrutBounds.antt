@@ -1,5 +1,5 @@
 -- Struts that hold used margins.
-use Rattle.std.proofs.Common.{◌≡◌, ℤ, ◌+ℤ◌, [], ◌∷◌, arith, ◌≤ℤ◌}
+use Rattle.std.proofs.Common.{◌≡◌, ℤ, ◌+ℤ◌, [], ◌∷◌, arith}
 use Rattle.std.proofs.lemmas.Int.{ints, clamps}
 use Rattle.lay_units.specs.Units.{IsUsed}
 use Rattle.lay_margins.specs.StrutValue.{StrutValue}

@@ -1,10 +1,9 @@
 //! The flow of a block formatting context: a place for each of its boxes.
 
 ghost use Rattle.std.specs.Prelude.{◌≡◌, ◌<◌, ◌+ℤ◌, pos, IfOk};
-ghost use Rattle.lay_units.specs.Units.{IsUsed};
+ghost use Rattle.lay_units.specs.Units.{IsUsed, IsNear};
 ghost use Rattle.lay_floats.specs.Within.{IsWithin};
 ghost use Rattle.lay_blocks.specs.Boxes.{box_at};
-ghost use Rattle.lay_blocks.specs.BlockSizes.{IsNear};
 ghost use Rattle.lay_blocks.specs.FlowBoxes.{FloatBoxFits};
 ghost use Rattle.lay_blocks.specs.FlowPlaces.{AreNearPlaces, IsFlowOf, IsNearPlace, border_box, float_box, own_place, corner_at};
 ghost use Rattle.lay_flow.specs.Pass.Columns.{AreBorderBoxes, AreNearColumns, IsFarPlace};
@@ -50,7 +49,11 @@ fn border_boxes(
 
 fn border_box_at(at: &BoxAt<'_>, columns: &FlowColumns) -> BoxPlace
     requires { AreNearColumns at.now.boxes.list.now columns.now }
-    ensures value { result ≡ border_box (box_at at.now.boxes.list.now at.now.k).kind (record { 0 = length_at columns.now.tops.items at.now.k }) (record { 0 = length_at columns.now.heights.items at.now.k }) (own_place (box_at at.now.boxes.list.now at.now.k).kind (corner_at columns.now.places.items at.now.k) (corner_at columns.now.corners.items at.now.k)) }
+    ensures value { result
+        ≡ border_box (box_at at.now.boxes.list.now at.now.k).kind (record { 0 = length_at columns.now.tops.items at.now.k })
+        (record { 0 = length_at columns.now.heights.items at.now.k })
+        (own_place (box_at at.now.boxes.list.now at.now.k).kind (corner_at columns.now.places.items at.now.k)
+        (corner_at columns.now.corners.items at.now.k)) }
     ensures near { IsNearPlace result }
 {
     let mark = length_at(&columns.tops, at.k);

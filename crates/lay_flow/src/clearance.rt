@@ -1,6 +1,6 @@
 //! Clearance: it is decided before the top margin of a box is read, and begins a run (CSS 2.2, 9.5.2).
 
-ghost use Rattle.std.specs.Prelude.{◌≡◌, ◌+◌, ◌<◌, ◌≤◌, ◌⊎◌, true, false, length, None, Option, OnOk};
+ghost use Rattle.std.specs.Prelude.{◌≡◌, ◌<◌, ◌⊎◌, true, false, length, None, OnOk};
 ghost use Rattle.lay_units.specs.declared.length.Unit.{Unit};
 ghost use Rattle.lay_floats.specs.ClearEdge.{Clears};
 ghost use Rattle.lay_floats.specs.declared.requests.Clear.TheVariants.{None as clear_none};
@@ -43,7 +43,8 @@ pub(crate) fn clear(child: &ChildAt<'_>, flow: &mut Pass) -> Result<(), NoMemory
 
 fn asks_to_clear(at: &BoxAt<'_>) -> bool
     ensures flows { result ≡ true → (shape_at at.now.boxes.list.now at.now.k).float ≡ None }
-    ensures passes_none { result ≡ false → (shape_at at.now.boxes.list.now at.now.k).float ≡ None → (shape_at at.now.boxes.list.now at.now.k).clear ≡ clear_none }
+    ensures passes_none { result ≡ false → (shape_at at.now.boxes.list.now at.now.k).float ≡ None
+        → (shape_at at.now.boxes.list.now at.now.k).clear ≡ clear_none }
 {
     at.side().is_none() && at.clear() != Clear::None
 }
@@ -152,7 +153,8 @@ fn begin_cleared(child: &ChildAt<'_>, flow: &mut Pass, hypothetical: Unit) -> Re
     requires known { IsKnown child.now.at.boxes.list.now flow.old (parent_at child.now.at.boxes.list.now child.now.at.k) child.now.at.k }
     requires edge { IsEdgeWithout child.now.at.boxes.list.now flow.old child.now.at.k hypothetical.0 }
     requires near { IsEdgeNear (weight child.now.at.boxes.list.now child.now.at.k) hypothetical.0 }
-    requires decides { HasWaitingFloat child.now.at.boxes.list.now flow.old.first child.now.at.k ⊎ IsAboveFloats flow.old.placing.floats (shape_at child.now.at.boxes.list.now child.now.at.k).clear hypothetical.0 }
+    requires decides { HasWaitingFloat child.now.at.boxes.list.now flow.old.first child.now.at.k
+        ⊎ IsAboveFloats flow.old.placing.floats (shape_at child.now.at.boxes.list.now child.now.at.k).clear hypothetical.0 }
     ensures { OnOk result (IsReadyAt child.now.at.boxes.list.now flow.new child.now.at.k) }
 {
     let end = end_of(flow.start, flow.strut);

@@ -1,6 +1,6 @@
 //! Reading and writing a column of lengths.
 
-ghost use Rattle.std.specs.Prelude.{◌≡◌, ◌<◌, ◌+ℤ◌, length, slice_set};
+ghost use Rattle.std.specs.Prelude.{◌≡◌, ◌<◌, length, slice_set};
 ghost use Rattle.lay_blocks.specs.Lengths.{length_at};
 ghost use Rattle.lay_flow.specs.Pass.Bounds.{clears_of};
 ghost use Rattle.lay_blocks.specs.FlowPlaces.{corner_at};

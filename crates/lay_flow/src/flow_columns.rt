@@ -1,8 +1,8 @@
 //! The places of the boxes of a context, in one pass over their margins in document order.
 
 ghost use Rattle.std.specs.Prelude.{◌≡◌, ◌+◌, ◌-◌, ◌<◌, ◌≤◌, [], length, replicate, IfOk, OnOk};
+ghost use Rattle.lay_units.specs.Lengths.{no_length};
 ghost use Rattle.lay_blocks.specs.Boxes.{parent_at};
-ghost use Rattle.lay_blocks.specs.Lengths.{no_length};
 ghost use Rattle.lay_flow.specs.Pass.Bounds.{AreBoxHeights, AreNear};
 ghost use Rattle.lay_flow.specs.Pass.Columns.{AreColumnsOf, AreNearColumns};
 ghost use Rattle.lay_flow.specs.Pass.Known.{IsFinished, IsKnown};

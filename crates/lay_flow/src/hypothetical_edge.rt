@@ -2,6 +2,7 @@
 
 ghost use Rattle.std.specs.Prelude.{◌≡◌, ℕ, ◌+◌, ◌<◌, ◌≤◌, ◌==◌, ◌||◌, ◌-ℤ◌, not, nat_lt, length, true, false};
 ghost use Rattle.lay_units.specs.declared.length.Unit.{Unit};
+ghost use Rattle.lay_units.specs.Units.{IsUsed};
 ghost use Rattle.lay_margins.specs.Collapse.{Holds};
 ghost use Rattle.lay_flow.specs.declared.hypothetical_edge.Outset.{Outset};
 ghost use Rattle.lay_blocks.specs.Boxes.{parent_at};
@@ -11,7 +12,6 @@ ghost use Rattle.lay_blocks.specs.BlockLayout.{BlockLayout};
 ghost use Rattle.lay_blocks.specs.BlockPositions.{IsBlockLayout, start_before};
 ghost use Rattle.lay_flow.specs.Pass.LookAhead.{HasRead, IsOutermost, IsOutset, IsReading, reading};
 ghost use Rattle.lay_blocks.specs.MarginRuns.{block_at, has_top, margins, may_collapse_through, run_before};
-ghost use Rattle.lay_flow.specs.Pass.Bounds.{IsCollapseNear};
 ghost use Rattle.lay_flow.specs.Pass.Struts.{StrutFits};
 
 use crate::margin_place::BoxInRun;
@@ -55,11 +55,18 @@ struct Ahead {
 /// The top border edge that the box would have where neither it nor a later box had clearance. The pass is before its
 /// top margin, in a run that starts at `start`, with the margins of a strut.
 pub(crate) fn hypothetical_edge(before: &BoxInRun<'_>, start: Near, used: UsedStrut) -> Unit
-    ensures edge { (w : BlockLayout) → IsBlockLayout before.now.at.boxes.list.now w → ((j : ℕ) → before.now.at.k ≤ j → flag_at w.runs.clears j ≡ false)
-        → Holds used.strut (margins (run_before before.now.at.boxes.list.now w.runs (parent_at before.now.at.boxes.list.now before.now.at.k) before.now.at.k)) → start.unit.0 ≡ start_before before.now.at.boxes.list.now w (parent_at before.now.at.boxes.list.now before.now.at.k) before.now.at.k
-        → ((j : ℕ) → j < before.now.at.k → has_top j (run_before before.now.at.boxes.list.now w.runs (parent_at before.now.at.boxes.list.now before.now.at.k) before.now.at.k) ≡ not (nat_lt j before.now.first))
+    ensures edge { (w : BlockLayout) → IsBlockLayout before.now.at.boxes.list.now w
+        → ((j : ℕ) → before.now.at.k ≤ j → flag_at w.runs.clears j ≡ false)
+        → Holds used.strut
+        (margins (run_before before.now.at.boxes.list.now w.runs (parent_at before.now.at.boxes.list.now before.now.at.k) before.now.at.k))
+        → start.unit.0
+        ≡ start_before before.now.at.boxes.list.now w (parent_at before.now.at.boxes.list.now before.now.at.k) before.now.at.k
+        → ((j : ℕ) → j < before.now.at.k
+        → has_top j
+        (run_before before.now.at.boxes.list.now w.runs (parent_at before.now.at.boxes.list.now before.now.at.k) before.now.at.k)
+        ≡ not (nat_lt j before.now.first))
         → result.0 ≡ length_at w.places.marks before.now.at.k }
-    ensures near { IsCollapseNear (result.0 -ℤ start.unit.0) }
+    ensures near { IsUsed (result.0 -ℤ start.unit.0) }
 {
     let look = LookAhead {
         boxes: before.at.boxes,
@@ -120,7 +127,8 @@ impl LookAhead<'_> {
     fn advance(&self, ahead: Ahead, m: usize) -> Ahead
         requires within { m < length self.now.boxes.list.now }
         requires reading { IsReading self.now.boxes.list.now self.now.from (reading ahead.used.strut ahead.innermost m) }
-        ensures going { result.ended ≡ false → IsReading self.now.boxes.list.now self.now.from (reading result.used.strut result.innermost (m + 1)) }
+        ensures going { result.ended ≡ false
+            → IsReading self.now.boxes.list.now self.now.from (reading result.used.strut result.innermost (m + 1)) }
         ensures ended { result.ended ≡ true → HasRead self.now.boxes.list.now self.now.from result.used.strut }
     {
         let closed = self.close_to(ahead, m);
@@ -137,8 +145,10 @@ impl LookAhead<'_> {
     // Reads the bottom margins of the open boxes that the box at m isn't in.
     fn close_to(&self, ahead: Ahead, m: usize) -> Ahead
         requires { IsReading self.now.boxes.list.now self.now.from (reading ahead.used.strut ahead.innermost m) }
-        ensures going { result.ended ≡ false → m < length self.now.boxes.list.now → IsReading self.now.boxes.list.now self.now.from (reading result.used.strut (parent_at self.now.boxes.list.now m) m) }
-        ensures last { result.ended ≡ false → length self.now.boxes.list.now ≤ m → IsReading self.now.boxes.list.now self.now.from (reading result.used.strut 0 m) }
+        ensures going { result.ended ≡ false → m < length self.now.boxes.list.now
+            → IsReading self.now.boxes.list.now self.now.from (reading result.used.strut (parent_at self.now.boxes.list.now m) m) }
+        ensures last { result.ended ≡ false → length self.now.boxes.list.now ≤ m
+            → IsReading self.now.boxes.list.now self.now.from (reading result.used.strut 0 m) }
         ensures ended { result.ended ≡ true → HasRead self.now.boxes.list.now self.now.from result.used.strut }
     {
         let to = self.boxes.holder_at(m);
@@ -176,9 +186,11 @@ impl LookAhead<'_> {
 
 // Reads the top margin of the box. An edge above its content ends the run.
 fn open(at: &BoxAt<'_>, used: UsedStrut) -> Ahead
-    ensures going { result.ended ≡ false → (from : Outset) → IsOutset at.now.boxes.list.now from → IsReading at.now.boxes.list.now from (reading used.strut (parent_at at.now.boxes.list.now at.now.k) at.now.k)
+    ensures going { result.ended ≡ false → (from : Outset) → IsOutset at.now.boxes.list.now from
+        → IsReading at.now.boxes.list.now from (reading used.strut (parent_at at.now.boxes.list.now at.now.k) at.now.k)
         → IsReading at.now.boxes.list.now from (reading result.used.strut result.innermost (at.now.k + 1)) }
-    ensures ended { result.ended ≡ true → (from : Outset) → IsOutset at.now.boxes.list.now from → IsReading at.now.boxes.list.now from (reading used.strut (parent_at at.now.boxes.list.now at.now.k) at.now.k)
+    ensures ended { result.ended ≡ true → (from : Outset) → IsOutset at.now.boxes.list.now from
+        → IsReading at.now.boxes.list.now from (reading used.strut (parent_at at.now.boxes.list.now at.now.k) at.now.k)
         → HasRead at.now.boxes.list.now from result.used.strut }
 {
     let block = at.block();

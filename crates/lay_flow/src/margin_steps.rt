@@ -14,8 +14,8 @@ use crate::marked_boxes::MarkedBoxes;
 use crate::pass::{Pass, RunStart};
 use crate::placement::place_up_to;
 use crate::settling::EndedRun;
-use lay_blocks::{ChildAt, Near, StandingBlock, sum_of};
-use lay_units::{NoMemory, Unit};
+use lay_blocks::{ChildAt, Near, StandingBlock};
+use lay_units::{NoMemory, Unit, sum_of};
 
 /// Reads the clearance and the top margin of the box, which is then the innermost open one.
 pub(crate) fn open(child: &ChildAt<'_>, flow: &mut Pass) -> Result<(), NoMemory>
@@ -66,7 +66,8 @@ fn open_parting(child: &ChildAt<'_>, flow: &mut Pass)
 /// Reads the bottom margin of the innermost open box.
 pub(crate) fn close(ending: &EndingBox<'_>, flow: &mut Pass) -> Result<(), NoMemory>
     requires { IsKnown ending.now.at.boxes.list.now flow.old ending.now.at.k ending.now.next }
-    ensures { OnOk result (IsKnown ending.now.at.boxes.list.now flow.new (parent_at ending.now.at.boxes.list.now ending.now.at.k) ending.now.next) }
+    ensures { OnOk result
+        (IsKnown ending.now.at.boxes.list.now flow.new (parent_at ending.now.at.boxes.list.now ending.now.at.k) ending.now.next) }
 {
     if ending.block.may_collapse_through() && flow.first <= ending.at.k {
         pass_through(ending, flow);
@@ -125,7 +126,8 @@ fn close_through(ending: &EndingBox<'_>, flow: &mut Pass)
 fn close_joined(ending: &EndingBox<'_>, flow: &mut Pass)
     requires joined { may_join_bottoms (block_at ending.now.at.boxes.list.now ending.now.at.k) ≡ true }
     requires unbarred { is_barred ending.now.at.boxes.list.now (state_of flow.old) ending.now.at.k ≡ false }
-    requires settled { may_collapse_through (block_at ending.now.at.boxes.list.now ending.now.at.k) ≡ true → ending.now.at.k < flow.old.first }
+    requires settled { may_collapse_through (block_at ending.now.at.boxes.list.now ending.now.at.k) ≡ true
+        → ending.now.at.k < flow.old.first }
     requires known { IsKnown ending.now.at.boxes.list.now flow.old ending.now.at.k ending.now.next }
     ensures { IsKnown ending.now.at.boxes.list.now flow.new (parent_at ending.now.at.boxes.list.now ending.now.at.k) ending.now.next }
 {
@@ -147,10 +149,13 @@ fn close_joined(ending: &EndingBox<'_>, flow: &mut Pass)
 
 // Its bottom margin begins a run.
 fn close_parted(ending: &EndingBox<'_>, flow: &mut Pass) -> Result<(), NoMemory>
-    requires parted { (may_join_bottoms (block_at ending.now.at.boxes.list.now ending.now.at.k) && not (is_barred ending.now.at.boxes.list.now (state_of flow.old) ending.now.at.k)) ≡ false }
-    requires settled { may_collapse_through (block_at ending.now.at.boxes.list.now ending.now.at.k) ≡ true → ending.now.at.k < flow.old.first }
+    requires parted { (may_join_bottoms (block_at ending.now.at.boxes.list.now ending.now.at.k)
+        && not (is_barred ending.now.at.boxes.list.now (state_of flow.old) ending.now.at.k)) ≡ false }
+    requires settled { may_collapse_through (block_at ending.now.at.boxes.list.now ending.now.at.k) ≡ true
+        → ending.now.at.k < flow.old.first }
     requires known { IsKnown ending.now.at.boxes.list.now flow.old ending.now.at.k ending.now.next }
-    ensures { OnOk result (IsKnown ending.now.at.boxes.list.now flow.new (parent_at ending.now.at.boxes.list.now ending.now.at.k) ending.now.next) }
+    ensures { OnOk result
+        (IsKnown ending.now.at.boxes.list.now flow.new (parent_at ending.now.at.boxes.list.now ending.now.at.k) ending.now.next) }
 {
     let end = end_of(flow.start, flow.strut);
     let run = EndedRun {

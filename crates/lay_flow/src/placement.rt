@@ -1,6 +1,6 @@
 //! Floats, solid boxes and lines find their places, in document order, once their marks are known.
 
-ghost use Rattle.std.specs.Prelude.{◌≡◌, ◌+◌, ◌-ℤ◌, ◌+ℤ◌, ◌<◌, ◌≤◌, ◌++◌, ◌∷◌, [], length, true, OnOk, Some};
+ghost use Rattle.std.specs.Prelude.{◌≡◌, ◌+◌, ◌<◌, ◌≤◌, ◌++◌, ◌∷◌, [], length, true, OnOk, Some};
 ghost use Rattle.std.specs.Int.{int_max};
 ghost use Rattle.lay_blocks.specs.BlockFloats.{ceiling, float_request, solid_request, no_place, shape_at};
 ghost use Rattle.lay_blocks.specs.BlockPositions.{is_lines, is_solid};
@@ -12,10 +12,10 @@ ghost use Rattle.lay_flow.specs.Pass.Placed.{IsCeilingNear};
 
 use crate::columns::{length_at, write_at};
 use crate::marked_boxes::{MarkedBox, MarkedBoxes};
-use lay_blocks::{BoxAt, Near, Shape, sum_of};
+use lay_blocks::{BoxAt, Near, Shape};
 use lay_floats::{FloatReq, Floats, Place, Side, SolidReq};
 use lay_lines::{NodePlaceList, RowList};
-use lay_units::{NoMemory, Unit};
+use lay_units::{NoMemory, Unit, sum_of};
 use std::alloc::Global;
 
 /// What a pass keeps of floats, solid boxes and lines: the depths of boxes as far as they are known, the floats that
@@ -41,7 +41,8 @@ pub(crate) fn place_up_to(
     requires known { ArePlaced of.now.boxes.list.now of.now.marks.now placing.old (length placing.old.places.items) }
     ensures placed { OnOk result (GoesOn of.now.boxes.list.now of.now.marks.now placing.old placing.new) }
     ensures count { OnOk result (length placing.new.places.items ≡ m) }
-    ensures kept { OnOk result (AreExtentsKept of.now.boxes.list.now (length placing.old.places.items) placing.old.extents.items placing.new.extents.items) }
+    ensures kept { OnOk result
+        (AreExtentsKept of.now.boxes.list.now (length placing.old.places.items) placing.old.extents.items placing.new.extents.items) }
 {
     for k in placing.places.len()..m {
         let at = BoxAt { boxes: of.boxes, k };

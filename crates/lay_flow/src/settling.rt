@@ -28,7 +28,13 @@ impl EndedRun<'_> {
     /// earlier run keep the mark that they have.
     pub(crate) fn settle(&self, marks: &mut Vec<Unit>)
         requires { length marks.old.items ≡ length self.now.boxes.list.now }
-        ensures { Settled self.now.boxes.list.now (record { through = self.now.through.now; first = self.now.first; next = self.now.end; mark = self.now.mark.0 }) marks.old.items marks.new.items }
+        ensures { Settled self.now.boxes.list.now
+            (record {
+              through = self.now.through.now;
+              first = self.now.first;
+              next = self.now.end;
+              mark = self.now.mark.0;
+            }) marks.old.items marks.new.items }
     {
         for k in self.first..self.end {
             self.settle_one(marks, k);
@@ -39,8 +45,16 @@ impl EndedRun<'_> {
         requires marks { length marks.old.items ≡ length self.now.boxes.list.now }
         requires order { self.now.first ≤ k }
         requires within { k < self.now.end }
-        ensures { (before : List Unit) → Settled self.now.boxes.list.now (record { through = self.now.through.now; first = self.now.first; next = k; mark = self.now.mark.0 }) before marks.old.items
-            → Settled self.now.boxes.list.now (record { through = self.now.through.now; first = self.now.first; next = k + 1; mark = self.now.mark.0 }) before marks.new.items }
+        ensures { (before : List Unit)
+            → Settled self.now.boxes.list.now
+            (record { through = self.now.through.now; first = self.now.first; next = k; mark = self.now.mark.0 }) before marks.old.items
+            → Settled self.now.boxes.list.now
+            (record {
+              through = self.now.through.now;
+              first = self.now.first;
+              next = k + 1;
+              mark = self.now.mark.0;
+            }) before marks.new.items }
     {
         if !flag_at(self.through, k) {
             write_at(marks, k, self.mark);

@@ -3,7 +3,7 @@ use Rattle.std.proofs.Common.{◌≡◌, ℕ, zero, suc, ◌<◌, ◌≤◌, ◌
 use Rattle.std.proofs.lemmas.Bool.{cases_lt, eq-eqb}
 use Rattle.std.proofs.lemmas.Bool.Decides.{nat_tests}
 use Rattle.std.proofs.lemmas.Int.{ints}
-use Rattle.lay_units.specs.Units.{IsUsedSize}
+use Rattle.lay_units.specs.Units.{IsUsedSize, IsBoxSize}
 use Rattle.lay_units.specs.declared.length.Unit.{Unit as Length}
 use Rattle.lay_units.specs.declared.records.Len.{Len}
 use Rattle.lay_units.specs.declared.records.Len.TheVariants as len
@@ -22,7 +22,6 @@ use Rattle.lay_blocks.specs.declared.flow_box.BlockBox.{BlockBox}
 use Rattle.lay_blocks.specs.declared.flow_box.HeightRule.{HeightRule}
 use Rattle.lay_blocks.specs.declared.flow_box.FlowKind.TheVariants.{Block as block, Lines as lines}
 use Rattle.lay_blocks.specs.BlockPositions.{given_or_auto}
-use Rattle.lay_blocks.specs.BlockSizes.{IsBoxSize}
 use Rattle.lay_blocks.specs.Boxes.{box_at, empty_block, parent_at, parents_of}
 use Rattle.lay_blocks.specs.FlowBoxes.{AreFlowBoxes, BlockBoxFits, FloatBoxFits, IsFlowTree, KindFits, is_block, is_in_lines as is_line_kind, may_hold}
 use Rattle.lay_blocks.specs.FlowPlaces.{AreNearPlaces, FlowPlacesValue, IsFlowOf, box_place_at}

@@ -18,10 +18,10 @@ use Rattle.lay_box_tree.specs.Containing.{container_of}
 use Rattle.lay_box_tree.specs.ContextBoxes.{AreContextBoxes}
 use Rattle.lay_box_tree.proofs.ContainerSteps.{containers_are_nearest_lem}
 use Rattle.lay_flow_boxes.specs.declared.inline_containers.Level.TheVariants.{Block as block_level, Inline as inline_level}
-use Rattle.lay_flow_boxes.specs.InlineContainers.{holds, is_beside_lines, is_block_box, is_inline_container, is_of, is_own_container, stands_in}
+use Rattle.lay_flow_boxes.specs.InlineContainers.{holds, is_beside_lines, is_block_box, is_of, is_own_container, stands_in}
 use Rattle.lay_flow_boxes.specs.LineItems.{AreHeldByOthers, IsIn, holds_nothing}
-use Rattle.lay_flow_boxes.specs.OneLevel.{HoldOneLevel, WidthsAgreeOnLines}
-use Rattle.lay_flow_boxes.proofs.FlowFacts.{beside_by, not_held, or_first, positive_lt, same_eq}
+use Rattle.lay_flow_boxes.specs.OneLevel.{WidthsAgreeOnLines}
+use Rattle.lay_flow_boxes.proofs.FlowFacts.{beside_by, not_held, or_first, positive_lt}
 use Rattle.lay_flow_boxes.proofs.ItemSorts.{behind, parent_is, role_is, some_behind}
 use Rattle.lay_flow_boxes.proofs.LinesAreItems.{block_counts, not_first, within}
 

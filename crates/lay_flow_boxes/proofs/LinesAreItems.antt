@@ -1,12 +1,11 @@
 -- The boxes that stand in the lines of a block container are the items of these lines, each once.
-use Rattle.std.proofs.Common.{◌≡◌, ◌≢◌, ℕ, zero, suc, ◌+◌, ◌<◌, ◌≤◌, ◌==◌, ◌&&◌, ◌||◌, not, Bool, true, false, List, [], ◌∷◌, ◌++◌, length, drop, slice_index_or, map, All, nat_lt, refl, sym, ap, subst, ◌∙◌, arith, inl, inr, if◌then◌else◌}
+use Rattle.std.proofs.Common.{◌≡◌, ℕ, zero, suc, ◌+◌, ◌<◌, ◌==◌, ◌&&◌, not, Bool, true, false, List, [], ◌∷◌, ◌++◌, length, drop, slice_index_or, All, refl, sym, ap, subst, ◌∙◌, arith, inl, inr, if◌then◌else◌}
 use Rattle.std.proofs.lemmas.Bool.{cases_lt, eqb-true}
 use Rattle.std.proofs.lemmas.List.{drop_all}
 use Rattle.std.proofs.lemmas.List.Elements.{All-append, All-cons, All-nil}
-use Rattle.lay_box_tree.specs.BoxColumns.{box_parents}
 use Rattle.lay_box_tree.specs.Containers.{IsContainer, box_containers, box_parent, counts, further as at_further, parent as at_parent}
 use Rattle.lay_box_tree.specs.Kinds.{is_block_container}
-use Rattle.lay_box_tree.specs.Roles.{box_roles, float_role, role_at, role_in, role_of, role_of_kind}
+use Rattle.lay_box_tree.specs.Roles.{float_role, role_at, role_in, role_of, role_of_kind}
 use Rattle.lay_box_tree.specs.declared.box_role.Role.{Role}
 use Rattle.lay_box_tree.specs.declared.box_role.Role.TheVariants as role
 use Rattle.lay_box_tree.specs.declared.box_tree.BoxKind.{BoxKind}
@@ -24,10 +23,10 @@ use Rattle.lay_items.specs.InlineItems.{items_as, items_at, items_below, items_o
 use Rattle.lay_items.specs.InlineStarts.{takes_room}
 use Rattle.lay_items.specs.OpenBoxes.{is_inline}
 use Rattle.lay_box_tree.specs.Containing.{container_of}
-use Rattle.lay_box_tree.specs.ContextBoxes.{AreContextBoxes, is_inner}
-use Rattle.lay_box_tree.proofs.ContainerSteps.{container_before, containers_are_nearest_lem}
+use Rattle.lay_box_tree.specs.ContextBoxes.{AreContextBoxes}
+use Rattle.lay_box_tree.proofs.ContainerSteps.{containers_are_nearest_lem}
 use Rattle.lay_flow_boxes.specs.declared.inline_containers.Level.TheVariants.{Block as block_level, Inline as inline_level}
-use Rattle.lay_flow_boxes.specs.InlineContainers.{holds, is_beside_lines, is_block_box, is_inline_container, is_of, is_own_container, stands_in}
+use Rattle.lay_flow_boxes.specs.InlineContainers.{holds, is_beside_lines, is_block_box, is_inline_container, is_own_container}
 use Rattle.lay_flow_boxes.specs.LineItems.{AreHeldByOthers, BoxesInLinesAreItems, IsIn, IsInLinesAs, ItemsAreBoxesInLines, Sort, as_anchor, as_atomic, as_inline, as_left_float, as_right_float, as_text, end, holds_nothing, named, sorts_of, start}
 use Rattle.lay_flow_boxes.proofs.FlowFacts.{container_counts, in_line_container, or_first}
 use Rattle.lay_flow_boxes.proofs.ItemSorts.{behind, below, follows, own_sorts, parent_is, role_is, some_behind, spread}

@@ -5,8 +5,10 @@
 -- float of this context overlaps it. An anchor takes no room: it is an empty block, so that it stands where that would (9.6).
 -- The others are blocks, and the context's own box is one. Horizontal positions are counted from the left border edge of the
 -- context's own box.
-use Rattle.std.specs.Prelude.{ℕ, zero, suc, ◌≡◌, ◌<◌, ◌+ℤ◌, ◌&&◌, Bool, true, false, List, length, nat_lt, Option, Some, None, if◌then◌else◌}
+use Rattle.std.specs.Prelude.{ℕ, zero, suc, ◌≡◌, ◌<◌, ◌+ℤ◌, ◌&&◌, Bool, true, false}
+use Rattle.std.specs.Prelude.{List, length, nat_lt, Option, Some, None, if◌then◌else◌}
 use Rattle.lay_units.specs.declared.length.Unit.{Unit as Length}
+use Rattle.lay_units.specs.Lengths.{no_length}
 use Rattle.lay_style.specs.declared.style_words.Float.{Float}
 use Rattle.lay_style.specs.declared.style_words.Float.TheVariants as floating
 use Rattle.lay_style.specs.declared.style_words.Clear.{Clear as ClearStyle}
@@ -27,14 +29,15 @@ use Rattle.lay_blocks.specs.declared.flow_box.FloatBox.{FloatBox}
 use Rattle.lay_blocks.specs.declared.flow_box.FlowBox.{FlowBox}
 use Rattle.lay_blocks.specs.declared.flow_box.FlowKind.{FlowKind}
 use Rattle.lay_blocks.specs.declared.flow_box.HeightRule.{HeightRule}
-use Rattle.lay_blocks.specs.declared.flow_box.FlowKind.TheVariants.{Block as block, Lines as lines, Solid as solid, Float as float, LineFloat as line_float, Inline as inline}
+use Rattle.lay_blocks.specs.declared.flow_box.FlowKind.TheVariants.{Block as block, Lines as lines, Solid as solid}
+use Rattle.lay_blocks.specs.declared.flow_box.FlowKind.TheVariants.{Float as float, LineFloat as line_float, Inline as inline}
 use Rattle.lay_items.specs.InlineSegments.{segments_in}
 use Rattle.lay_line_content.specs.LineContents.{LineContentValue}
 use Rattle.lay_content.specs.declared.container.Container.{Container}
 use Rattle.lay_content.specs.BoxMeasuresValue.{BoxMeasuresValue}
 use Rattle.lay_content.specs.Contents.{content_in}
 use Rattle.lay_content.specs.SeenLines.{has_seen_line}
-use Rattle.lay_blocks.specs.Lengths.{length_at, no_length}
+use Rattle.lay_blocks.specs.Lengths.{length_at}
 use Rattle.lay_blocks.specs.Boxes.{box_at, empty_block}
 use Rattle.lay_sizes.specs.declared.sizing.BoxSizes.{BoxSizes}
 use Rattle.lay_sizes.specs.declared.own_boxes.OwnBox.{OwnBox}
@@ -177,7 +180,8 @@ is_anchor _ = false
 abbrev pub kind_alone : List BoxNode → List BoxSizes → List OwnBox → HeightRule → List Length → ℕ → FlowKind
 kind_alone boxes sizes inner own_height lefts k =
     if is_anchor (role_at boxes k) then block empty_block
-    else (if is_inner boxes k then inner_box (float_side boxes k) (cleared_by boxes k) (own_box_at inner k) (record { 0 = length_at lefts k })
+    else (if is_inner boxes k
+    then inner_box (float_side boxes k) (cleared_by boxes k) (own_box_at inner k) (record { 0 = length_at lefts k })
     else (if is_inline_level (role_at boxes k) then block empty_block else block (own_block boxes sizes own_height lefts k)))
 
 -- what the box at k is, where its lines hold this, or it holds none

@@ -1,7 +1,6 @@
 //! Reading the columns of one context's boxes.
 
-ghost use Rattle.std.specs.Prelude.{◌≡◌, ◌+ℤ◌, ◌<◌, length};
-ghost use Rattle.lay_units.specs.Units.{IsPosition};
+ghost use Rattle.std.specs.Prelude.{◌≡◌, ◌<◌, length};
 ghost use Rattle.lay_style.specs.ComputedStyle.{style_at};
 ghost use Rattle.lay_box_tree.specs.BoxColumns.{box_styles};
 ghost use Rattle.lay_blocks.specs.Lengths.{length_at};
@@ -65,13 +64,4 @@ pub(crate) fn own_box_at(inner: &[OwnBox], k: usize) -> OwnBox
     ensures { result ≡ own_box_at inner.now k }
 {
     inner[k]
-}
-
-/// The sum of two positions.
-pub(crate) fn sum_of(a: Unit, b: Unit) -> Unit
-    requires a { IsPosition a.0 }
-    requires b { IsPosition b.0 }
-    ensures { result ≡ record { 0 = a.0 +ℤ b.0 } }
-{
-    Unit(a.0 + b.0)
 }

@@ -7,10 +7,10 @@ ghost use Rattle.lay_sizes.specs.OwnBoxes.{OwnBoxFits};
 ghost use Rattle.lay_flow_boxes.specs.ContextBlocks.{content_left, left_of_box, HasLefts};
 ghost use Rattle.lay_flow_boxes.specs.NearLefts.{AreNearLefts, IsNearLeft};
 
-use crate::box_columns::{length_at, outside, sizes_at, sum_of};
+use crate::box_columns::{length_at, outside, sizes_at};
 use crate::place_input::PlaceInput;
 use lay_sizes::{BoxSizes, OwnBox};
-use lay_units::{NoMemory, Unit};
+use lay_units::{NoMemory, Unit, sum_of};
 use std::alloc::Global;
 
 /// The greatest distance of a left border edge from that of the context's own box. A document has none so far away: its

@@ -5,7 +5,9 @@ ghost use Rattle.lay_sizes.specs.SizeBounds.{SizeFits};
 ghost use Rattle.lay_box_tree.specs.InlineParts.{AreInlineParts};
 ghost use Rattle.lay_blocks.specs.Boxes.{box_at};
 ghost use Rattle.lay_sizes.specs.OwnBoxes.{own_box_at};
-ghost use Rattle.lay_flow_boxes.specs.ContextBlocks.{AreFlowBoxesOf, block_box, cleared_by, cleared_sides, float_box, float_side, flow_box_of, has_lines, height_rule, inner_box, is_anchor, kind_alone, kind_in_lines, own_block, side_of};
+ghost use Rattle.lay_flow_boxes.specs.ContextBlocks.{AreFlowBoxesOf, block_box, cleared_by, cleared_sides, float_box};
+ghost use Rattle.lay_flow_boxes.specs.ContextBlocks.{float_side, flow_box_of, has_lines, height_rule, inner_box};
+ghost use Rattle.lay_flow_boxes.specs.ContextBlocks.{is_anchor, kind_alone, kind_in_lines, own_block, side_of};
 ghost use Rattle.lay_flow_boxes.specs.FlowShapes.{measures_in, most_flow_boxes};
 ghost use Rattle.lay_flow_boxes.specs.LineBoxes.{IsShaping};
 ghost use Rattle.lay_flow_boxes.specs.PlaceInputs.{height_rule_of};
@@ -65,8 +67,11 @@ fn flow_box_of(
     requires shaping { IsShaping of.now.input.now.boxes of.now.parts.now of.now.lefts.now of.now.inline_containers.now }
     requires place { k < length of.now.input.now.boxes }
     requires known { length flow_boxes.now ≡ k }
-    requires before { (j : ℕ) → j < k → box_at flow_boxes.now j ≡ flow_box_of (measures_in of.now.input.now of.now.parts.now) of.now.input.now.own_height of.now.lefts.now j }
-    ensures { IfOk result (λ b. b ≡ flow_box_of (measures_in of.now.input.now of.now.parts.now) of.now.input.now.own_height of.now.lefts.now k) }
+    requires before { (j : ℕ) → j < k
+        → box_at flow_boxes.now j
+        ≡ flow_box_of (measures_in of.now.input.now of.now.parts.now) of.now.input.now.own_height of.now.lefts.now j }
+    ensures { IfOk result
+        (λ b. b ≡ flow_box_of (measures_in of.now.input.now of.now.parts.now) of.now.input.now.own_height of.now.lefts.now k) }
 {
     let parent = of.input.container(k);
     let in_lines = 0 < k && holds_lines(flow_boxes, parent);
@@ -92,7 +97,8 @@ fn holds_lines(flow_boxes: &[FlowBox], k: usize) -> bool
 /// What the box at k is in the lines of its container, which place it if it floats.
 fn kind_in_lines(of: &Shaping<'_>, k: usize) -> FlowKind
     requires { k < length of.now.input.now.boxes }
-    ensures { result ≡ kind_in_lines (float_side of.now.input.now.boxes k) (cleared_by of.now.input.now.boxes k) (own_box_at of.now.input.now.inner k) }
+    ensures { result
+        ≡ kind_in_lines (float_side of.now.input.now.boxes k) (cleared_by of.now.input.now.boxes k) (own_box_at of.now.input.now.inner k) }
 {
     let input = of.input;
     let _ = input.context_boxes();
@@ -111,7 +117,8 @@ fn kind_alone(of: &Shaping<'_>, k: usize) -> FlowKind
     requires lefts { length of.now.lefts.now ≡ length of.now.input.now.boxes }
     requires near { AreNearLefts of.now.lefts.now }
     requires place { k < length of.now.input.now.boxes }
-    ensures { result ≡ kind_alone of.now.input.now.boxes of.now.input.now.sizes of.now.input.now.inner of.now.input.now.own_height of.now.lefts.now k }
+    ensures { result
+        ≡ kind_alone of.now.input.now.boxes of.now.input.now.sizes of.now.input.now.inner of.now.input.now.own_height of.now.lefts.now k }
 {
     let input = of.input;
     if is_anchor(input.role(k)) {

@@ -1,6 +1,6 @@
 //! The boxes of one context that hold lines.
 
-ghost use Rattle.std.specs.Prelude.{◌≡◌, ◌<◌, Some, None, length, IfOk, IfSome, if◌then◌else◌};
+ghost use Rattle.std.specs.Prelude.{◌≡◌, ◌<◌, Some, None, length, IfOk, IfSome};
 ghost use Rattle.lay_items.specs.InlineSegments.{segments_in};
 ghost use Rattle.lay_content.specs.SeenLines.{has_seen_line};
 ghost use Rattle.lay_flow_boxes.specs.ContextBlocks.{content_of_box, line_container, lines_in};

@@ -40,9 +40,19 @@ impl Model for PlaceInput {
 
     ghost Value = { Plain };
 
-    ghost view = { λ i. record { boxes = i.boxes; sizes = i.sizes; inner = i.inner; pieces = i.pieces; own_height = i.own_height; face = i.face.value } };
+    ghost view = { λ i.
+        record { boxes = i.boxes; sizes = i.sizes; inner = i.inner; pieces = i.pieces; own_height = i.own_height; face = i.face.value } };
 
-    ghost invariant = { λ i. PlaceInputFits (record { boxes = i.boxes; sizes = i.sizes; inner = i.inner; pieces = i.pieces; own_height = i.own_height; face = i.face.value }) × AreContents i.face.value i.boxes i.contents };
+    ghost invariant = { λ i.
+        PlaceInputFits
+        (record {
+          boxes = i.boxes;
+          sizes = i.sizes;
+          inner = i.inner;
+          pieces = i.pieces;
+          own_height = i.own_height;
+          face = i.face.value;
+        }) × AreContents i.face.value i.boxes i.contents };
 }
 
 impl PlaceInput {
@@ -54,8 +64,24 @@ impl PlaceInput {
         pieces: InnerPieces,
         face: Arc<Face>,
     ) -> PlaceInput
-        requires { PlaceInputFits (record { boxes = boxes; sizes = sizes; inner = inner; pieces = pieces; own_height = height_rule_of (sizes_at sizes 0); face = face.value }) }
-        ensures { result ≡ record { boxes = boxes; sizes = sizes; inner = inner; pieces = pieces; own_height = height_rule_of (sizes_at sizes 0); face = face.value } }
+        requires { PlaceInputFits
+            (record {
+              boxes = boxes;
+              sizes = sizes;
+              inner = inner;
+              pieces = pieces;
+              own_height = height_rule_of (sizes_at sizes 0);
+              face = face.value;
+            }) }
+        ensures { result
+            ≡ record {
+              boxes = boxes;
+              sizes = sizes;
+              inner = inner;
+              pieces = pieces;
+              own_height = height_rule_of (sizes_at sizes 0);
+              face = face.value;
+            } }
     {
         let own_height = height_rule_of(own_sizes(&boxes, &sizes));
         PlaceInput {

@@ -1,6 +1,6 @@
 //! The lines of a tree in a report.
 
-ghost use Rattle.std.specs.Prelude.{◌≡◌, ◌<◌, ◌++◌, length, IfOk, OnOk, string_bytes, codes};
+ghost use Rattle.std.specs.Prelude.{◌≡◌, ◌<◌, ◌++◌, IfOk, OnOk, string_bytes, codes};
 ghost use Rattle.std.specs.Fmt.{decimal, signed_decimal};
 ghost use Rattle.lay_frag.specs.Lines.{frag_line, kind_word, context_text, tree_text};
 ghost use Rattle.lay_frag.specs.Pieces.{IsContextInRange, IsTreeInRange};

@@ -1,7 +1,7 @@
 //! Trees.
 
-ghost use Rattle.std.specs.Prelude.{◌≡◌, ◌+◌, ◌<◌, ◌≤◌, ◌^◌, Some, Option, length, slice_get};
-ghost use Rattle.lay_frag.specs.Pieces.{Context, frags_of, page_pieces, IsTreeInRange};
+ghost use Rattle.std.specs.Prelude.{◌≡◌, ◌+◌, ◌<◌, ◌^◌, Some, length, slice_get};
+ghost use Rattle.lay_frag.specs.Pieces.{Context, frags_of, IsTreeInRange};
 
 use crate::{Frag, Placed};
 use std::marker::Model;

@@ -23,7 +23,8 @@ pub record IsOfRoot (l : Listing) (root : NewNodeValue) : Type 0 where
 pub record Grows (a b : Listing) (parent : NodeId) (up : ℕ) (new : NewNodeValue) : Type 0 where
   pub before : ℕ
   pub is_last : IsLastOf a.lasts.items up before
-  pub items : b.items.items ≡ a.items.items ++ record { parent = parent; up = up; depth = slice_index (depths_of a.items.items) up + 1; new = new } ∷ []
+  pub items : b.items.items
+      ≡ a.items.items ++ record { parent = parent; up = up; depth = slice_index (depths_of a.items.items) up + 1; new = new } ∷ []
   pub nexts : b.nexts.items ≡ with_behind a.nexts.items before
   pub lasts : b.lasts.items ≡ with_child a.lasts.items up
   pub numbers : (x : ℕ) → number_of b.numbers x ≡ (if x == new.id.0 then Some (length a.items.items) else number_of a.numbers x)

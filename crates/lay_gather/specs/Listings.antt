@@ -1,6 +1,7 @@
 -- Columns of a list of nodes, and the first fault of a node that is to be put below one of them, as its last child, in the terms
 -- of the list: by numbers and not by places.
-use Rattle.std.specs.Prelude.{ℕ, zero, suc, ◌==◌, ◌||◌, not, Bool, false, List, [], ◌∷◌, map, length, slice_index, Option, Some, None, nat_le, is_some, if◌then◌else◌}
+use Rattle.std.specs.Prelude.{ℕ, zero, suc, ◌==◌, ◌||◌, not, Bool, false, List, [], ◌∷◌, map, length}
+use Rattle.std.specs.Prelude.{slice_index, Option, Some, None, nat_le, is_some, if◌then◌else◌}
 use Rattle.lay_units.specs.Limits.{most_depth, most_nodes}
 use Rattle.lay_doc.specs.declared.edit.EditFault.{EditFault}
 use Rattle.lay_doc.specs.declared.edit.EditFault.TheVariants.{NotElement, IdTaken, TooManyNodes, TooDeep, TextTooLong}

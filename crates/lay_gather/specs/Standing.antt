@@ -45,7 +45,8 @@ pub record IsGathered (d : Document) (l : Listing) : Type 0 where
   pub found : (id : ℕ) → place_of id (ids_of d.nodes) ≡ option_map (λ i. slice_index stands.places i) (number_of l.numbers id)
   pub known : (id : ℕ) → IfSome (number_of l.numbers id) (λ i. i < length d.nodes)
   pub child : (i : ℕ) → i < length d.nodes → slice_index l.lasts.items i ≢ i
-      → (0 < slice_index l.lasts.items i) × (slice_index l.lasts.items i < length d.nodes) × (slice_index (ups_of l.items.items) (slice_index l.lasts.items i) ≡ i)
+      → (0 < slice_index l.lasts.items i) × (slice_index l.lasts.items i < length d.nodes)
+      × (slice_index (ups_of l.items.items) (slice_index l.lasts.items i) ≡ i)
   pub last : (i k : ℕ) → 0 < k → k < length d.nodes → slice_index (ups_of l.items.items) k ≡ i
       → (slice_index l.lasts.items i ≢ i) × (slice_index stands.places k ≤ slice_index stands.places (slice_index l.lasts.items i))
   pub text : l.text_bytes ≡ text_size d.nodes

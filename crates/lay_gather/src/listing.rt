@@ -1,6 +1,7 @@
 //! Nodes as they are listed, with links in document order.
 
-ghost use Rattle.std.specs.Prelude.{◌≡◌, ◌+◌, ◌<◌, ◌≤◌, ◌∷◌, ◌++◌, [], ℕ, None, length, slice_index, vec_len, vec_capacity, IfOk, OnOk, OnErr};
+ghost use Rattle.std.specs.Prelude.{◌≡◌, ◌+◌, ◌<◌, ◌≤◌, ◌∷◌, ◌++◌, [], ℕ, None, length};
+ghost use Rattle.std.specs.Prelude.{slice_index, vec_len, vec_capacity, IfOk, OnOk, OnErr};
 ghost use Rattle.lay_units.specs.Limits.{most_depth, most_nodes, most_text};
 ghost use Rattle.lay_gather.specs.Numbers.{number_of};
 ghost use Rattle.lay_gather.specs.Listings.{depths_of, is_element_at, limit_at, fault_at};

@@ -35,7 +35,8 @@ IsListOf run edits = (place : ℕ) × (slice_get (lists_of run.scripts) place �
 -- no list of edits has a fault, whichever of the run's lists came before, in whatever order and however often
 abbrev pub GeneratedEditsFit : Type 0
 GeneratedEditsFit = (size seed : ℕ) (before : List (List Change)) (edits : List Change) → size ≤ 1000
-    → All (IsListOf (generated size seed)) before → IsListOf (generated size seed) edits → first (after_lists (generated size seed) before) edits ≡ None
+    → All (IsListOf (generated size seed)) before → IsListOf (generated size seed) edits
+    → first (after_lists (generated size seed) before) edits ≡ None
 
 -- and after them there are four nodes for each section and the root, as at first
 abbrev pub GeneratedNodesStay : Type 0

@@ -1,6 +1,6 @@
 //! The nodes of a generated document.
 
-ghost use Rattle.std.specs.Prelude.{◌≡◌, ◌+◌, ◌*◌, ◌%◌, ◌<◌, ◌≤◌, ◌^◌, ◌++◌, IfOk, OnOk, IsTrue, codes, if◌then◌else◌, ◌==◌, string_bytes};
+ghost use Rattle.std.specs.Prelude.{◌≡◌, ◌+◌, ◌*◌, ◌%◌, ◌<◌, ◌^◌, ◌++◌, IfOk, OnOk, IsTrue, codes, if◌then◌else◌, ◌==◌, string_bytes};
 ghost use Rattle.lay_style.specs.Values.{is_value_of};
 ghost use Rattle.lay_style.specs.Declarations.{with_declaration};
 ghost use Rattle.lay_generator.specs.Draws.{draw, next, state_after};

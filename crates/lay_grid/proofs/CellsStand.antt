@@ -3,12 +3,10 @@ use Rattle.std.proofs.Common.{◌≡◌, ◌⊎◌, inl, inr, ℕ, zero, suc, �
 use Rattle.std.proofs.lemmas.Bool.{cases_eq, cases_lt}
 use Rattle.lay_grid.specs.declared.cells.Area.{Area}
 use Rattle.lay_grid.specs.declared.cells.Cell.{Cell}
-use Rattle.lay_grid.specs.declared.cells.Grid.{Grid}
-use Rattle.lay_grid.specs.declared.cells.RowSpec.{RowSpec}
 use Rattle.lay_grid.specs.Areas.{areas_from}
 use Rattle.lay_grid.specs.Laws.{RowsHaveAGrid}
 use Rattle.lay_grid.specs.Places.{Covers, HasRoom, StandAfter, StandsLeft, areas_of, right_edge}
-use Rattle.lay_grid.specs.Slots.{IsGrid, columns_of, slots_from}
+use Rattle.lay_grid.specs.Slots.{columns_of, slots_from}
 use Rattle.lay_grid.proofs.ColumnsWithin.{room_behind_all}
 use Rattle.lay_grid.proofs.Places.{some_same}
 

@@ -8,13 +8,12 @@ use Rattle.std.proofs.lemmas.List.{get_or_append_left, get_or_push, length-appen
 use Rattle.std.proofs.lemmas.List.Elements.{Contains-get_or}
 use Rattle.std.proofs.lemmas.Option.{get_or_from_slice_get, slice_get-get_or, slice_get_within}
 use Rattle.lay_units.specs.declared.length.Unit.{Unit}
-use Rattle.lay_units.specs.Units.{IsPosition}
+use Rattle.lay_units.specs.Units.{IsPosition, IsWithinPower}
 use Rattle.lay_grid.specs.declared.heights.RowCell.{RowCell}
 use Rattle.lay_grid.specs.declared.heights.RowsIn.{RowsIn}
 use Rattle.lay_grid.specs.declared.needs.Need.{Need}
 use Rattle.lay_grid.specs.Shares.{sum_of, width_at}
 use Rattle.lay_grid.specs.Heights.{IsEnough, RowFits, IsLowest, AreLowest, AreHeights, room_above}
-use Rattle.lay_grid.specs.Lengths.{IsWithin}
 use Rattle.lay_grid.specs.RowsFit.{RowsFit}
 use Rattle.lay_grid.specs.Pass.Needs.{IsNeed, NeedsTo, AllNeedsTo}
 use Rattle.lay_grid.specs.Pass.Totals.{Totals}
@@ -177,7 +176,7 @@ lowest_exists r above = from (cells_exist r above (length r.cells) (omega arith)
 
 -- what is known of a need
 pub need_fits : (r : RowsIn) (above : List Unit) (needs : List Need) (n : ℕ) (d : Need) → RowsFit r
-    → NeedsTo r.cells (length r.cells) (length above) needs → n < length needs → (1 ≤ (get_or needs n d).span) × IsWithin 64 (get_or needs n d).room
+    → NeedsTo r.cells (length r.cells) (length above) needs → n < length needs → (1 ≤ (get_or needs n d).span) × IsWithinPower 64 (get_or needs n d).room
 need_fits r above needs n d fits to lt =
     let h = (to.only (get_or needs n d) (Contains-get_or needs n d lt)).1 in
     let cell = fits.cells h.0 h.1 (slice_get_within r.cells h.0 h.1 h.2) in

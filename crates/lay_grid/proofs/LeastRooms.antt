@@ -7,9 +7,9 @@ use Rattle.std.proofs.lemmas.List.Elements.{Contains-push, Contains-push_cases, 
 use Rattle.std.proofs.lemmas.List.{get_or-replicate, length-replicate}
 use Rattle.std.proofs.lemmas.Option.{get_or_from_slice_get, slice_get-get_or}
 use Rattle.lay_units.specs.declared.length.Unit.{Unit}
+use Rattle.lay_units.specs.Units.{IsWithinPower}
 use Rattle.lay_grid.specs.declared.heights.RowCell.{RowCell}
 use Rattle.lay_grid.specs.declared.needs.Need.{Need}
-use Rattle.lay_grid.specs.Lengths.{IsWithin}
 use Rattle.lay_grid.specs.Heights.{IsRowBaseline, IsEnough}
 use Rattle.lay_grid.specs.Pass.Baselines.{BaselineTo}
 use Rattle.lay_grid.specs.Pass.Needs.{IsNeed, IsOfSome, NeedsTo, AllNeedsTo, Adds, last_row, room_of, room_of_baselines}
@@ -55,7 +55,7 @@ room_exists cells k cell at = let b = baseline_exists cells cell.row (length cel
 -- the need of a cell where the row has this baseline
 pub is_need : (cells : List RowCell) (n : ℕ) (d : RowCell) (p : Option Unit) (need : Need) → n < length cells
     → BaselineTo cells (get_or cells n d).row (length cells) p → need.row ≡ (get_or cells n d).row → need.span ≡ (get_or cells n d).span
-    → need.room ≡ room_of (get_or cells n d) p → IsWithin 64 need.room → IsNeed cells (get_or cells n d) need
+    → need.room ≡ room_of (get_or cells n d) p → IsWithinPower 64 need.room → IsNeed cells (get_or cells n d) need
 is_need cells n d p need lt to row span is fits =
     let l = least_room cells n (get_or cells n d) p (slice_get-get_or cells n d lt) to in
     record {

@@ -5,15 +5,14 @@ use Rattle.std.proofs.lemmas.Bool.{cases_lt, cond_below, cond_above}
 use Rattle.std.proofs.lemmas.Int.{ints, clamps}
 use Rattle.std.specs.Int.{int_max}
 use Rattle.std.proofs.Math.Nat.{mul-le-mul_left, div-le_of_le-mul, div-add-mod}
-use Rattle.lay_units.specs.Units.{IsPosition}
+use Rattle.lay_units.specs.Units.{IsPosition, IsWithinPower}
 use Rattle.lay_grid.specs.Columns.{from_zero, part_of}
-use Rattle.lay_grid.specs.Lengths.{IsWithin}
 
-within : (z : ℤ) (n : ℕ) → IsPosition z → n ≤ 2 ^ 33 → IsWithin 95 (z *ℤ pos n)
+within : (z : ℤ) (n : ℕ) → IsPosition z → n ≤ 2 ^ 33 → IsWithinPower 95 (z *ℤ pos n)
 within (pos m) n fits few = let h = mul-le-mul_left m few in let a = fits.1 in (omega (arith, ints), omega (arith, ints, h, a))
 within (negsuc m) n fits few = let h = mul-le-mul_left (m + 1) few in let a = fits.0 in (omega (arith, ints, h, a), omega (arith, ints))
 
-pub product_within : (z p : ℤ) (n : ℕ) → IsPosition z → n ≤ 2 ^ 33 → p ≡ (z *ℤ pos n) → IsWithin 95 p
+pub product_within : (z p : ℤ) (n : ℕ) → IsPosition z → n ≤ 2 ^ 33 → p ≡ (z *ℤ pos n) → IsWithinPower 95 p
 product_within z p n fits few e = let h = within z n fits few in let a = h.0 in let b = h.1 in (omega (arith, ints, e, a), omega (arith, ints, e, b))
 
 -- a product with a length that is at least -(2^62 - 1)

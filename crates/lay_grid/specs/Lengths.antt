@@ -1,5 +1,5 @@
 -- Which lengths the calls are given and answer, and bounds of sums of them.
-use Rattle.std.specs.Prelude.{ℕ, ◌^◌, ℤ, pos, neg_ℤ, ◌≤ℤ◌, List, All, Option, Some, None, ⊤}
+use Rattle.std.specs.Prelude.{List, All, Option, Some, None, ⊤}
 use Rattle.lay_units.specs.declared.length.Unit.{Unit}
 use Rattle.lay_units.specs.Units.{IsPosition}
 
@@ -10,7 +10,3 @@ ArePositions lengths = All (λ (length : Unit). IsPosition length.0) lengths
 abbrev pub MayBePosition : Option Unit → Type 0
 MayBePosition None = ⊤
 MayBePosition (Some length) = IsPosition length.0
-
--- at most 2^n in absolute value
-abbrev pub IsWithin : ℕ → ℤ → Type 0
-IsWithin n v = (neg_ℤ (pos (2 ^ n)) ≤ℤ v) × (v ≤ℤ pos (2 ^ n))

@@ -2,8 +2,7 @@
 
 ghost use Rattle.std.specs.Prelude.{◌≡◌, ◌+◌, ◌^◌, ◌<◌, pos, ◌-ℤ◌, ◌*ℤ◌, IfOk};
 ghost use Rattle.std.specs.Int.{int_max};
-ghost use Rattle.lay_units.specs.Units.{IsPosition};
-ghost use Rattle.lay_grid.specs.Lengths.{IsWithin};
+ghost use Rattle.lay_units.specs.Units.{IsPosition, IsWithinPower};
 ghost use Rattle.lay_grid.specs.Columns.{AreColumns};
 ghost use Rattle.lay_grid.specs.ColumnsFit.{ColumnsFit};
 
@@ -50,7 +49,7 @@ fn width_left(width: Unit, columns: usize, spacing: Unit) -> i128
     requires columns { columns < 2 ^ 32 }
     requires spacing { IsPosition spacing.0 }
     ensures value { result ≡ int_max (pos 0) (width.0 -ℤ (spacing.0 *ℤ pos (columns + 1))) }
-    ensures within { IsWithin 96 result }
+    ensures within { IsWithinPower 96 result }
 {
     (i128::from(width.0) - spacings(spacing, columns + 1)).max(0)
 }

@@ -1,11 +1,11 @@
 //! The heights of the rows of a table (CSS 2.2, 17.5.3).
 
-ghost use Rattle.std.specs.Prelude.{◌≡◌, [], ℕ, ◌+◌, ◌-◌, ◌^◌, ◌<◌, ◌≤◌, ℤ, ◌+ℤ◌, ◌≤ℤ◌};
-ghost use Rattle.std.specs.Prelude.{length, drop, IfOk, All};
-ghost use Rattle.lay_units.specs.Units.{IsPosition};
+ghost use Rattle.std.specs.Prelude.{◌≡◌, [], ◌+◌, ◌-◌, ◌^◌, ◌<◌, ◌≤◌};
+ghost use Rattle.std.specs.Prelude.{length, drop, IfOk};
+ghost use Rattle.lay_units.specs.Units.{IsPosition, IsWithinPower};
 ghost use Rattle.lay_grid.specs.Shares.{sum_of};
 ghost use Rattle.lay_grid.specs.Heights.{AreHeights, AreLowest, IsLowest, room_above};
-ghost use Rattle.lay_grid.specs.Lengths.{ArePositions, IsWithin};
+ghost use Rattle.lay_grid.specs.Lengths.{ArePositions};
 ghost use Rattle.lay_grid.specs.RowsFit.{RowsFit};
 ghost use Rattle.lay_grid.specs.Pass.Needs.{NeedsTo};
 ghost use Rattle.lay_grid.specs.Pass.Totals.{Totals};
@@ -75,7 +75,7 @@ fn room_from_above(r: &RowsIn, above: &[Unit], need: &Need) -> i128
     requires few { length above.now < 2 ^ 32 }
     requires some { 1 ≤ need.now.span }
     ensures value { result ≡ room_above r.now above.now need.now.row need.now.span }
-    ensures within { IsWithin 102 result }
+    ensures within { IsWithinPower 102 result }
 {
     sum_from(above, need.row as usize) + spacings(r.spacing, need.span as usize - 1)
 }
@@ -86,7 +86,7 @@ fn with_total(r: &RowsIn, above: &[Unit], height: i128) -> i128
     requires total { IsPosition r.now.total.0 }
     requires fits { ArePositions above.now }
     requires few { length above.now < 2 ^ 32 }
-    requires height { IsWithin 104 height }
+    requires height { IsWithinPower 104 height }
     ensures { Totals r.now above.now height result }
 {
     if above.len() + 1 != r.own.as_slice().len() {
@@ -100,7 +100,7 @@ fn sum_from(above: &[Unit], row: usize) -> i128
     requires fits { ArePositions above.now }
     requires few { length above.now < 2 ^ 32 }
     ensures value { result ≡ sum_of (drop row above.now) }
-    ensures within { IsWithin 96 result }
+    ensures within { IsWithinPower 96 result }
 {
     let mut sum = 0;
     for k in row..above.len() {

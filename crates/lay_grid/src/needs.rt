@@ -2,8 +2,8 @@
 
 ghost use Rattle.std.specs.Prelude.{◌≡◌, ◌+◌, ◌≤◌, ◌++◌, ◌∷◌, [], length, slice_index_or};
 ghost use Rattle.std.specs.Prelude.{None, IfOk, OnOk, All, replicate};
-ghost use Rattle.lay_units.specs.Units.{IsPosition};
-ghost use Rattle.lay_grid.specs.Lengths.{IsWithin, MayBePosition};
+ghost use Rattle.lay_units.specs.Units.{IsPosition, IsWithinPower};
+ghost use Rattle.lay_grid.specs.Lengths.{MayBePosition};
 ghost use Rattle.lay_grid.specs.RowsFit.{RowCellFits};
 ghost use Rattle.lay_grid.specs.Pass.Needs.{Adds, AllNeedsTo, room_of};
 
@@ -101,7 +101,7 @@ fn need_of(cell: &RowCell, baselines: &[Option<Unit>]) -> Need
     ensures row { result.row ≡ cell.now.row }
     ensures span { result.span ≡ cell.now.span }
     ensures room { result.room ≡ room_of cell.now (slice_index_or baselines.now cell.now.row None) }
-    ensures within { IsWithin 64 result.room }
+    ensures within { IsWithinPower 64 result.room }
 {
     Need {
         row: cell.row,
@@ -115,7 +115,7 @@ fn room_needed(cell: &RowCell, row_baseline: Option<Unit>) -> i128
     requires baseline { MayBePosition cell.now.baseline }
     requires row_baseline { MayBePosition row_baseline }
     ensures value { result ≡ room_of cell.now row_baseline }
-    ensures within { IsWithin 64 result }
+    ensures within { IsWithinPower 64 result }
 {
     let height = i128::from(cell.height.0);
     match (cell.baseline, row_baseline) {

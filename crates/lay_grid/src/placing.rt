@@ -1,10 +1,10 @@
 //! The cells of a table, placed row by row.
 
-ghost use Rattle.std.specs.Prelude.{◌≡◌, ℕ, ◌+◌, ◌-◌, ◌<◌, ◌≤◌, ◌++◌, ◌∷◌, []};
+ghost use Rattle.std.specs.Prelude.{◌≡◌, ◌+◌, ◌-◌, ◌<◌, ◌≤◌, ◌∷◌, []};
 ghost use Rattle.std.specs.Prelude.{length, drop, IfOk, OnOk, All};
 ghost use Rattle.lay_grid.specs.declared.cells.Cell.{Cell};
 ghost use Rattle.lay_grid.specs.declared.cells.Span.{Span};
-ghost use Rattle.lay_grid.specs.Areas.{area_of, areas_in_row, areas_from, rows_left};
+ghost use Rattle.lay_grid.specs.Areas.{area_of, areas_from, rows_left};
 ghost use Rattle.lay_grid.specs.Places.{StandAfter, areas_of};
 ghost use Rattle.lay_grid.specs.Slots.{SpanRows};
 ghost use Rattle.lay_grid.specs.Pass.Known.{AddsAreas, AddsRow, Known};

@@ -1,11 +1,11 @@
 //! Columns that share a width (CSS 2.2, 17.5.2.1).
 
-ghost use Rattle.std.specs.Prelude.{◌≡◌, ◌+◌, ◌^◌, ◌<◌, ◌≤◌, ℤ, pos, ◌+ℤ◌, ◌-ℤ◌, true, false};
+ghost use Rattle.std.specs.Prelude.{◌≡◌, ◌+◌, ◌^◌, ◌<◌, pos, ◌+ℤ◌, ◌-ℤ◌, true, false};
 ghost use Rattle.std.specs.Prelude.{length, IfOk, All, List};
 ghost use Rattle.std.specs.Int.{int_max};
 ghost use Rattle.lay_units.specs.declared.length.Unit.{Unit};
-ghost use Rattle.lay_units.specs.Units.{IsPosition};
-ghost use Rattle.lay_grid.specs.Lengths.{ArePositions, IsWithin, MayBePosition};
+ghost use Rattle.lay_units.specs.Units.{IsPosition, IsWithinPower};
+ghost use Rattle.lay_grid.specs.Lengths.{ArePositions, MayBePosition};
 ghost use Rattle.lay_grid.specs.Shares.{AreShared, all_own, own_width, sum_own, takes};
 ghost use Rattle.lay_grid.specs.Pass.Sharing.{count_takers};
 
@@ -16,7 +16,7 @@ use std::alloc::Global;
 pub fn share_out(alloc: Global, owns: &[Option<Unit>], asked: i128) -> Result<UnitList, NoMemory>
     requires few { length owns.now < 2 ^ 32 }
     requires owns { All MayBePosition owns.now }
-    requires asked { IsWithin 96 asked }
+    requires asked { IsWithinPower 96 asked }
     requires widths { (widths : List Unit) → AreShared owns.now asked widths → ArePositions widths }
     ensures { IfOk result (λ widths. AreShared owns.now asked widths) }
 {
@@ -52,7 +52,7 @@ fn all_have_own(owns: &[Option<Unit>]) -> bool
 fn rest_of(owns: &[Option<Unit>], asked: i128) -> u128
     requires few { length owns.now < 2 ^ 32 }
     requires owns { All MayBePosition owns.now }
-    requires asked { IsWithin 96 asked }
+    requires asked { IsWithinPower 96 asked }
     ensures value { pos result ≡ int_max (pos 0) (asked -ℤ sum_own owns.now) }
     ensures below { result < 2 ^ 100 }
 {

@@ -1,8 +1,7 @@
 //! Spacings between columns and between rows (CSS 2.2, 17.6.1).
 
 ghost use Rattle.std.specs.Prelude.{◌≡◌, ◌^◌, ◌≤◌, pos, ◌*ℤ◌};
-ghost use Rattle.lay_units.specs.Units.{IsPosition};
-ghost use Rattle.lay_grid.specs.Lengths.{IsWithin};
+ghost use Rattle.lay_units.specs.Units.{IsPosition, IsWithinPower};
 
 use lay_units::Unit;
 
@@ -11,7 +10,7 @@ pub fn spacings(spacing: Unit, count: usize) -> i128
     requires spacing { IsPosition spacing.0 }
     requires count { count ≤ 2 ^ 33 }
     ensures value { result ≡ spacing.0 *ℤ pos count }
-    ensures within { IsWithin 95 result }
+    ensures within { IsWithinPower 95 result }
 {
     product(spacing, count)
 }

@@ -1,5 +1,4 @@
 -- A legal history refuses a list at a place that it has.
-use Rattle.std.proofs.Common.{◌<◌, length}
 use Rattle.lay_edits.proofs.Firsts.{first_within}
 use Rattle.lay_history.specs.Laws.{RefusalsAreWithin}
 use Rattle.lay_edits.specs.declared.history.Entry.TheVariants.{Edit}

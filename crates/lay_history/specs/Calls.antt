@@ -1,6 +1,7 @@
 -- Whose commands a history answers, and in which order. The editors of a run are numbered from 1 and the commands of each
 -- one from 0. A call is one command of an editor, with its index.
-use Rattle.std.specs.Prelude.{ℕ, zero, suc, ◌≡◌, ◌+◌, ◌<◌, ◌⊎◌, ◌==◌, List, [], ◌∷◌, flat_map, slice_get, slice_index_or, Some, if◌then◌else◌}
+use Rattle.std.specs.Prelude.{ℕ, zero, suc, ◌≡◌, ◌+◌, ◌<◌, ◌⊎◌, ◌==◌, List, [], ◌∷◌}
+use Rattle.std.specs.Prelude.{flat_map, slice_get, slice_index_or, Some, if◌then◌else◌}
 use Rattle.lay_edits.specs.declared.command.Cmd.{Cmd}
 use Rattle.lay_edits.specs.declared.command.Cmd.TheVariants as command
 use Rattle.lay_edits.specs.declared.history.Entry.{Entry}
@@ -51,4 +52,5 @@ IsEarlier a b = (a.index < b.index) ⊎ ((a.index ≡ b.index) × (a.editor < b.
 
 -- the editors take turns
 abbrev pub TakesTurns : List Entry → Type 0
-TakesTurns history = (j k : ℕ) (a b : Call) → j < k → slice_get (calls history) j ≡ Some a → slice_get (calls history) k ≡ Some b → IsEarlier a b
+TakesTurns history = (j k : ℕ) (a b : Call) → j < k → slice_get (calls history) j ≡ Some a
+    → slice_get (calls history) k ≡ Some b → IsEarlier a b

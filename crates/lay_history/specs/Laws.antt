@@ -39,7 +39,8 @@ ShownVersionsRise = (init : Document) (history : List Entry) → IsLegal init hi
 
 -- a list is refused at a place that it has
 abbrev pub RefusalsAreWithin : Type 0
-RefusalsAreWithin = (init : Document) (history : List Entry) (k editor index place : ℕ) (edits : List Change) (f : EditFault) → IsLegal init history
+RefusalsAreWithin = (init : Document) (history : List Entry) (k editor index place : ℕ) (edits : List Change) (f : EditFault)
+    → IsLegal init history
     → slice_get history k ≡ Some (Edit editor index edits (Refused place f)) → place < length edits
 
 -- the lines of a report show the same of these entries: all but what the edits were

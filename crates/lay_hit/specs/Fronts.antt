@@ -1,6 +1,7 @@
 -- The frontmost of some nodes or pieces, and of each node the frontmost of those that it paints in which a piece holds the
 -- point.
-use Rattle.std.specs.Prelude.{ℕ, ◌≡◌, ◌-◌, ◌<◌, ◌==◌, Bool, true, ◌&&◌, ◌||◌, not, List, [], ◌∷◌, length, filter, nat_le, Option, Some, None, unwrap_or, is_some, if◌then◌else◌}
+use Rattle.std.specs.Prelude.{ℕ, ◌≡◌, ◌-◌, ◌<◌, ◌==◌, Bool, true, ◌&&◌, ◌||◌, not, List, [], ◌∷◌, length}
+use Rattle.std.specs.Prelude.{filter, nat_le, Option, Some, None, unwrap_or, is_some, if◌then◌else◌}
 use Rattle.std.specs.List.{range_with_len}
 use Rattle.lay_frag.specs.declared.frag.Frag.{Frag}
 use Rattle.lay_hit.specs.declared.kinds.PaintKind.{PaintKind}
@@ -33,7 +34,10 @@ later_piece (Some g) f = if nat_le g.part f.part then f else g
 
 -- among the nodes from n on, the frontmost of those that g paints in which a piece is seen, and 0 where there is none
 abbrev pub front_from : Question → ℕ → ℕ → ℕ
-front_from q n g = unwrap_or (greatest (is_painted_under (page q)) (λ k. is_some (seen_in q k)) (filter (λ k. painter_at (page q) k == g) (range_with_len n (length q.doc.now.nodes - n)))) 0
+front_from q n g =
+    unwrap_or
+    (greatest (is_painted_under (page q)) (λ k. is_some (seen_in q k))
+    (filter (λ k. painter_at (page q) k == g) (range_with_len n (length q.doc.now.nodes - n)))) 0
 
 -- the node at j is painted no later than that at k, and stands first if they are of equal rank
 abbrev pub is_behind : Page → ℕ → ℕ → Bool

@@ -3,7 +3,8 @@
 -- positioned descendants and descendants which actually create a new stacking context" are of the context around it. Floats
 -- and inline blocks and inline tables are painted "as if [they] generated a new stacking context" with the same exception;
 -- so is a replaced element that is inline. The others are blocks, with the parts of tables, and inline boxes and texts.
-use Rattle.std.specs.Prelude.{ℕ, ℤ, pos, Bool, true, false, ◌==◌, not, List, map, slice_index_or, Option, Some, None, unwrap_or, is_some, if◌then◌else◌}
+use Rattle.std.specs.Prelude.{ℕ, ℤ, pos, Bool, true, false, ◌==◌, not, List, map, slice_index_or}
+use Rattle.std.specs.Prelude.{Option, Some, None, unwrap_or, is_some, if◌then◌else◌}
 use Rattle.lay_style.specs.declared.style.Style.{Style}
 use Rattle.lay_style.specs.declared.style_words.Position.{Position}
 use Rattle.lay_style.specs.declared.style_words.Position.TheVariants as position
@@ -12,6 +13,7 @@ use Rattle.lay_style.specs.declared.style_words.Display.TheVariants as display
 use Rattle.lay_style.specs.declared.style_lengths.ZIndex.{ZIndex}
 use Rattle.lay_style.specs.declared.style_lengths.ZIndex.TheVariants as index
 use Rattle.lay_style.specs.ComputedStyle.{style_at}
+use Rattle.lay_style.specs.Positions.{is_positioned}
 use Rattle.lay_doc.specs.declared.node.Node.{Node}
 use Rattle.lay_doc.specs.declared.node.Kind.{Kind}
 use Rattle.lay_doc.specs.declared.node.Kind.TheVariants as kind
@@ -20,10 +22,6 @@ use Rattle.lay_anonymous_boxes.specs.Forms.{is_in_flow}
 use Rattle.lay_boxgen.specs.Display.{is_floated, flow_of, used_display_of}
 use Rattle.lay_hit.specs.declared.kinds.PaintKind.{PaintKind}
 use Rattle.lay_hit.specs.declared.kinds.PaintKind.TheVariants.{Stacking, Layered, Float, Atomic, Block, Inline}
-
-abbrev pub is_positioned : Position → Bool
-is_positioned position.Static = false
-is_positioned _ = true
 
 abbrev pub is_out_of_flow : Style → Bool
 is_out_of_flow s = not (is_in_flow (flow_of s))

@@ -2,7 +2,8 @@
 -- whole, in seven steps. The steps are numbered 1 to 7; the standard's own numbers stand beside them. Inline content is
 -- painted in document order rather than line by line, a replaced element that is a block with the blocks, and no box clips
 -- another.
-use Rattle.std.specs.Prelude.{ℕ, zero, suc, ◌-◌, pos, int_lt, int_le, Bool, ◌&&◌, ◌||◌, ◌==◌, List, [], ◌++◌, filter, flat_map, if◌then◌else◌}
+use Rattle.std.specs.Prelude.{ℕ, zero, suc, ◌-◌, pos, int_lt, int_le, Bool, ◌&&◌, ◌||◌}
+use Rattle.std.specs.Prelude.{◌==◌, List, [], ◌++◌, filter, flat_map, if◌then◌else◌}
 use Rattle.std.specs.List.{range_with_len}
 use Rattle.lay_frag.specs.declared.frag.Frag.{Frag}
 use Rattle.lay_hit.specs.PaintKinds.{is_stacking, is_layered, is_float, is_atomic, is_block, is_inline, forms_group}
@@ -64,7 +65,8 @@ floats p whole g = flat_map whole (filter (is_float_of p g) (others p))
 
 -- Step 5 (6 and 7): inline boxes, texts, and what is atomic among them.
 abbrev pub inline_content : Page → (whole : ℕ → List Frag) → ℕ → List Frag
-inline_content p whole g = flat_map (λ k. if is_atomic (p.kind k) then whole k else p.boxes_and_texts k) (filter (is_inline_of p g) (others p))
+inline_content p whole g =
+    flat_map (λ k. if is_atomic (p.kind k) then whole k else p.boxes_and_texts k) (filter (is_inline_of p g) (others p))
 
 -- Step 6 (8): positioned nodes that make no stacking context, and stacking contexts of level 0.
 abbrev pub zero_layers : Page → (whole : ℕ → List Frag) → ℕ → List Frag

@@ -1,5 +1,6 @@
 -- What is asked: which piece of a document's tree is seen at a point; and what a walk over the pieces and the nodes has found.
-use Rattle.std.specs.Prelude.{ℕ, ◌≡◌, ◌<◌, Bool, true, false, List, length, slice_index_or, Option, Some, None, option_and_then, if◌then◌else◌}
+use Rattle.std.specs.Prelude.{ℕ, ◌≡◌, ◌<◌, Bool, true, false, List, length, slice_index_or}
+use Rattle.std.specs.Prelude.{Option, Some, None, option_and_then, if◌then◌else◌}
 use Rattle.lay_style.specs.Places.{place_of}
 use Rattle.lay_doc.specs.Document.{ids_of}
 use Rattle.lay_frag.specs.declared.frag.Frag.{Frag}
@@ -28,12 +29,15 @@ is_painted frag_kind.Line k = false
 is_painted frag_kind.Text k = is_inline k
 
 abbrev pub node_of_piece : Question → Frag → Option ℕ
-node_of_piece q f = option_and_then (λ k. if is_painted f.kind (kind_at q.doc.now.nodes q.styles.now k) then Some k else None) (place_of f.node.0 (ids_of q.doc.now.nodes))
+node_of_piece q f =
+    option_and_then (λ k. if is_painted f.kind (kind_at q.doc.now.nodes q.styles.now k) then Some k else None)
+    (place_of f.node.0 (ids_of q.doc.now.nodes))
 
 -- of each node the last of these pieces that is its own and holds the point
 pub record AreNoted (q : Question) (fs : List Frag) (noted : List (Option Frag)) : Type 0 where
   pub count : length noted ≡ length q.doc.now.nodes
-  pub each : (k : ℕ) → k < length q.doc.now.nodes → slice_index_or noted k None ≡ last_holding q.at.x.0 q.at.y.0 (own_pieces (page_with q fs) k)
+  pub each : (k : ℕ) → k < length q.doc.now.nodes
+      → slice_index_or noted k None ≡ last_holding q.at.x.0 q.at.y.0 (own_pieces (page_with q fs) k)
 
 -- the piece that is seen of what a node paints as a whole
 abbrev pub seen_in : Question → ℕ → Option Frag

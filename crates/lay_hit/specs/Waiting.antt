@@ -40,8 +40,10 @@ nobody = record { group = 0; owner = 0 }
 -- of the nodes that wait at each node, the frontmost of those that wait for a group and of those that wait for an owner
 pub record AreWaiting (q : Question) (fronts : List Waiting) (n : ℕ) : Type 0 where
   pub count : length fronts ≡ length q.doc.now.nodes
-  pub group : (g : ℕ) → g < length q.doc.now.nodes → (nat_lt g n || ends_group q g) ≡ true → IsFrontmost (page q) (Waits (page q) (of_group q) (ends_group q) n g) (slice_index_or fronts g nobody).group
-  pub owner : (g : ℕ) → g < length q.doc.now.nodes → (nat_lt g n || ends_owner q g) ≡ true → IsFrontmost (page q) (Waits (page q) (of_owner q) (ends_owner q) n g) (slice_index_or fronts g nobody).owner
+  pub group : (g : ℕ) → g < length q.doc.now.nodes → (nat_lt g n || ends_group q g) ≡ true
+      → IsFrontmost (page q) (Waits (page q) (of_group q) (ends_group q) n g) (slice_index_or fronts g nobody).group
+  pub owner : (g : ℕ) → g < length q.doc.now.nodes → (nat_lt g n || ends_owner q g) ≡ true
+      → IsFrontmost (page q) (Waits (page q) (of_owner q) (ends_owner q) n g) (slice_index_or fronts g nobody).owner
 
 -- what waits at the parent of the node at k, when the walk has come to that node
 abbrev pub passed_on : Question → List Waiting → ℕ → Waiting

@@ -1,6 +1,6 @@
 //! Of each node the frontmost of the nodes that it paints in which a piece holds the point.
 
-ghost use Rattle.std.specs.Prelude.{◌≡◌, ◌<◌, ◌+◌, ◌==◌, ◌||◌, not, true, None, is_some, length, slice_index_or, IfOk};
+ghost use Rattle.std.specs.Prelude.{◌≡◌, ◌<◌, ◌+◌, ◌==◌, ◌||◌, not, None, is_some, length, slice_index_or, IfOk};
 ghost use Rattle.lay_doc.specs.Document.{IsDocument};
 ghost use Rattle.lay_frag.specs.Pieces.{frags_of};
 ghost use Rattle.lay_hit.specs.Questions.{AreNoted, page};
@@ -101,7 +101,9 @@ pub(crate) fn front_at(q: &Question<'_>, fronts: &[Waiting], k: usize) -> usize
 fn is_reached(fronts: &[Waiting], noted: &NodePieces, k: usize) -> bool
     requires fronts { k < length fronts.now }
     requires noted { k < length noted.now }
-    ensures { result ≡ (is_some (slice_index_or noted.now k None) || (not ((slice_index_or fronts.now k nobody).group == 0) || not ((slice_index_or fronts.now k nobody).owner == 0))) }
+    ensures { result
+        ≡ (is_some (slice_index_or noted.now k None)
+        || (not ((slice_index_or fronts.now k nobody).group == 0) || not ((slice_index_or fronts.now k nobody).owner == 0))) }
 {
     let here = waiting_at(fronts, k);
     noted.has(k) | ((here.group != 0) | (here.owner != 0))

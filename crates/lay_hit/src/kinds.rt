@@ -1,9 +1,11 @@
 //! Kinds of nodes in painting (CSS 2.2, 9.9 and Appendix E).
 
 ghost use Rattle.std.specs.Prelude.{◌≡◌, ◌<◌, length, true, false};
+ghost use Rattle.lay_style.specs.Positions.{is_positioned};
 ghost use Rattle.lay_doc.specs.NewNodes.{is_text};
-ghost use Rattle.lay_boxgen.specs.Display.{used_display_of, is_floated, flow_of};
-ghost use Rattle.lay_hit.specs.PaintKinds.{is_positioned, stack_level, kind_in_flow, is_stacking, forms_group, is_inline, is_replaced, is_out_of_flow, paint_kind, kind_at, level_of};
+ghost use Rattle.lay_boxgen.specs.Display.{used_display_of};
+ghost use Rattle.lay_hit.specs.PaintKinds.{stack_level, kind_in_flow, is_stacking, forms_group, is_inline};
+ghost use Rattle.lay_hit.specs.PaintKinds.{is_replaced, is_out_of_flow, paint_kind, kind_at, level_of};
 
 use lay_boxgen::used_display_of;
 use lay_doc::{Kind, Node};

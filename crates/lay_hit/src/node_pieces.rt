@@ -1,6 +1,7 @@
 //! Of each node a piece or none.
 
-ghost use Rattle.std.specs.Prelude.{◌≡◌, ◌<◌, Some, None, is_some, length, replicate, slice_get, slice_index, slice_index_or, slice_set, IfOk, OnOk};
+ghost use Rattle.std.specs.Prelude.{◌≡◌, ◌<◌, Some, None, is_some, length, replicate, slice_get};
+ghost use Rattle.std.specs.Prelude.{slice_index, slice_index_or, slice_set, IfOk, OnOk};
 
 use lay_frag::Frag;
 use lay_units::NoMemory;

@@ -1,6 +1,6 @@
 //! Nodes that wait for the one that paints them, in a walk from the last node to the first.
 
-ghost use Rattle.std.specs.Prelude.{◌≡◌, ◌<◌, ◌&&◌, not, true, length};
+ghost use Rattle.std.specs.Prelude.{◌≡◌, ◌<◌, ◌&&◌, true, length};
 ghost use Rattle.lay_hit.specs.Fronts.{all_passed, both_waiting, front_in, in_front, passed};
 ghost use Rattle.lay_hit.specs.PaintKinds.{forms_group, is_stacking};
 ghost use Rattle.lay_hit.specs.Ranks.{is_of_owner};

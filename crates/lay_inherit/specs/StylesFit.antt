@@ -99,4 +99,5 @@ pub record StyleFits (s : Style) : Type 0 where
 
 -- in a tree the computed lengths of all nodes are within their bounds
 abbrev pub StylesFit : Type 0
-StylesFit = (parents : List ℕ) (decls : List (List Declaration)) (styles : List Style) → IsTree parents → HasStyles parents decls styles → (k : ℕ) → StyleFits (style_at styles k)
+StylesFit = (parents : List ℕ) (decls : List (List Declaration)) (styles : List Style) → IsTree parents
+    → HasStyles parents decls styles → (k : ℕ) → StyleFits (style_at styles k)

@@ -1,7 +1,9 @@
 //! The computed values of the properties that have keywords alone (CSS 2.2, 6.1.2): their keywords.
 
 ghost use Rattle.std.specs.Prelude.{◌≡◌};
-ghost use Rattle.lay_style.specs.KeywordValues.{display_of, position_of, float_of, clear_of, border_style_of, overflow_of, visibility_of, text_align_of, white_space_of, table_layout_of, border_collapse_of, caption_side_of, empty_cells_of};
+ghost use Rattle.lay_style.specs.KeywordValues.{display_of, position_of, float_of, clear_of, border_style_of};
+ghost use Rattle.lay_style.specs.KeywordValues.{overflow_of, visibility_of, text_align_of, white_space_of};
+ghost use Rattle.lay_style.specs.KeywordValues.{table_layout_of, border_collapse_of, caption_side_of, empty_cells_of};
 
 use lay_style::{
     BorderCollapse, BorderStyle, CaptionSide, Clear, Display, EmptyCells, Float, Given, Overflow,

@@ -4,7 +4,9 @@
 
 ghost use Rattle.std.specs.Prelude.{◌≡◌, ◌*ℤ◌, pos};
 ghost use Rattle.lay_units.specs.Units.{floor_div};
-ghost use Rattle.lay_style.specs.LengthValues.{ems_of, percents_of, length_of, size_of, px, offset_of, size_or_auto_of, size_measure_of, size_or_none_of, indent_of, spacing_of, border_width_of, font_size_of, line_height_of, vertical_align_of, z_index_of, one_spacing_of, border_spacing_of};
+ghost use Rattle.lay_style.specs.LengthValues.{ems_of, percents_of, length_of, size_of, px, offset_of, size_or_auto_of};
+ghost use Rattle.lay_style.specs.LengthValues.{size_measure_of, size_or_none_of, indent_of, spacing_of, border_width_of, font_size_of};
+ghost use Rattle.lay_style.specs.LengthValues.{line_height_of, vertical_align_of, z_index_of, one_spacing_of, border_spacing_of};
 
 use lay_style::{
     BorderSpacing, Given, LengthPercentage, LengthPercentageOrAuto, LengthPercentageOrNone,

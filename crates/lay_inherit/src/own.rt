@@ -2,8 +2,11 @@
 
 ghost use Rattle.std.specs.Prelude.{◌≡◌};
 ghost use Rattle.lay_style.specs.Inheritance.{cascaded};
-ghost use Rattle.lay_style.specs.KeywordValues.{display_of, position_of, float_of, clear_of, border_style_of, overflow_of, visibility_of, text_align_of, white_space_of, table_layout_of, border_collapse_of, caption_side_of, empty_cells_of};
-ghost use Rattle.lay_style.specs.LengthValues.{offset_of, size_or_auto_of, size_measure_of, size_or_none_of, indent_of, spacing_of, border_width_of, line_height_of, vertical_align_of, z_index_of, border_spacing_of};
+ghost use Rattle.lay_style.specs.KeywordValues.{display_of, position_of, float_of, clear_of, border_style_of};
+ghost use Rattle.lay_style.specs.KeywordValues.{overflow_of, visibility_of, text_align_of, white_space_of};
+ghost use Rattle.lay_style.specs.KeywordValues.{table_layout_of, border_collapse_of, caption_side_of, empty_cells_of};
+ghost use Rattle.lay_style.specs.LengthValues.{offset_of, size_or_auto_of, size_measure_of, size_or_none_of, indent_of, spacing_of};
+ghost use Rattle.lay_style.specs.LengthValues.{border_width_of, line_height_of, vertical_align_of, z_index_of, border_spacing_of};
 
 use crate::cascade::cascaded;
 use crate::keywords::{

@@ -3,7 +3,8 @@
 
 ghost use Rattle.std.specs.Prelude.{◌≡◌};
 ghost use Rattle.lay_inherit.specs.Within.{widths_of_styles};
-ghost use Rattle.lay_style.specs.ComputedStyle.{font_size, offsets, margins, paddings, border_styles, width_of_style, border_widths, borders, sizing, text_style, table_style, styled, computed_style};
+ghost use Rattle.lay_style.specs.ComputedStyle.{font_size, offsets, margins, paddings, border_styles, width_of_style};
+ghost use Rattle.lay_style.specs.ComputedStyle.{border_widths, borders, sizing, text_style, table_style, styled, computed_style};
 
 use crate::cascade::cascaded;
 use crate::declared::declares;

@@ -2,11 +2,12 @@
 use Rattle.std.proofs.Common.{◌≡◌, ◌∙◌, ℕ, ◌+◌, ℤ, Bool, List, ◌∷◌, ◌++◌, length, drop, get_or, sym, ap, arith, add-zero}
 use Rattle.std.proofs.lemmas.List.{drop_more, drop-drop, get_or-drop}
 use Rattle.lay_units.specs.declared.length.Unit.{Unit}
+use Rattle.lay_units.specs.Lengths.{no_length}
 use Rattle.lay_line_content.specs.declared.content.InlineArea.{InlineArea}
 use Rattle.lay_inlines.specs.declared.spans.Span.{Span}
 use Rattle.lay_inlines.specs.declared.strokes.Stroke.{Stroke}
 use Rattle.lay_inlines.specs.declared.line_piece.LinePieceKind.TheVariants.{Inline}
-use Rattle.lay_inlines.specs.Raises.{not_raised, raise_at}
+use Rattle.lay_inlines.specs.Raises.{raise_at}
 use Rattle.lay_inlines.specs.Strokes.{has_content, begin_of, end_of, stays, shown_of}
 use Rattle.lay_inlines.specs.Spans.{right_edges, edges_before, edge_at, with_shown, spans_of, span_of, open_spans, unit}
 
@@ -35,7 +36,7 @@ open_step start end edges raises k m n ns raise now spans before new place next 
     ∙ (λ i. span_of Inline n (raised i) start (same i) ∷ (open_spans start end edges (rest i) ns ++ spans))
   where
     raised : raise ≡ raise_at (drop k raises) 0
-    raised = place ∙ ap (λ (i : ℕ). raise_at raises i) (sym (add-zero k)) ∙ sym (get_or-drop k raises 0 not_raised)
+    raised = place ∙ ap (λ (i : ℕ). raise_at raises i) (sym (add-zero k)) ∙ sym (get_or-drop k raises 0 no_length)
 
     rest : drop m raises ≡ drop 1 (drop k raises)
     rest = ap (λ (i : ℕ). drop i raises) next ∙ sym (drop-drop 1 k raises)

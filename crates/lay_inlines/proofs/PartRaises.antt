@@ -2,6 +2,7 @@
 use Rattle.std.proofs.Common.{◌≡◌, ◌∙◌, ℕ, suc, ◌-◌, ◌<◌, ◌≤◌, List, [], ◌∷◌, ◌++◌, length, take, drop, map, refl, sym, ap, arith, add-zero}
 use Rattle.std.proofs.lemmas.List.{append-nil, append_assoc, drop-drop, get_or-drop, length-append, length-drop, length-map, map-append, take-map}
 use Rattle.lay_units.specs.declared.length.Unit.{Unit}
+use Rattle.lay_units.specs.Lengths.{no_length}
 use Rattle.lay_valign.specs.declared.parts.Shift.{Shift}
 use Rattle.lay_line_content.specs.declared.content.InlineStart.{InlineStart}
 use Rattle.lay_line_content.specs.declared.content.Part.{Part}
@@ -9,10 +10,10 @@ use Rattle.lay_line_content.specs.declared.content.Part.TheVariants.{Space, Pres
 use Rattle.lay_line_content.specs.declared.frame.Extent.{Extent}
 use Rattle.lay_line_content.specs.Extents.{LineParts, Reading, closed, innermost, opened, opened_all, part_by, read, read_all, reading_of, stood, strut_alone}
 use Rattle.lay_inlines.specs.Laws.{RaisesAreShiftsOfParts, raises_in}
-use Rattle.lay_inlines.specs.Raises.{RaisesValue, not_raised, raise_at, one_closed, one_opened, one_passed, raises_after, raises_after_all}
+use Rattle.lay_inlines.specs.Raises.{RaisesValue, raise_at, one_closed, one_opened, one_passed, raises_after, raises_after_all}
 
 next_raise : (shifts : List Unit) (n : ℕ) → raise_at (drop n shifts) 0 ≡ raise_at shifts n
-next_raise shifts n = get_or-drop n shifts 0 not_raised ∙ ap (λ (k : ℕ). raise_at shifts k) (add-zero n)
+next_raise shifts n = get_or-drop n shifts 0 no_length ∙ ap (λ (k : ℕ). raise_at shifts k) (add-zero n)
 
 -- one part more
 still_coming : (shifts : List Unit) (l : LineParts) (e : Extent) (s : Shift) → drop 1 (raises_in shifts l).coming ≡ (raises_in shifts (stood l e s)).coming

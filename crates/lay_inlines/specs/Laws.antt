@@ -64,4 +64,5 @@ raises_in shifts l = record { open_boxes = map (raise_at shifts) l.places; comin
 abbrev pub RaisesAreShiftsOfParts : Type 0
 RaisesAreShiftsOfParts =
     (shifts : List Unit) (strut : Extent) (bs : List InlineStart) (xs : List Part) → length bs < length shifts
-    → raises_after_all (raises_of shifts (length bs)) xs ≡ raises_in shifts (read_all (reading_of bs (opened_all (strut_alone strut) bs)) xs).line
+    → raises_after_all (raises_of shifts (length bs)) xs
+    ≡ raises_in shifts (read_all (reading_of bs (opened_all (strut_alone strut) bs)) xs).line

@@ -76,7 +76,8 @@ line_strokes fr row ns xs = strokes fr (blank_of fr row) (raises_of row.shifts (
 -- and its boxes and texts
 abbrev pub line_spans : List InlineArea → Frame → Ended → List ℕ → List Part → List Span
 line_spans areas fr row ns xs =
-    open_spans (start_of fr row.reach.start.0) (content_end fr row xs) (right_edges areas (line_strokes fr row ns xs)) (behind_strut row.shifts) ns
+    open_spans (start_of fr row.reach.start.0) (content_end fr row xs) (right_edges areas (line_strokes fr row ns xs))
+    (behind_strut row.shifts) ns
     ++ spans_of areas (content_end fr row xs) (line_strokes fr row ns xs)
 
 abbrev pub line_pieces_of : Container → List InlineArea → Frame → Ended → List ℕ → List Part → List LinePiece

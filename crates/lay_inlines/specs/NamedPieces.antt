@@ -1,6 +1,7 @@
 -- The inline boxes and the texts of a line by number: those of its content, and those that its pieces are of (CSS 2.2, 9.4.2
 -- and 16.6.1).
-use Rattle.std.specs.Prelude.{ℕ, ◌≡◌, ◌<◌, ◌==◌, ◌⊎◌, ⊤, Bool, true, false, ◌||◌, ◌&&◌, if◌then◌else◌, IsFalse, List, [], ◌∷◌, ◌++◌, slice_get, Some}
+use Rattle.std.specs.Prelude.{ℕ, ◌≡◌, ◌<◌, ◌==◌, ◌⊎◌, ⊤, Bool, true, false, ◌||◌, ◌&&◌}
+use Rattle.std.specs.Prelude.{if◌then◌else◌, IsFalse, List, [], ◌∷◌, ◌++◌, slice_get, Some}
 use Rattle.std.specs.List.{flat_map, list_any}
 use Rattle.lay_line_content.specs.declared.content.Part.{Part}
 use Rattle.lay_line_content.specs.declared.content.Part.TheVariants.{Space, PreservedSpace, Tab, Linefeed, Text, Start, End, Atomic}

@@ -2,8 +2,9 @@
 -- strut, of the inline boxes that are open at its start, outermost first, and of each inline box that starts on it and
 -- each atomic box, in order. A text stands on the baseline of the innermost inline box that holds it, and on the
 -- strut's where none does.
-use Rattle.std.specs.Prelude.{ℕ, ◌-◌, pos, List, [], ◌∷◌, ◌++◌, length, take, drop, slice_index_or}
+use Rattle.std.specs.Prelude.{ℕ, ◌-◌, List, [], ◌∷◌, ◌++◌, length, take, drop, slice_index_or}
 use Rattle.lay_units.specs.declared.length.Unit.{Unit}
+use Rattle.lay_units.specs.Lengths.{no_length}
 use Rattle.lay_line_content.specs.declared.content.Part.{Part}
 use Rattle.lay_line_content.specs.declared.content.Part.TheVariants.{Space, PreservedSpace, Tab, Linefeed, Text, Start, End, Atomic}
 
@@ -13,11 +14,8 @@ pub record RaisesValue : Type 0 where
   pub open_boxes : List Unit
   pub coming : List Unit
 
-abbrev pub not_raised : Unit
-not_raised = record { 0 = pos 0 }
-
 abbrev pub raise_at : List Unit → ℕ → Unit
-raise_at raises k = slice_index_or raises k not_raised
+raise_at raises k = slice_index_or raises k no_length
 
 abbrev pub innermost : List Unit → Unit
 innermost raises = raise_at raises (length raises - 1)

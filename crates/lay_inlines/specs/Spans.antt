@@ -3,7 +3,8 @@
 -- line's content begins otherwise; it ends before its right margin where its end is on the line, and where the content
 -- ends otherwise. An atomic box reaches from margin to margin. A text reaches over its parts that stay on the line, and
 -- has none where no part does.
-use Rattle.std.specs.Prelude.{ℕ, ◌==◌, ℤ, pos, ◌+ℤ◌, ◌-ℤ◌, Bool, true, false, ◌&&◌, if◌then◌else◌, List, [], ◌∷◌, length, drop, slice_index_or}
+use Rattle.std.specs.Prelude.{ℕ, ◌==◌, ℤ, pos, ◌+ℤ◌, ◌-ℤ◌, Bool, true, false, ◌&&◌}
+use Rattle.std.specs.Prelude.{if◌then◌else◌, List, [], ◌∷◌, length, drop, slice_index_or}
 use Rattle.lay_units.specs.declared.length.Unit.{Unit}
 use Rattle.lay_line_content.specs.declared.content.InlineArea.{InlineArea}
 use Rattle.lay_inlines.specs.declared.line_piece.LinePieceKind.{LinePieceKind}
@@ -81,7 +82,8 @@ with_shown areas Nothing raise from to edge spans = spans
 abbrev pub spans_of : List InlineArea → ℤ → List Stroke → List Span
 spans_of areas end [] = []
 spans_of areas end (s ∷ ss) =
-    with_shown areas (shown_before s ss) s.raise (begin_of s (has_content ss)) (end_of s (has_content ss)) (edge_at (right_edges areas ss) 0 end)
+    with_shown areas (shown_before s ss) s.raise (begin_of s (has_content ss)) (end_of s (has_content ss))
+    (edge_at (right_edges areas ss) 0 end)
     (spans_of areas end ss)
 
 -- the boxes that are open where the line's content begins, outermost first, and how far they are raised

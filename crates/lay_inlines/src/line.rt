@@ -1,8 +1,9 @@
 //! The pieces of one line.
 
-ghost use Rattle.std.specs.Prelude.{◌≡◌, ◌++◌, ◌+ℤ◌, ◌-ℤ◌, ℤ, pos, ◌^◌, [], List, All, map, reverse, OnOk};
-ghost use Rattle.lay_inlines.specs.Bounds.{IsPlace, RowWithin, AreaWithin, PensWithin, SpanWithin, IsOrigin, IsBaseline, IsRaised, RaiseWithin, LineWithin};
-ghost use Rattle.lay_inlines.specs.LinePieces.{line_box, piece_of, baseline_of, origin_of, blank_of, content_end, line_pieces_of};
+ghost use Rattle.std.specs.Prelude.{◌≡◌, ◌++◌, ◌-ℤ◌, [], All, map, reverse, OnOk};
+ghost use Rattle.lay_inlines.specs.Bounds.{IsPlace, RowWithin, AreaWithin, PensWithin, SpanWithin};
+ghost use Rattle.lay_inlines.specs.Bounds.{IsOrigin, IsBaseline, IsRaised, RaiseWithin, LineWithin};
+ghost use Rattle.lay_inlines.specs.LinePieces.{line_box, piece_of, baseline_of, origin_of, blank_of, line_pieces_of};
 ghost use Rattle.lay_inlines.specs.Strokes.{parts_of};
 
 use crate::align::shift_of;

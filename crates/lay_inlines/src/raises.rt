@@ -4,9 +4,6 @@ ghost use Rattle.std.specs.Prelude.{◌≡◌, IfOk, OnOk};
 ghost use Rattle.lay_inlines.specs.Raises.{
   behind_strut,
   innermost,
-  one_closed,
-  one_opened,
-  one_passed,
   raise_at,
   raise_of,
   raises_after,

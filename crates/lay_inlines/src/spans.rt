@@ -4,7 +4,8 @@
 ghost use Rattle.std.specs.Prelude.{◌≡◌, ◌||◌, ◌&&◌, ◌++◌, ◌∷◌, [], All, drop, reverse, OnOk};
 ghost use Rattle.lay_inlines.specs.Bounds.{IsPlace, AreaWithin, RaiseWithin, StrokeWithin, SpanWithin};
 ghost use Rattle.lay_inlines.specs.Behind.{BehindWithin, Within};
-ghost use Rattle.lay_inlines.specs.Spans.{area_at, edge_at, edges_before, right_edges, is_text, with_text, with_shown, span_of, inline_span, atomic_span, spans_of, open_spans};
+ghost use Rattle.lay_inlines.specs.Spans.{area_at, edge_at, edges_before, right_edges, is_text, with_text};
+ghost use Rattle.lay_inlines.specs.Spans.{with_shown, span_of, inline_span, atomic_span, spans_of, open_spans};
 ghost use Rattle.lay_inlines.specs.Strokes.{is_content, stays, shown_of, begin_of, end_of, has_content};
 
 use crate::arithmetic::{minus, plus};

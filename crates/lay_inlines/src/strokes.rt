@@ -83,7 +83,8 @@ fn put(
     before: &Pen,
     after: &Pen,
 ) -> Result<(), NoMemory>
-    ensures strokes { OnOk result (LookAs out.new (out.old ++ stroke_of part.now (raise_of raises.old part.now) before.now after.now ∷ [])) }
+    ensures strokes { OnOk result
+        (LookAs out.new (out.old ++ stroke_of part.now (raise_of raises.old part.now) before.now after.now ∷ [])) }
     ensures raises { OnOk result (raises.new ≡ raises_after raises.old part.now) }
 {
     if !reach_over(out, raises, part, before, after) {
@@ -107,7 +108,8 @@ fn reach_over(
     before: &Pen,
     after: &Pen,
 ) -> bool
-    ensures over { IsTrue result → LookAs strokes.new (strokes.old ++ stroke_of part.now (raise_of raises.now part.now) before.now after.now ∷ []) }
+    ensures over { IsTrue result
+        → LookAs strokes.new (strokes.old ++ stroke_of part.now (raise_of raises.now part.now) before.now after.now ∷ []) }
     ensures raises { IsTrue result → raises_after raises.now part.now ≡ raises.now }
     ensures apart { IsFalse result → strokes.new ≡ strokes.old }
 {
@@ -123,7 +125,9 @@ fn reach_over(
 /// Whether a part between these pens shows one more bit of the text of which the stroke before it shows a bit. A space at
 /// the end of a line, where it shows nothing, leaves the end of the content where it is.
 fn goes_on(last: &Stroke, raises: &Raises, part: &Part, before: &Pen, after: &Pen) -> bool
-    ensures over { IsTrue result → LookAs (record last.now { after = after.now } ∷ []) (last.now ∷ stroke_of part.now (raise_of raises.now part.now) before.now after.now ∷ []) }
+    ensures over { IsTrue result
+        → LookAs (record last.now { after = after.now } ∷ [])
+        (last.now ∷ stroke_of part.now (raise_of raises.now part.now) before.now after.now ∷ []) }
     ensures raises { IsTrue result → raises_after raises.now part.now ≡ raises.now }
 {
     match &last.part {

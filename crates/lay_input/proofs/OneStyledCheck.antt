@@ -6,10 +6,10 @@ use Rattle.lay_json.specs.declared.fault.InputFault.TheVariants.{TooLong}
 use Rattle.lay_json.specs.declared.check_in.CheckIn.{CheckIn}
 use Rattle.lay_json.specs.declared.sheet_in.SheetIn.{SheetIn}
 use Rattle.lay_json.specs.Fields.{map_read}
-use Rattle.lay_json.specs.Reading.{HoldsBoth, IsInput, check_too_long}
+use Rattle.lay_json.specs.Reading.{check_too_long}
 use Rattle.lay_json.proofs.OneCheck.{one_check_lem, runs_read_beside_reports_lem}
 use Rattle.lay_input.specs.declared.check.Check.{Check}
-use Rattle.lay_input.specs.StyledReading.{IsStyledInput, IsStyledReading, read, refused}
+use Rattle.lay_input.specs.StyledReading.{read, refused}
 use Rattle.lay_input.specs.StyledChecks.{IsCheckStyled, IsStyledCheck, check_read, check_refused}
 use Rattle.lay_input.specs.Laws.{OneStyledCheck, RunsAreStyledBesideReports}
 use Rattle.lay_input.proofs.OneStyledReading.{one_styled_input}

@@ -21,7 +21,8 @@ names_by_place listed names nodes = map (λ n. named_of listed names n.id.0) nod
 -- the node with this id got these names, and the others are called as before
 pub record IsNamedOne (nodes : List Node) (id : ℕ) (names : Names) (old new : List Names) : Type 0 where
   pub this : (k : ℕ) → k < length nodes → slice_index (ids_of nodes) k ≡ id → slice_index_or new k no_names ≡ names
-  pub others : (k : ℕ) → k < length nodes → (slice_index (ids_of nodes) k ≡ id → ⊥) → slice_index_or new k no_names ≡ slice_index_or old k no_names
+  pub others : (k : ℕ) → k < length nodes → (slice_index (ids_of nodes) k ≡ id → ⊥)
+      → slice_index_or new k no_names ≡ slice_index_or old k no_names
 
 -- nodes are called as names are listed beside ids
 pub record AreNamed (nodes : List Node) (listed : List NodeId) (names : List Names) (named : List Names) : Type 0 where

@@ -21,8 +21,10 @@ pub record IsStyledRun (run : Run) (rules : List RuleValue) (names : List Names)
 
 -- a run, styled by the sheet of a text, or that it has too many selectors
 pub data IsStyledBy (run : Run) (text : List ℕ) (names : List Names) (outcome : Result Run InputFault) : Type 0 where
-  too_many : (rules : List RuleValue) → IsSheet text rules → 4096 < selector_count rules → outcome ≡ Err TooManySelectors → IsStyledBy run text names outcome
-  by_sheet : (rules : List RuleValue) (new : Run) → IsSheet text rules → selector_count rules ≤ 4096 → IsStyledRun run rules names new → outcome ≡ Ok new →
+  too_many : (rules : List RuleValue) → IsSheet text rules → 4096 < selector_count rules
+      → outcome ≡ Err TooManySelectors → IsStyledBy run text names outcome
+  by_sheet : (rules : List RuleValue) (new : Run) → IsSheet text rules → selector_count rules ≤ 4096
+      → IsStyledRun run rules names new → outcome ≡ Ok new →
       IsStyledBy run text names outcome
 
 -- a run, styled by its sheet where it has one, or that the sheet has too many selectors

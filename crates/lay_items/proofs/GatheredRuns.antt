@@ -5,7 +5,7 @@ use Rattle.std.specs.Str.{IsCharBoundary}
 use Rattle.lay_units.specs.declared.records.ClusterWidth.{ClusterWidth}
 use Rattle.lay_space.specs.Tokens.{next_place}
 use Rattle.lay_items.specs.GatheredWidths.{gathered, gathered_after, goes_on, stands_alone, with_cluster}
-use Rattle.lay_items.proofs.Words.{IsWord, StandInOrder, is_word, joined_words, none_stand, one_stands}
+use Rattle.lay_items.proofs.Words.{IsWord, StandInOrder, is_word, joined_words, one_stands}
 
 -- where a word begins that stands before this place, if there is one
 abbrev begins_at : Option ClusterWidth → ℕ → ℕ

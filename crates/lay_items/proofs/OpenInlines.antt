@@ -9,6 +9,7 @@ use Rattle.lay_box_tree.specs.Roles.{role_of}
 use Rattle.lay_box_tree.specs.declared.box_role.Role.{Role}
 use Rattle.lay_box_tree.specs.declared.box_role.Role.TheVariants as role
 use Rattle.lay_box_tree.specs.declared.box_tree.BoxNode.{BoxNode}
+use Rattle.lay_box_tree.proofs.BoxForests.{length-parents}
 use Rattle.lay_space.specs.declared.item.Item.{Item}
 use Rattle.lay_space.specs.declared.item.Item.TheVariants as item
 use Rattle.lay_items.specs.InlineItems.{items_below, items_at, items_as}
@@ -24,10 +25,6 @@ none_below boxes (b ∷ bs) q k none =
 
 parent_behind : (boxes : List BoxNode) (k i : ℕ) → slice_index (box_parents (drop k boxes)) i ≡ box_parent boxes (k + i)
 parent_behind boxes k i = let moved : box_parents (drop k boxes) ≡ drop k (box_parents boxes) = sym (drop-map (λ b. b.parent) k boxes) in rw moved (get_or-drop k (box_parents boxes) i 0)
-
-pub length-parents : (boxes : List BoxNode) → length (box_parents boxes) ≡ length boxes
-length-parents [] = refl
-length-parents (b ∷ bs) = ap (λ n. suc n) (length-parents bs)
 
 -- where the box at k stands in a box at p, no box from there on is in one between p and k
 pub over : (boxes : List BoxNode) → IsTree (box_parents boxes) → (k q : ℕ) → k < length boxes → box_parent boxes k < q → q < k → items_below boxes q k (drop k boxes) ≡ []

@@ -1,7 +1,8 @@
 -- The clusters of a text, gathered: those that are nothing but text to a line, a space, a tab, a linefeed and U+200B being
 -- more, have one width together where they follow one another, since no line breaks between them (CSS 2.2, 16.6). So a
 -- text has a width for each word and each space.
-use Rattle.std.specs.Prelude.{ℕ, ◌^◌, nat_lt, ℤ, pos, negsuc, ◌+ℤ◌, Bool, true, false, ◌&&◌, List, [], ◌∷◌, ◌++◌, Option, Some, None, option_to_list, if◌then◌else◌}
+use Rattle.std.specs.Prelude.{ℕ, ◌^◌, nat_lt, ℤ, pos, negsuc, ◌+ℤ◌, Bool, true, false, ◌&&◌, List}
+use Rattle.std.specs.Prelude.{[], ◌∷◌, ◌++◌, Option, Some, None, option_to_list, if◌then◌else◌}
 use Rattle.lay_units.specs.declared.records.ClusterWidth.{ClusterWidth}
 use Rattle.lay_space.specs.declared.item.Mode.TheVariants.{Pre}
 use Rattle.lay_space.specs.declared.tokens.ClusterKind.{ClusterKind}

@@ -2,7 +2,8 @@
 -- box of the first line box in which the element appears has the left margin, left border and left padding". So the first
 -- part of an inline box takes room where it starts if one of these isn't 0, and a later one never does. That is asked of
 -- their computed values, since content is known before used ones are: a percentage other than 0% may come to nothing.
-use Rattle.std.specs.Prelude.{ℕ, ◌==◌, ℤ, pos, negsuc, Bool, true, false, not, ◌&&◌, ◌||◌, List}
+use Rattle.std.specs.Prelude.{ℕ, Bool, false, ◌&&◌, ◌||◌, List}
+use Rattle.lay_units.specs.Lengths.{is_nonzero}
 use Rattle.lay_style.specs.declared.style.Style.{Style}
 use Rattle.lay_style.specs.declared.style_lengths.LengthPercentage.{LengthPercentage}
 use Rattle.lay_style.specs.declared.style_lengths.LengthPercentage.TheVariants as measure
@@ -10,10 +11,6 @@ use Rattle.lay_style.specs.declared.style_lengths.LengthPercentageOrAuto.{Length
 use Rattle.lay_style.specs.declared.style_lengths.LengthPercentageOrAuto.TheVariants as or_auto
 use Rattle.lay_box_tree.specs.declared.box_tree.BoxNode.{BoxNode}
 use Rattle.lay_box_tree.specs.InlineParts.{is_first_part}
-
-abbrev pub is_nonzero : ℤ → Bool
-is_nonzero (pos n) = not (n == 0)
-is_nonzero (negsuc n) = true
 
 -- an auto margin of an inline box is 0 (10.3.1)
 abbrev pub is_margin : LengthPercentageOrAuto → Bool

@@ -17,7 +17,8 @@ use std::alloc::Global;
 
 /// The content of the lines of the block container at a place of a context's boxes, which are these parts of inline boxes,
 /// as white space processing leaves it and cut where lines may break, with the widths of its texts in 1/64 px (CSS 2.2,
-/// 9.4.2, 16.4 and 16.6). Each item is named by the place of its box. A text of more than 2^20 bytes is want of memory; no document has one.
+/// 9.4.2, 16.4 and 16.6). Each item is named by the place of its box. A text of more than 2^20 bytes is want of memory; no
+/// document has one.
 pub fn inline_segments(
     alloc: Global,
     boxes: &[BoxNode],

@@ -1,6 +1,6 @@
 //! The clusters of a text, gathered.
 
-ghost use Rattle.std.specs.Prelude.{◌≡◌, ◌+ℤ◌, ◌&&◌, ◌∷◌, ◌++◌, [], true, option_to_list, IfOk, OnOk};
+ghost use Rattle.std.specs.Prelude.{◌≡◌, ◌+ℤ◌, ◌&&◌, ◌∷◌, ◌++◌, true, option_to_list, IfOk, OnOk};
 ghost use Rattle.lay_space.specs.Tokens.{next_place};
 ghost use Rattle.lay_items.specs.GatheredWidths.{gathered, gathered_after, goes_on, is_small, stands_alone, with_cluster};
 

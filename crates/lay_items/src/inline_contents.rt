@@ -85,7 +85,8 @@ impl InlineContents {
     pub fn at(&self, k: usize) -> Option<&[Segment]>
         ensures some { IfSome result (λ s. kept_at self.now k ≡ Some s.now) }
         ensures none { result ≡ None → kept_at self.now k ≡ None }
-        ensures content { (face : FaceValue) (boxes : List BoxNode) → AreContents face boxes self.now → IfSome result (λ s. s.now ≡ segments_in face boxes k) }
+        ensures content { (face : FaceValue) (boxes : List BoxNode) → AreContents face boxes self.now
+            → IfSome result (λ s. s.now ≡ segments_in face boxes k) }
     {
         match &self.shared {
             Some(kept) => kept.at(k),

@@ -2,10 +2,11 @@
 
 ghost use Rattle.std.specs.Prelude.{◌≡◌, ◌<◌, length};
 ghost use Rattle.lay_box_tree.specs.InlineParts.{AreInlineParts, is_first_part};
-ghost use Rattle.lay_items.specs.InlineStarts.{has_left_edge, is_margin, is_nonzero, is_padding, takes_room};
+ghost use Rattle.lay_items.specs.InlineStarts.{has_left_edge, is_margin, is_padding, takes_room};
 
 use lay_box_tree::{BoxNode, InlinePart};
 use lay_style::{LengthPercentage, LengthPercentageOrAuto, Style};
+use lay_units::is_nonzero;
 
 /// Whether the start of this inline box, which is that at `place`, takes room in its line.
 pub fn takes_room(boxes: &[BoxNode], parts: &[InlinePart], node: &BoxNode, place: usize) -> bool
@@ -52,10 +53,4 @@ fn is_padding(padding: LengthPercentage) -> bool
         LengthPercentage::Length(length) => is_nonzero(length.0),
         LengthPercentage::Percent(percent) => is_nonzero(i64::from(percent.0)),
     }
-}
-
-fn is_nonzero(v: i64) -> bool
-    ensures { result ≡ is_nonzero v }
-{
-    v != 0
 }

@@ -1,7 +1,6 @@
 //! Texts with the widths of their clusters.
 
 ghost use Rattle.std.specs.Prelude.{◌≡◌, false, slice_get, IfOk, IfSome};
-ghost use Rattle.lay_units.specs.Units.{IsUsed};
 ghost use Rattle.lay_style.specs.LengthValues.{length_of, size_of};
 ghost use Rattle.lay_face.specs.Clusters.{IsUsedSetting, widths_of};
 ghost use Rattle.lay_space.specs.CleanTexts.{IsClean};
@@ -14,8 +13,8 @@ use crate::plain_texts::{clean_gathered, plain_gathered};
 use lay_box_tree::BoxNode;
 use lay_face::{Face, Setting, is_plain};
 use lay_space::{Item, ItemList};
-use lay_style::TextStyle;
-use lay_units::{MOST_TEXT, NoMemory, Unit, WidthList, clamp, clamp_size};
+use lay_style::{TextStyle, length_of, size_of};
+use lay_units::{MOST_TEXT, NoMemory, WidthList};
 use std::alloc::Global;
 
 /// These items, each text with the widths of its clusters in the style of its box.
@@ -109,7 +108,8 @@ pub fn clean_widths(
     style: &TextStyle,
     text: &str,
 ) -> Result<Option<WidthList>, NoMemory>
-    ensures { IfOk result (λ o. IfSome o (λ l. IsClean false text.now × (l ≡ gathered text.now (widths_of face.now (setting_of style.now) text.now)))) }
+    ensures { IfOk result
+        (λ o. IfSome o (λ l. IsClean false text.now × (l ≡ gathered text.now (widths_of face.now (setting_of style.now) text.now)))) }
 {
     if text.len() > MOST_TEXT {
         return Ok(None);
@@ -126,18 +126,4 @@ fn setting_of(style: &TextStyle) -> Setting
         letter: length_of(style.letter_spacing),
         word: length_of(style.word_spacing),
     }
-}
-
-fn length_of(length: Unit) -> Unit
-    ensures value { result ≡ length_of length.0 }
-    ensures used { IsUsed result.0 }
-{
-    clamp(i128::from(length.0))
-}
-
-fn size_of(length: Unit) -> Unit
-    ensures value { result ≡ size_of length.0 }
-    ensures used { IsUsed result.0 }
-{
-    clamp_size(i128::from(length.0))
 }

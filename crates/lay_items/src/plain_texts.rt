@@ -73,7 +73,8 @@ fn part_at(face: &Face, setting: Setting, text: &[u8], from: usize) -> Word
     requires used { IsUsedSetting setting }
     requires inside { from < length text.now }
     ensures gathered { gathered_after text.now None (plain_widths face.now setting from (drop from text.now))
-        ≡ record { place = from; width = result.width } ∷ gathered_after text.now None (plain_widths face.now setting result.to (drop result.to text.now)) }
+        ≡ record { place = from; width = result.width }
+        ∷ gathered_after text.now None (plain_widths face.now setting result.to (drop result.to text.now)) }
     ensures forward { from < result.to }
     ensures inside { result.to ≤ length text.now }
 {
@@ -99,8 +100,10 @@ fn clean_part_at(
     requires used { IsUsedSetting setting }
     requires inside { from < length text.now }
     ensures gathered { IfSome result (λ w. gathered_after text.now None (plain_widths face.now setting from (drop from text.now))
-        ≡ record { place = from; width = w.width } ∷ gathered_after text.now None (plain_widths face.now setting w.to (drop w.to text.now))) }
-    ensures clean { IfSome result (λ w. IsClean (slice_index text.now from == 32) (drop w.to text.now) → IsClean after_space (drop from text.now)) }
+        ≡ record { place = from; width = w.width }
+        ∷ gathered_after text.now None (plain_widths face.now setting w.to (drop w.to text.now))) }
+    ensures clean { IfSome result
+        (λ w. IsClean (slice_index text.now from == 32) (drop w.to text.now) → IsClean after_space (drop from text.now)) }
     ensures forward { IfSome result (λ w. from < w.to) }
     ensures inside { IfSome result (λ w. w.to ≤ length text.now) }
 {
@@ -128,7 +131,8 @@ fn word_at(face: &Face, setting: Setting, text: &[u8], from: usize) -> Word
     requires inside { from < length text.now }
     requires begins { is_in_word (slice_index text.now from) ≡ true }
     ensures gathered { gathered_after text.now None (plain_widths face.now setting from (drop from text.now))
-        ≡ gathered_after text.now (Some (record { place = from; width = result.width })) (plain_widths face.now setting result.to (drop result.to text.now)) }
+        ≡ gathered_after text.now (Some (record { place = from; width = result.width }))
+        (plain_widths face.now setting result.to (drop result.to text.now)) }
     ensures clean { (before : Bool) → IsClean false (drop result.to text.now) → IsClean before (drop from text.now) }
     ensures ends { result.to < length text.now → is_in_word (slice_index text.now result.to) ≡ false }
     ensures forward { from < result.to }

@@ -1,6 +1,7 @@
 -- The face of a run: the fields of `face` in order, each with the default face's value where it is absent.
 -- All numbers are thousandths of the font size, 0 to 10,000.
-use Rattle.std.specs.Prelude.{◌&&◌, List, [], ◌∷◌, ◌++◌, Bool, true, Option, Some, None, option_map, option_and_then, ok_or, Result, Ok, Err, if◌then◌else◌}
+use Rattle.std.specs.Prelude.{◌&&◌, List, [], ◌∷◌, ◌++◌, Bool, true, Option, Some, None}
+use Rattle.std.specs.Prelude.{option_map, option_and_then, ok_or, Result, Ok, Err, if◌then◌else◌}
 use Rattle.serde_json.specs.Data.{Data, Items, no_items, item}
 use Rattle.lay_face.specs.declared.pairs.AdvancePair.{AdvancePair}
 use Rattle.lay_face.specs.FaceValue.{FaceValue}

@@ -2,11 +2,15 @@
 -- On one field its absence is judged first (I3), then another JSON kind (I4), then a number that isn't
 -- whole or isn't in its range (I9). The members of a list of numbers are judged as the field that holds the list: a
 -- wrong kind anywhere in it comes before a number that is out of range.
-use Rattle.std.specs.Prelude.{ℕ, suc, ◌≡◌, ◌≢◌, ◌&&◌, List, Bool, nat_le, is_some, is_none, Option, Some, None, option_map, option_and_then, ok_or, Result, Ok, Err, codes, if◌then◌else◌}
+use Rattle.std.specs.Prelude.{ℕ, suc, ◌≡◌, ◌≢◌, ◌&&◌, List, Bool, nat_le, is_some, is_none, Option, Some}
+use Rattle.std.specs.Prelude.{None, option_map, option_and_then, ok_or, Result, Ok, Err, codes, if◌then◌else◌}
 use Rattle.serde_json.specs.Data.{Data, Items, no_items, item, Members}
 use Rattle.serde_json.specs.Find.{get, at, as_number, as_u64, as_str, as_array, as_object}
 use Rattle.lay_json.specs.declared.fault.Field.{Field}
-use Rattle.lay_json.specs.declared.fault.Field.TheVariants.{Run, Viewport, Face, Advance, Default, Ascent, Descent, XHeight, Normal, Nodes, Editors, Id, Parent, Kind, Style, Colspan, Rowspan, Text, Natural, Do, Node, Property, Value, Index, Edits, Sheet, Tag, Label, Classes, Check, Report}
+use Rattle.lay_json.specs.declared.fault.Field.TheVariants.{Run, Viewport, Face, Advance, Default, Ascent, Descent, XHeight, Normal}
+use Rattle.lay_json.specs.declared.fault.Field.TheVariants.{Nodes, Editors, Id, Parent, Kind, Style, Colspan, Rowspan, Text, Natural, Do}
+use Rattle.lay_json.specs.declared.fault.Field.TheVariants.{Node, Property, Value, Index, Edits, Sheet, Tag, Label, Classes, Check}
+use Rattle.lay_json.specs.declared.fault.Field.TheVariants.{Report}
 use Rattle.lay_json.specs.declared.fault.Spot.{Spot}
 use Rattle.lay_json.specs.declared.fault.InputFault.{InputFault}
 use Rattle.lay_json.specs.declared.fault.InputFault.TheVariants.{Missing, WrongKind, BadNumber, NoMemory}

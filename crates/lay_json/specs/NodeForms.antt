@@ -1,7 +1,8 @@
 -- A node of a run document, or of a command that inserts one. First the forms of its fields are judged, in
 -- the order in which they stand here; a field that isn't for the node's kind is ignored. Then the members
 -- of `style` are read as declarations, in the byte order of their names.
-use Rattle.std.specs.Prelude.{ℕ, ◌*◌, ◌&&◌, pos, List, [], Bool, true, Option, Some, None, unwrap_or, ok_or, is_some, option_and_then, Result, Ok, Err, codes, if◌then◌else◌}
+use Rattle.std.specs.Prelude.{ℕ, ◌*◌, ◌&&◌, pos, List, [], Bool, true, Option, Some, None, unwrap_or}
+use Rattle.std.specs.Prelude.{ok_or, is_some, option_and_then, Result, Ok, Err, codes, if◌then◌else◌}
 use Rattle.std.specs.Str.{bytes_eq}
 use Rattle.serde_json.specs.Data.{Data, Members, no_members, member}
 use Rattle.serde_json.specs.Find.{as_str, as_object}

@@ -1,7 +1,8 @@
 -- The style sheet of a run document, and what its nodes are called. Faults are judged after those of the run: first that of
 -- `sheet` (I4), and then, where there is a sheet, those of `tag`, `label` and `classes` in this order, node after node. What
 -- is absent is empty. A text has no names, and its fields of these names are ignored.
-use Rattle.std.specs.Prelude.{ℕ, ◌&&◌, List, [], ◌∷◌, ◌++◌, length, min, Bool, true, is_some, Option, Some, None, unwrap_or, Result, Ok, Err, codes, if◌then◌else◌}
+use Rattle.std.specs.Prelude.{ℕ, ◌&&◌, List, [], ◌∷◌, ◌++◌, length, min, Bool, true, is_some}
+use Rattle.std.specs.Prelude.{Option, Some, None, unwrap_or, Result, Ok, Err, codes, if◌then◌else◌}
 use Rattle.std.specs.Str.{bytes_eq}
 use Rattle.serde_json.specs.Data.{Data, Items, no_items, item}
 use Rattle.serde_json.specs.Find.{as_str, as_array}

@@ -3,7 +3,8 @@
 ghost use Rattle.std.specs.Prelude.{◌≡◌, IfOk};
 ghost use Rattle.serde_json.specs.View.{view};
 ghost use Rattle.lay_json.specs.Fields.{Gives};
-ghost use Rattle.lay_json.specs.EditCommands.{change_named, change_of, named_node, set_command, clear_command, text_command, insert_command, remove_command, edit_for, edit_of};
+ghost use Rattle.lay_json.specs.EditCommands.{change_named, change_of, named_node, set_command, clear_command};
+ghost use Rattle.lay_json.specs.EditCommands.{text_command, insert_command, remove_command, edit_for, edit_of};
 
 use crate::fault::{Field, InputFault, Spot};
 use crate::fields::{NUMBERS, object_of, required_number, required_text};

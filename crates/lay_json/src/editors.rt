@@ -4,7 +4,8 @@ ghost use Rattle.std.specs.Prelude.{◌≡◌, ◌≤◌, ◌<◌, ◌+◌, ◌+
 ghost use Rattle.serde_json.specs.View.{view, items_view};
 ghost use Rattle.lay_json.specs.Fields.{Gives, Changes};
 ghost use Rattle.lay_run.specs.Scripts.{is_read, reads_of, command_count, read_count};
-ghost use Rattle.lay_json.specs.Editors.{is_past, next_command, with_command, script_from, with_script, scripts_from, are_lists, scripts_of};
+ghost use Rattle.lay_json.specs.Editors.{is_past, next_command, with_command, script_from};
+ghost use Rattle.lay_json.specs.Editors.{with_script, scripts_from, are_lists, scripts_of};
 
 use crate::command::command_of;
 use crate::fault::{Field, InputFault, Spot};

@@ -1,6 +1,6 @@
 //! The face of a run.
 
-ghost use Rattle.std.specs.Prelude.{◌≡◌, ◌≤◌, ◌++◌, ◌∷◌, [], length, All, IfOk, IfSome, OnOk, option_map};
+ghost use Rattle.std.specs.Prelude.{◌≡◌, ◌≤◌, ◌++◌, ◌∷◌, [], All, IfOk, IfSome, OnOk, option_map};
 ghost use Rattle.serde_json.specs.View.{view, items_view};
 ghost use Rattle.lay_face.specs.declared.pairs.AdvancePair.{AdvancePair as Pair};
 ghost use Rattle.lay_json.specs.Fields.{Gives, number_or};

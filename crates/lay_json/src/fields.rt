@@ -1,8 +1,10 @@
 //! The values of fields.
 
-ghost use Rattle.std.specs.Prelude.{◌≡◌, ◌≤◌, ◌&&◌, true, Some, Result, length, nat_le, option_map, IfOk, IfSome, IsTrue};
+ghost use Rattle.std.specs.Prelude.{◌≡◌, ◌≤◌, ◌&&◌, Some, length, nat_le, option_map, IfOk, IfSome};
 ghost use Rattle.serde_json.specs.View.{view, items_view, members_view};
-ghost use Rattle.lay_json.specs.Fields.{map_read, has_at_most, value_in, required, object_of, list_of, text_of, whole_within, number_of, required_number, number_or, required_text, has_number, is_pair, pair_within, sides_of, required_sides};
+ghost use Rattle.lay_json.specs.Fields.{map_read, has_at_most, value_in, required, object_of, list_of};
+ghost use Rattle.lay_json.specs.Fields.{text_of, whole_within, number_of, required_number, number_or};
+ghost use Rattle.lay_json.specs.Fields.{required_text, has_number, is_pair, pair_within, sides_of, required_sides};
 
 use crate::fault::{Field, InputFault, Spot};
 use serde_json::{Map, Value};

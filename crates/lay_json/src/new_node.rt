@@ -4,7 +4,8 @@ ghost use Rattle.std.specs.Prelude.{◌≡◌, [], IfOk, option_map};
 ghost use Rattle.serde_json.specs.View.{view, members_view};
 ghost use Rattle.lay_doc.specs.NewNodes.{IsNodeForm};
 ghost use Rattle.lay_json.specs.Fields.{map_read, value_in};
-ghost use Rattle.lay_json.specs.NodeForms.{bad_declaration, declaration_of, text_in, style_members, declarations_from, declarations_of, node_with, new_node};
+ghost use Rattle.lay_json.specs.NodeForms.{bad_declaration, declaration_of, text_in};
+ghost use Rattle.lay_json.specs.NodeForms.{declarations_from, declarations_of, node_with, new_node};
 
 use crate::fault::Field;
 use crate::fields::value_in;

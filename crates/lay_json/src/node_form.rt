@@ -1,10 +1,11 @@
 //! The forms of a node's fields.
 
-ghost use Rattle.std.specs.Prelude.{◌≡◌, ◌≤◌, [], option_map, IfOk};
+ghost use Rattle.std.specs.Prelude.{◌≡◌, ◌≤◌, [], IfOk};
 ghost use Rattle.serde_json.specs.View.{view, members_view};
 ghost use Rattle.lay_doc.specs.NewNodes.{IsNodeForm};
 ghost use Rattle.lay_json.specs.Fields.{map_read};
-ghost use Rattle.lay_json.specs.NodeForms.{kind_named, kind_name, are_texts, texts_of, style_of, px, element_form, text_form, replaced_form, form_named, node_form};
+ghost use Rattle.lay_json.specs.NodeForms.{kind_named, kind_name, are_texts, texts_of, style_of, px};
+ghost use Rattle.lay_json.specs.NodeForms.{element_form, text_form, replaced_form, form_named, node_form};
 
 use crate::fault::{Field, InputFault, Spot};
 use crate::fields::{

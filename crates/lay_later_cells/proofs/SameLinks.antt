@@ -9,11 +9,12 @@ use Rattle.lay_layout.specs.box_tree.declared.box_tree.BoxKind.TheVariants.{Text
 use Rattle.lay_layout.specs.box_tree.declared.box_tree.BoxNode.{BoxNode}
 use Rattle.lay_layout.specs.contexts.Contexts.{Context, boxes_in, context_at, no_context}
 use Rattle.lay_layout.specs.positioned.Absolute.{is_absolute_flow, is_fixed_position, is_own_absolute, is_own_fixed}
-use Rattle.lay_layout.specs.positioned.Holders.{can_hold, holder_for, is_holder, is_holder_at, is_positioned, nearest_in}
+use Rattle.lay_layout.specs.positioned.Holders.{can_hold, holder_for, is_holder, is_holder_at, nearest_in}
 use Rattle.lay_shape.specs.Keys.{node_of}
 use Rattle.lay_later_contexts.specs.Links.{AreRestyled, HasLinks}
 use Rattle.lay_later_contexts.specs.Unstyled.{Unstyled, all_unstyled, bare_kind, unstyled}
 use Rattle.lay_later_contexts.proofs.LaterList.{column}
+use Rattle.lay_layout.specs.style.Positions.{is_positioned}
 
 -- a text holds no absolutely positioned box, whichever it is
 bare-holds : (k : BoxKind) → can_hold (bare_kind k) ≡ can_hold k

@@ -28,7 +28,10 @@ pub fn keys_of_restyled(
     requires later_flags { AreContextFlags after.now.contexts.now after.now.formatting_contexts.now after.now.measured.now }
     requires apart { AreOfOwnNodes before.now.contexts.now }
     requires restyled { AreRestyled before.now.contexts.now after.now.contexts.now made.now }
-    ensures { IfOk result (λ v. AreTouchedKeys before.now.contexts.now after.now.contexts.now before.now.formatting_contexts.now after.now.formatting_contexts.now v.items) }
+    ensures { IfOk result
+        (λ v.
+        AreTouchedKeys before.now.contexts.now after.now.contexts.now before.now.formatting_contexts.now after.now.formatting_contexts.now
+        v.items) }
 {
     let mut keys = Vec::new(alloc);
     for j in 0..after.contexts.len() {
@@ -50,8 +53,11 @@ fn push_if_touched(
     requires apart { AreOfOwnNodes before.now.contexts.now }
     requires restyled { AreRestyled before.now.contexts.now after.now.contexts.now made.now }
     requires within { j < length after.now.contexts.now }
-    requires known { AreTouchedKeysTo before.now.contexts.now after.now.contexts.now before.now.formatting_contexts.now after.now.formatting_contexts.now keys.old.items j }
-    ensures { OnOk result (AreTouchedKeysTo before.now.contexts.now after.now.contexts.now before.now.formatting_contexts.now after.now.formatting_contexts.now keys.new.items (j + 1)) }
+    requires known { AreTouchedKeysTo before.now.contexts.now after.now.contexts.now before.now.formatting_contexts.now
+        after.now.formatting_contexts.now keys.old.items j }
+    ensures { OnOk result
+        (AreTouchedKeysTo before.now.contexts.now after.now.contexts.now before.now.formatting_contexts.now
+        after.now.formatting_contexts.now keys.new.items (j + 1)) }
 {
     if is_untouched(before, after, made, j) {
         return Ok(());
@@ -72,7 +78,9 @@ fn is_untouched(
     requires apart { AreOfOwnNodes before.now.contexts.now }
     requires restyled { AreRestyled before.now.contexts.now after.now.contexts.now made.now }
     requires within { j < length after.now.contexts.now }
-    ensures { IsTrue result ↔ IsUntouched before.now.contexts.now after.now.contexts.now before.now.formatting_contexts.now after.now.formatting_contexts.now j }
+    ensures { IsTrue result
+        ↔ IsUntouched before.now.contexts.now after.now.contexts.now before.now.formatting_contexts.now after.now.formatting_contexts.now
+        j }
 {
     if !same_flag(before.measured[j], after.measured[j]) {
         return false;

@@ -7,12 +7,13 @@ use Rattle.std.proofs.Math.IntN.{*ℤ_comm, *ℤ-zero, suc_ℤ-*ℤ}
 use Rattle.std.proofs.lemmas.Int.{ints, by_lt_z}
 use Rattle.std.proofs.lemmas.Option.{slice_get-get_or}
 use Rattle.std.proofs.lemmas.List.{drop_more}
+use Rattle.lay_units.specs.TabStops.{next_stop}
 use Rattle.lay_line_content.specs.declared.content.Part.{Part}
 use Rattle.lay_line_content.specs.declared.content.Part.TheVariants.{Space, PreservedSpace, Tab, Linefeed, Text, Start, End, Atomic}
 use Rattle.lay_line_content.specs.declared.content.Stretch.{Stretch}
 use Rattle.lay_line_content.specs.declared.frame.Frame.{Frame}
 use Rattle.lay_line_content.specs.declared.pen.Pen.{Pen}
-use Rattle.lay_line_content.specs.Pens.{next_stop, went, moved, spaced, over, over_all, past, past_at, start_of, pen_to, seen_to, PenFits, PensFit, ContentFits}
+use Rattle.lay_line_content.specs.Pens.{went, moved, spaced, over, over_all, past, past_at, start_of, pen_to, seen_to, PenFits, PensFit, ContentFits}
 
 -- a greater number has no lesser quotient
 quotient_order : (a b s : ℕ) → a ≤ b → a / suc s ≤ b / suc s

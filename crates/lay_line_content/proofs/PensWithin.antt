@@ -4,13 +4,14 @@ use Rattle.std.proofs.Math.Nat.{div-mul-le_self, lt-div-mul-add, suc-mul}
 use Rattle.std.proofs.Math.IntN.{*ℤ-zero, pos-*ℤ-pos, negsuc-*ℤ-pos}
 use Rattle.std.proofs.lemmas.Int.{ints}
 use Rattle.lay_units.specs.Units.{IsPosition}
+use Rattle.lay_units.specs.TabStops.{next_stop}
 use Rattle.lay_floats.specs.Within.{IsWithin}
 use Rattle.lay_line_content.specs.declared.content.Part.{Part}
 use Rattle.lay_line_content.specs.declared.content.Part.TheVariants.{Space, PreservedSpace, Tab, Linefeed, Text, Start, End, Atomic}
 use Rattle.lay_line_content.specs.declared.content.Stretch.{Stretch}
 use Rattle.lay_line_content.specs.declared.frame.Frame.{Frame}
 use Rattle.lay_line_content.specs.declared.pen.Pen.{Pen}
-use Rattle.lay_line_content.specs.Pens.{next_stop, went, moved, over, over_all, past_at, start_of, pen_to, PenFits, PensFit, ContentFits}
+use Rattle.lay_line_content.specs.Pens.{went, moved, over, over_all, past_at, start_of, pen_to, PenFits, PensFit, ContentFits}
 use Rattle.lay_line_content.specs.LineContents.{spread_of_part, spread_of_parts, spread_of}
 use Rattle.lay_valign.specs.Near.{distance}
 use Rattle.lay_line_content.proofs.PenOrder.{times_more}

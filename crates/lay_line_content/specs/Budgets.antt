@@ -4,7 +4,8 @@ use Rattle.lay_valign.specs.Near.{distance}
 use Rattle.lay_line_content.specs.declared.budgets.Budget.{Budget}
 use Rattle.lay_line_content.specs.declared.content.Part.{Part}
 use Rattle.lay_line_content.specs.declared.content.Stretch.{Stretch}
-use Rattle.lay_line_content.specs.LineContents.{boxes_of, boxes_of_part, hull_of_part, hulls_of, spread_of, spread_of_part, spread_of_parts, total, weight_of, weight_of_stretch}
+use Rattle.lay_line_content.specs.LineContents.{boxes_of, boxes_of_part, hull_of_part, hulls_of, spread_of}
+use Rattle.lay_line_content.specs.LineContents.{spread_of_part, spread_of_parts, total, weight_of, weight_of_stretch}
 
 -- as much as any content can come to
 abbrev pub full_budget : Budget

@@ -2,7 +2,8 @@
 -- inline boxes that are open at the line's start, outermost first, and then in order each inline box that starts on the
 -- line and each atomic box on it. An inline box has a part on each line from its start to its end. The parent of
 -- a part is the innermost inline box that is open there, or the strut.
-use Rattle.std.specs.Prelude.{ℕ, zero, suc, pos, ℤ, ◌+ℤ◌, ◌-◌, Bool, false, ◌||◌, List, [], ◌∷◌, ◌++◌, length, take, slice_index, Option, Some, None, slice_get}
+use Rattle.std.specs.Prelude.{ℕ, zero, suc, pos, ℤ, ◌+ℤ◌, ◌-◌, Bool, false, ◌||◌, List, [], ◌∷◌}
+use Rattle.std.specs.Prelude.{◌++◌, length, take, slice_index, Option, Some, None, slice_get}
 use Rattle.lay_units.specs.declared.length.Unit.{Unit}
 use Rattle.lay_valign.specs.declared.parts.LineShape.{LineShape}
 use Rattle.lay_valign.specs.declared.parts.Part.{Part as LinePart}

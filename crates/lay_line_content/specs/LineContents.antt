@@ -1,5 +1,6 @@
 -- The content of the lines of a block container, and its bounds.
-use Rattle.std.specs.Prelude.{ℕ, ⊤, ◌≡◌, ◌+◌, ◌-◌, ◌*◌, ◌/◌, ◌<◌, ◌≤◌, ◌^◌, ℤ, pos, negsuc, ◌≤ℤ◌, List, [], ◌∷◌, length, slice_get, Some, All}
+use Rattle.std.specs.Prelude.{ℕ, ⊤, ◌≡◌, ◌+◌, ◌-◌, ◌*◌, ◌/◌, ◌<◌, ◌≤◌, ◌^◌, ℤ, pos}
+use Rattle.std.specs.Prelude.{negsuc, ◌≤ℤ◌, List, [], ◌∷◌, length, slice_get, Some, All}
 use Rattle.lay_units.specs.Units.{IsUsed}
 use Rattle.lay_units.specs.declared.length.Unit.{Unit}
 use Rattle.lay_floats.specs.Within.{IsWithin}

@@ -1,9 +1,10 @@
 -- How far the content of a line has come after some of it (CSS 2.2, 9.4.2 and 16.6). Places are counted from
 -- the left content edge of the container, since tab stops are. A collapsible space at the start of a line is
 -- removed, and a space at its end doesn't count for what fits.
-use Rattle.std.specs.Prelude.{ℕ, zero, suc, ℤ, pos, negsuc, ◌+ℤ◌, ◌-ℤ◌, ◌*ℤ◌, Bool, true, false, ◌||◌, if◌then◌else◌, List, [], ◌∷◌, Option, Some, None, slice_get, ◌≡◌}
-use Rattle.std.specs.Int.{int_div_euclid}
+use Rattle.std.specs.Prelude.{ℕ, zero, suc, ℤ, pos, ◌+ℤ◌, ◌-ℤ◌, Bool, true, false}
+use Rattle.std.specs.Prelude.{◌||◌, if◌then◌else◌, List, [], ◌∷◌, Option, Some, None, slice_get, ◌≡◌}
 use Rattle.lay_units.specs.Units.{IsPosition}
+use Rattle.lay_units.specs.TabStops.{next_stop}
 use Rattle.lay_line_content.specs.declared.content.Part.{Part}
 use Rattle.lay_line_content.specs.declared.content.Part.TheVariants.{Space, PreservedSpace, Tab, Linefeed, Text, Start, End, Atomic}
 use Rattle.lay_line_content.specs.declared.content.Stretch.{Stretch}
@@ -13,12 +14,6 @@ use Rattle.lay_line_content.specs.declared.pen.Pen.{Pen}
 -- the height of the container's strut (10.8.1), over which floats are beside a line
 abbrev pub strut_height : Frame → ℤ
 strut_height fr = fr.strut.above.0 +ℤ fr.strut.below.0
-
--- the next tab stop, where stops are this far apart. There are none where that is 0.
-abbrev pub next_stop : ℤ → ℤ → ℤ
-next_stop (pos zero) at = at
-next_stop (pos (suc s)) at = (int_div_euclid at (pos (suc s)) +ℤ pos 1) *ℤ pos (suc s)
-next_stop (negsuc s) at = at
 
 -- no content yet
 abbrev pub blank : ℤ → Pen

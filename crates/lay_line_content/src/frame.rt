@@ -4,8 +4,7 @@ ghost use Rattle.std.specs.Prelude.{◌≡◌};
 ghost use Rattle.lay_units.specs.Units.{IsPosition};
 ghost use Rattle.lay_line_content.specs.Pens.{strut_height};
 
-use crate::arithmetic::plus;
-use lay_units::Unit;
+use lay_units::{Unit, plus};
 
 /// How far something reaches above and below the baseline.
 #[derive(Clone, Copy)]

@@ -6,7 +6,6 @@
 //! line, and the inline boxes that are open after it).
 #![tactic(auto)]
 
-mod arithmetic;
 mod bounds;
 mod budgets;
 mod content;

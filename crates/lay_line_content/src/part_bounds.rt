@@ -1,6 +1,6 @@
 //! Whether inline boxes and atomic boxes are within their bounds.
 
-ghost use Rattle.std.specs.Prelude.{◌≡◌, ◌↔◌, ◌^◌, pos, ◌+ℤ◌, IsTrue, All};
+ghost use Rattle.std.specs.Prelude.{◌≡◌, ◌↔◌, ◌^◌, pos, IsTrue, All};
 ghost use Rattle.lay_floats.specs.Within.{IsWithin};
 ghost use Rattle.lay_valign.specs.PartsFit.{length_of};
 ghost use Rattle.lay_line_content.specs.Extents.{height_of};

@@ -1,28 +1,14 @@
 //! How far the content of a line has come.
 
-ghost use Rattle.std.specs.Prelude.{◌≡◌, ◌≤◌, ◌+ℤ◌, ◌∷◌, length, take, IsTrue};
+ghost use Rattle.std.specs.Prelude.{◌≡◌, ◌≤◌, length};
 ghost use Rattle.lay_units.specs.Units.{IsPosition};
-ghost use Rattle.lay_line_content.specs.Pens.{
-  next_stop,
-  blank,
-  went,
-  moved,
-  spaced,
-  hung,
-  over,
-  over_all,
-  past,
-  start_of,
-  pen_to,
-  PenFits,
-  PensFit,
-  ContentFits,
-};
+ghost use Rattle.lay_units.specs.TabStops.{next_stop};
+ghost use Rattle.lay_line_content.specs.Pens.{blank, went, moved, spaced, hung, over, over_all};
+ghost use Rattle.lay_line_content.specs.Pens.{past, start_of, pen_to, PenFits, PensFit, ContentFits};
 
-use crate::arithmetic::{plus, wide_minus};
 use crate::content::{Part, Stretch};
 use crate::frame::Frame;
-use lay_units::Unit;
+use lay_units::{Unit, plus, wide_minus};
 
 /// How far content has come, counted from the container's left content edge: where more would begin, where
 /// it ends without the spaces at its end, and where without a collapsible one; whether something stands that

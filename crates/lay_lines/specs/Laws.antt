@@ -14,13 +14,16 @@ OneListOfRows = (start : Position) (a b : Laid) → AreRows start a → AreRows 
 
 abbrev pub OneLines : Type 0
 OneLines =
-    (c : LineContentValue) (left right : Unit) (top : ℤ) (floats : List Placed) (a b : LinesValue) → AreLines c left right top floats a → AreLines c left right top floats b → a ≡ b
+    (c : LineContentValue) (left right : Unit) (top : ℤ) (floats : List Placed) (a b : LinesValue)
+    → AreLines c left right top floats a → AreLines c left right top floats b → a ≡ b
 
 -- between edges at most 2^50 units from the origin, where the top and all floats are at most r from it
 abbrev pub LinesAreNear : Type 0
 LinesAreNear =
-    (c : LineContentValue) (left right : Unit) (top : ℤ) (before : List Placed) (v : LinesValue) (r : ℕ) → IsLineContent c → IsWithin (pos (2 ^ 50)) left.0 → IsWithin (pos (2 ^ 50)) right.0 → 2 ^ 50 ≤ r
-    → r ≤ 2 ^ 60 → IsWithin (pos r) top → All (BoxWithin (pos r)) before → AreLines c left right top before v → LinesWithin (pos (r + growth c)) v
+    (c : LineContentValue) (left right : Unit) (top : ℤ) (before : List Placed) (v : LinesValue) (r : ℕ)
+    → IsLineContent c → IsWithin (pos (2 ^ 50)) left.0 → IsWithin (pos (2 ^ 50)) right.0 → 2 ^ 50 ≤ r
+    → r ≤ 2 ^ 60 → IsWithin (pos r) top → All (BoxWithin (pos r)) before → AreLines c left right top before v
+    → LinesWithin (pos (r + growth c)) v
 
 -- the floats that have a place are those of the content, each as often
 abbrev pub EachFloatHasAPlace : Type 0

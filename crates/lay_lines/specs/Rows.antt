@@ -150,4 +150,5 @@ row_of e headed filled after =
 
 -- what the code answers of a line
 abbrev pub ended_of : Row → Ended
-ended_of r = record { top = record { 0 = r.top }; reach = r.reach; shifts = r.shifts; extent = r.extent; seen = r.seen; to = record { 0 = r.to } }
+ended_of r =
+    record { top = record { 0 = r.top }; reach = r.reach; shifts = r.shifts; extent = r.extent; seen = r.seen; to = record { 0 = r.to } }

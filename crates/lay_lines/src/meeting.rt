@@ -1,6 +1,6 @@
 //! A line meets floats.
 
-ghost use Rattle.std.specs.Prelude.{◌≡◌, ◌≤◌, ℤ, IsTrue, IsFalse, List, length, IfOk, IfErr};
+ghost use Rattle.std.specs.Prelude.{◌≡◌, ◌≤◌, ℤ, IsTrue, IsFalse, length, IfOk, IfErr};
 ghost use Rattle.lay_floats.specs.FloatPlace.{IsFloatPlace};
 ghost use Rattle.lay_lines.specs.Meeting.{
   State,

@@ -1,6 +1,6 @@
 //! What a line takes.
 
-ghost use Rattle.std.specs.Prelude.{◌≡◌, ◌↔◌, suc, ◌+◌, ◌<◌, ◌≤◌, ℕ, IsTrue, IsFalse, List, length, slice_get, Some, IfOk, IfErr, OnOk};
+ghost use Rattle.std.specs.Prelude.{◌≡◌, ◌↔◌, suc, ◌+◌, ◌<◌, ◌≤◌, ℕ, IsTrue, IsFalse, length, slice_get, Some, IfOk, IfErr, OnOk};
 ghost use Rattle.lay_floats.specs.SolidPlace.{IsAlone};
 ghost use Rattle.lay_line_content.specs.declared.content.Stretch.{Stretch as StretchValue};
 ghost use Rattle.lay_line_content.specs.Pens.{strut_height};

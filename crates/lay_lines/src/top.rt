@@ -1,8 +1,7 @@
 //! Where a line stands.
 
-ghost use Rattle.std.specs.Prelude.{◌≡◌, ◌↔◌, ◌<◌, ℤ, ◌≤ℤ◌, ◌<ℤ◌, IsTrue, List, length, None, IfSome};
+ghost use Rattle.std.specs.Prelude.{◌≡◌, ◌↔◌, ◌<◌, ℤ, ◌≤ℤ◌, ◌<ℤ◌, IsTrue, length, None, IfSome};
 ghost use Rattle.lay_units.specs.Units.{IsPosition};
-ghost use Rattle.lay_floats.specs.SolidPlace.{IsAlone};
 ghost use Rattle.lay_line_content.specs.Pens.{strut_height};
 ghost use Rattle.lay_lines.specs.Meeting.{IsLineRoom, RoomsFit};
 ghost use Rattle.lay_lines.specs.Filling.{HasFit, Begins, IsTop};

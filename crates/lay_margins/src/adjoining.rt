@@ -1,6 +1,6 @@
 //! Runs of adjoining margins (CSS 2.2, 8.3.1).
 
-ghost use Rattle.std.specs.Prelude.{◌≡◌, ◌+◌, ◌^◌, ◌<◌, ◌≤◌, ◌++◌, ◌∷◌, length, slice_get, Some, IfOk, OnOk};
+ghost use Rattle.std.specs.Prelude.{◌≡◌, ◌+◌, ◌^◌, ◌<◌, ◌≤◌, length, slice_get, Some, IfOk, OnOk};
 ghost use Rattle.lay_margins.specs.Runs.{AreRuns};
 ghost use Rattle.lay_margins.specs.RunsTo.{RunsTo, closed};
 

@@ -1,9 +1,8 @@
 -- What one block alone and floats alone come to.
-use Rattle.std.proofs.Common.{◌≡◌, ◌∙◌, ℤ, pos, ◌+ℤ◌, ◌≤ℤ◌, List, [], ◌∷◌, map, refl, sym, ap, arith}
+use Rattle.std.proofs.Common.{◌≡◌, ◌∙◌, ℤ, pos, ◌+ℤ◌, List, [], ◌∷◌, map, refl, ap, arith}
 use Rattle.std.specs.Int.{int_max}
 use Rattle.std.proofs.lemmas.Int.{ints, clamps}
-use Rattle.lay_units.specs.declared.length.Unit.{Unit as Length}
-use Rattle.lay_measure.specs.Children.{block, float, floats_first, greatest_after}
+use Rattle.lay_measure.specs.Children.{float, floats_first, greatest_after}
 use Rattle.lay_measure.specs.Laws.{FloatsAloneAddUp, LoneBlockGivesItsWidths, preferred_sum}
 use Rattle.lay_measure.specs.declared.preferred_widths.PreferredWidths.{PreferredWidths}
 

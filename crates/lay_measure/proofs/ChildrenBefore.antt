@@ -10,10 +10,6 @@ use Rattle.lay_measure.specs.declared.children.ChildTotals.{ChildTotals}
 use Rattle.lay_measure.specs.MeasureInValue.{MeasureInValue}
 use Rattle.lay_measure.specs.PreferredWidths.{as_child, children}
 
-pub length-parents : (boxes : List BoxNode) → length (box_parents boxes) ≡ length boxes
-length-parents [] = refl
-length-parents (b ∷ bs) = ap (λ n. suc n) (length-parents bs)
-
 pub parent_at : (boxes : List BoxNode) (k : ℕ) (d : BoxNode) → k < length boxes → slice_index (box_parents boxes) k ≡ (get_or boxes k d).parent
 parent_at [] k d lt = absurd (omega (arith, lt))
 parent_at (b ∷ bs) zero d lt = refl

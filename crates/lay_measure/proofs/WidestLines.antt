@@ -4,8 +4,8 @@ use Rattle.std.proofs.lemmas.Int.{ints, clamps}
 use Rattle.std.proofs.lemmas.List.{drop_more, take_more, get_or-drop}
 use Rattle.std.specs.Int.{int_max}
 use Rattle.lay_units.specs.declared.length.Unit.{Unit as Length}
+use Rattle.lay_units.specs.Lengths.{no_length}
 use Rattle.lay_measure.specs.LineWidths.{ends_line, line_width, lines_of, widest}
-use Rattle.lay_measure.specs.MeasureInValue.{no_length}
 use Rattle.lay_measure.specs.WidestLine.{widest_with}
 use Rattle.lay_measure.specs.declared.inline_widths.Lines.{Lines}
 use Rattle.lay_measure.specs.declared.line_parts.LinePart.{LinePart}

@@ -4,6 +4,7 @@
 -- percentage counts as `auto` in `width`, as `none` in `max-width`, and else as 0; margins that are `auto` are 0 too.
 use Rattle.std.specs.Prelude.{ℤ, ◌+ℤ◌, Option, Some, None}
 use Rattle.lay_units.specs.declared.length.Unit.{Unit as Length}
+use Rattle.lay_units.specs.Lengths.{no_length}
 use Rattle.lay_style.specs.LengthValues.{length_of, size_of}
 use Rattle.lay_style.specs.declared.style.Style.{Style}
 use Rattle.lay_style.specs.declared.style_lengths.LengthPercentage.{LengthPercentage}
@@ -13,7 +14,6 @@ use Rattle.lay_style.specs.declared.style_lengths.LengthPercentageOrAuto.TheVari
 use Rattle.lay_style.specs.declared.style_lengths.LengthPercentageOrNone.{LengthPercentageOrNone}
 use Rattle.lay_style.specs.declared.style_lengths.LengthPercentageOrNone.TheVariants as or_none
 use Rattle.lay_heights.specs.MinMax.{with_min_max_of}
-use Rattle.lay_measure.specs.MeasureInValue.{no_length}
 
 -- a padding or a `min-width`
 abbrev pub size_or_zero : LengthPercentage → Length

@@ -1,9 +1,11 @@
 -- What stands in the lines of a block container, by its widths (CSS 2.2, 9.4.2, 16.6 and 16.6.1): the grapheme
 -- clusters of its texts, the starts and ends of its inline boxes with their edges, atomic boxes and floats with what
 -- they take, and between them the places where lines may or have to break.
-use Rattle.std.specs.Prelude.{ℕ, ◌+◌, ◌==◌, ℤ, pos, negsuc, Bool, true, false, not, ◌&&◌, ◌||◌, List, [], ◌∷◌, ◌++◌, Option, Some, None, slice_get, if◌then◌else◌}
+use Rattle.std.specs.Prelude.{ℕ, ◌+◌, ◌==◌, Bool, false, ◌&&◌, ◌||◌}
+use Rattle.std.specs.Prelude.{List, [], ◌∷◌, ◌++◌, Option, Some, None, slice_get, if◌then◌else◌}
 use Rattle.lay_units.specs.declared.length.Unit.{Unit as Length}
 use Rattle.lay_units.specs.declared.records.ClusterWidth.{ClusterWidth}
+use Rattle.lay_units.specs.Lengths.{is_nonzero, no_length}
 use Rattle.lay_style.specs.LengthValues.{size_of}
 use Rattle.lay_style.specs.declared.style.Style.{Style}
 use Rattle.lay_box_tree.specs.declared.box_tree.BoxKind.{BoxKind}
@@ -19,7 +21,7 @@ use Rattle.lay_space.specs.declared.tokens.ClusterKind.TheVariants.{CollapsibleS
 use Rattle.lay_space.specs.Modes.{wraps}
 use Rattle.lay_space.specs.Tokens.{kind_of, next_place}
 use Rattle.lay_measure.specs.Contributions.{around_border, bounded_width, left_edges, margin_box, margin_or_zero, right_edges, size_or_zero}
-use Rattle.lay_measure.specs.MeasureInValue.{MeasureInValue, inner_at, no_length, no_widths, part_at}
+use Rattle.lay_measure.specs.MeasureInValue.{MeasureInValue, inner_at, no_widths, part_at}
 use Rattle.lay_measure.specs.ReplacedWidths.{replaced_width}
 use Rattle.lay_measure.specs.declared.line_parts.LinePart.{LinePart}
 use Rattle.lay_measure.specs.declared.line_parts.LinePart.TheVariants as part
@@ -29,10 +31,16 @@ use Rattle.lay_measure.specs.declared.preferred_widths.PreferredWidths.{Preferre
 -- preferred widths of the wrapper of a table are those of its border box: `width` and its bounds act on the table in
 -- it (17.4, 17.5.2).
 abbrev pub contribution_as : BoxKind → Style → PreferredWidths → PreferredWidths
-contribution_as (kind.Replaced w h inline) s own = record { minimum = margin_box s (replaced_width w h s); preferred = margin_box s (replaced_width w h s) }
+contribution_as (kind.Replaced w h inline) s own = record {
+  minimum = margin_box s (replaced_width w h s);
+  preferred = margin_box s (replaced_width w h s);
+}
 contribution_as kind.Wrapper s own = record { minimum = around_border s own.minimum; preferred = around_border s own.preferred }
 contribution_as kind.InlineWrapper s own = record { minimum = around_border s own.minimum; preferred = around_border s own.preferred }
-contribution_as _ s own = record { minimum = margin_box s (bounded_width s own.minimum); preferred = margin_box s (bounded_width s own.preferred) }
+contribution_as _ s own = record {
+  minimum = margin_box s (bounded_width s own.minimum);
+  preferred = margin_box s (bounded_width s own.preferred);
+}
 
 abbrev pub contribution : BoxNode → PreferredWidths → PreferredWidths
 contribution b own = contribution_as b.kind b.style own
@@ -45,28 +53,27 @@ contribution_in m k (Some b) = contribution b (inner_at m k)
 abbrev pub contribution_at : MeasureInValue → ℕ → PreferredWidths
 contribution_at m k = contribution_in m k (slice_get m.boxes k)
 
-abbrev pub is_nonzero : Length → Bool
-is_nonzero u = nonzero u.0
-  where
-    nonzero : ℤ → Bool
-    nonzero (pos n) = not (n == 0)
-    nonzero (negsuc n) = true
-
 -- 9.4.2 speaks of inline elements "with non-zero margins, padding, or borders"
 abbrev pub has_vertical_edges : Style → Bool
 has_vertical_edges s =
-    is_nonzero (margin_or_zero s.margin.top) || is_nonzero (size_of s.border.width.top.0) || is_nonzero (size_or_zero s.padding.top)
-    || is_nonzero (margin_or_zero s.margin.bottom) || is_nonzero (size_of s.border.width.bottom.0) || is_nonzero (size_or_zero s.padding.bottom)
+    is_nonzero (margin_or_zero s.margin.top).0 || is_nonzero (size_of s.border.width.top.0).0 || is_nonzero (size_or_zero s.padding.top).0
+    || is_nonzero (margin_or_zero s.margin.bottom).0 || is_nonzero (size_of s.border.width.bottom.0).0
+    || is_nonzero (size_or_zero s.padding.bottom).0
 
 abbrev pub has_left_edges : Style → Bool
-has_left_edges s = is_nonzero (margin_or_zero s.margin.left) || is_nonzero (size_of s.border.width.left.0) || is_nonzero (size_or_zero s.padding.left)
+has_left_edges s =
+    is_nonzero (margin_or_zero s.margin.left).0 || is_nonzero (size_of s.border.width.left.0).0
+    || is_nonzero (size_or_zero s.padding.left).0
 
 abbrev pub has_right_edges : Style → Bool
-has_right_edges s = is_nonzero (margin_or_zero s.margin.right) || is_nonzero (size_of s.border.width.right.0) || is_nonzero (size_or_zero s.padding.right)
+has_right_edges s =
+    is_nonzero (margin_or_zero s.margin.right).0 || is_nonzero (size_of s.border.width.right.0).0
+    || is_nonzero (size_or_zero s.padding.right).0
 
 -- where an inline box starts: the left edges stand on its first part
 abbrev pub start_of : Style → InlinePart → LinePart
-start_of s p = part.Edge (if p.first then record { 0 = left_edges s } else no_length) (has_vertical_edges s || (p.first && has_left_edges s))
+start_of s p =
+    part.Edge (if p.first then record { 0 = left_edges s } else no_length) (has_vertical_edges s || (p.first && has_left_edges s))
 
 -- where it ends: the right edges stand on its last part
 abbrev pub end_of : Style → InlinePart → LinePart

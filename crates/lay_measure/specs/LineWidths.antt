@@ -5,10 +5,12 @@
 -- they break wherever they may, or of the widest float. Spaces at the start and the end of a line don't count
 -- (16.6.1). A `text-indent` that is a length comes before the first line where that is seen; a first line that isn't
 -- seen (9.4.2) is the only one.
-use Rattle.std.specs.Prelude.{zero, suc, ℤ, pos, negsuc, ◌+ℤ◌, ◌*ℤ◌, Bool, true, false, List, [], ◌∷◌, ◌++◌, if◌then◌else◌}
+use Rattle.std.specs.Prelude.{ℤ, pos, ◌+ℤ◌, ◌*ℤ◌, Bool, true, false, List, [], ◌∷◌, ◌++◌, if◌then◌else◌}
 use Rattle.std.specs.List.{list_any}
-use Rattle.std.specs.Int.{int_max, int_div_euclid}
+use Rattle.std.specs.Int.{int_max}
 use Rattle.lay_units.specs.declared.length.Unit.{Unit as Length}
+use Rattle.lay_units.specs.Lengths.{no_length}
+use Rattle.lay_units.specs.TabStops.{next_stop}
 use Rattle.lay_style.specs.LengthValues.{length_of, size_of}
 use Rattle.lay_style.specs.declared.style.TextStyle.{TextStyle}
 use Rattle.lay_style.specs.declared.style_lengths.LengthPercentage.{LengthPercentage}
@@ -17,19 +19,13 @@ use Rattle.lay_face.specs.FaceValue.{FaceValue}
 use Rattle.lay_face.specs.Faces.{entry_of, thousandths_of}
 use Rattle.lay_space.specs.declared.segment.Segment.{Segment}
 use Rattle.lay_measure.specs.LineParts.{line_parts}
-use Rattle.lay_measure.specs.MeasureInValue.{MeasureInValue, no_length}
+use Rattle.lay_measure.specs.MeasureInValue.{MeasureInValue}
 use Rattle.lay_measure.specs.declared.line_parts.LinePart.{LinePart}
 use Rattle.lay_measure.specs.declared.line_parts.LinePart.TheVariants as part
 use Rattle.lay_measure.specs.declared.pen.Pen.{Pen}
 use Rattle.lay_measure.specs.declared.pen.Breaking.{Breaking}
 use Rattle.lay_measure.specs.declared.pen.Breaking.TheVariants as breaking
 use Rattle.lay_measure.specs.declared.preferred_widths.PreferredWidths.{PreferredWidths}
-
--- the next tab stop, where stops are this far apart. There are none where that is 0.
-abbrev pub next_stop : ℤ → ℤ → ℤ
-next_stop (pos zero) at = at
-next_stop (pos (suc s)) at = (int_div_euclid at (pos (suc s)) +ℤ pos 1) *ℤ pos (suc s)
-next_stop (negsuc s) at = at
 
 -- a line that begins here
 abbrev pub begun : Length → Pen

@@ -1,8 +1,8 @@
 -- What the preferred widths of a context depend on: its boxes, which of them have the left and the right edges of
 -- their inline boxes, the preferred widths of the inner contexts, which stand at the places of their boxes, and the
 -- face.
-use Rattle.std.specs.Prelude.{ℕ, List, slice_index_or, pos}
-use Rattle.lay_units.specs.declared.length.Unit.{Unit as Length}
+use Rattle.std.specs.Prelude.{ℕ, List, slice_index_or}
+use Rattle.lay_units.specs.Lengths.{no_length}
 use Rattle.lay_box_tree.specs.declared.box_tree.BoxNode.{BoxNode}
 use Rattle.lay_box_tree.specs.declared.inline_part.InlinePart.{InlinePart}
 use Rattle.lay_box_tree.specs.InlineParts.{no_part}
@@ -14,9 +14,6 @@ pub record MeasureInValue : Type 0 where
   pub parts : List InlinePart
   pub inner : List PreferredWidths
   pub face : FaceValue
-
-abbrev pub no_length : Length
-no_length = record { 0 = pos 0 }
 
 abbrev pub no_widths : PreferredWidths
 no_widths = record { minimum = no_length; preferred = no_length }

@@ -45,7 +45,8 @@ children m p k (b ∷ bs) =
 
 -- those of a context whose own box is this one: a replaced element has the width of the replaced rules
 abbrev pub preferred_as : MeasureInValue → BoxKind → Style → PreferredWidths
-preferred_as m (kind.Replaced w h inline) s = record { minimum = record { 0 = replaced_width w h s }; preferred = record { 0 = replaced_width w h s } }
+preferred_as m (kind.Replaced w h inline) s =
+    record { minimum = record { 0 = replaced_width w h s }; preferred = record { 0 = replaced_width w h s } }
 preferred_as m _ s = content_widths m 0 (children m 0 1 (drop 1 m.boxes))
 
 abbrev pub preferred_in : MeasureInValue → Option BoxNode → PreferredWidths

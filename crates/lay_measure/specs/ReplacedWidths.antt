@@ -2,8 +2,7 @@
 -- the rules for replaced elements, where a percentage of `width` and `height` counts as `auto`, one of `min-width`
 -- and `min-height` as 0, and one of `max-width` and `max-height` as `none`. It is both preferred widths of the
 -- element. Natural sizes are from 1 unit on.
-use Rattle.std.specs.Prelude.{ℤ, pos}
-use Rattle.std.specs.Int.{int_max}
+use Rattle.std.specs.Prelude.{ℤ}
 use Rattle.lay_units.specs.Units.{clamp_size_of}
 use Rattle.lay_units.specs.declared.length.Unit.{Unit as Length}
 use Rattle.lay_units.specs.declared.records.Len.{Len}
@@ -11,7 +10,7 @@ use Rattle.lay_units.specs.declared.records.Len.TheVariants.{Auto as auto, Of as
 use Rattle.lay_style.specs.declared.style.Style.{Style}
 use Rattle.lay_style.specs.declared.style_lengths.LengthPercentageOrAuto.{LengthPercentageOrAuto}
 use Rattle.lay_style.specs.declared.style_lengths.LengthPercentageOrAuto.TheVariants as or_auto
-use Rattle.lay_widths.specs.ReplacedSizes.{sizes_for}
+use Rattle.lay_widths.specs.ReplacedSizes.{sizes_for, natural_length}
 use Rattle.lay_widths.specs.declared.replaced.ReplacedIn.{ReplacedIn}
 use Rattle.lay_style.specs.LengthValues.{size_of}
 use Rattle.lay_measure.specs.Contributions.{limit_of, size_or_zero}
@@ -21,14 +20,11 @@ length_or_auto or_auto.Auto = auto
 length_or_auto (or_auto.Length u) = of (size_of u.0)
 length_or_auto (or_auto.Percent h) = auto
 
-abbrev pub natural_size : Length → Length
-natural_size u = record { 0 = int_max (pos 1) (clamp_size_of u.0) }
-
 -- an element of these natural sizes and this style
 abbrev pub replaced_of : Length → Length → Style → ReplacedIn
 replaced_of w h s = record {
-  natural_width = natural_size w;
-  natural_height = natural_size h;
+  natural_width = natural_length w;
+  natural_height = natural_length h;
   width = length_or_auto s.sizing.width;
   height = length_or_auto s.sizing.height;
   min_width = size_or_zero s.sizing.min_width;

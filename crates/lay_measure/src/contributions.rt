@@ -1,7 +1,8 @@
 //! What a box takes of the preferred widths of what is around it.
 
-ghost use Rattle.std.specs.Prelude.{◌≡◌, slice_get, IfOk};
-ghost use Rattle.lay_measure.specs.Contributions.{around_border, bounded_width, given_or, left_edges, limit_of, margin_box, margin_or_zero, right_edges, size_or_zero};
+ghost use Rattle.std.specs.Prelude.{◌≡◌, IfOk};
+ghost use Rattle.lay_measure.specs.Contributions.{around_border, bounded_width, given_or, left_edges, limit_of};
+ghost use Rattle.lay_measure.specs.Contributions.{margin_box, margin_or_zero, right_edges, size_or_zero};
 ghost use Rattle.lay_measure.specs.LineParts.{contribution, contribution_at};
 ghost use Rattle.lay_style.specs.LengthValues.{size_of};
 
@@ -11,8 +12,8 @@ use crate::replaced_widths::replaced_width;
 use crate::sums::sum_of_three;
 use lay_box_tree::{BoxKind, BoxNode};
 use lay_heights::with_min_max;
-use lay_style::{LengthPercentage, LengthPercentageOrAuto, LengthPercentageOrNone, Style};
-use lay_units::{NoMemory, Unit, clamp, clamp_size};
+use lay_style::{LengthPercentage, LengthPercentageOrAuto, LengthPercentageOrNone, Style, size_of};
+use lay_units::{NoMemory, Unit, clamp};
 
 /// What the atomic box or the float at a place takes.
 pub(crate) fn contribution_at(of: &MeasureIn<'_>, place: u32) -> Result<PreferredWidths, NoMemory>
@@ -140,11 +141,4 @@ pub fn limit_of(limit: LengthPercentageOrNone) -> Option<Unit>
         LengthPercentageOrNone::Length(length) => Some(size_of(length)),
         LengthPercentageOrNone::None | LengthPercentageOrNone::Percent(_) => None,
     }
-}
-
-/// A length that can't be negative.
-pub(crate) fn size_of(length: Unit) -> Unit
-    ensures { result ≡ size_of length.0 }
-{
-    clamp_size(i128::from(length.0))
 }

@@ -1,17 +1,18 @@
 //! What stands in lines, by its widths.
 
 ghost use Rattle.std.specs.Prelude.{◌≡◌, ◌++◌, ◌∷◌, [], slice_get, OnOk, IfOk};
-ghost use Rattle.lay_measure.specs.LineParts.{cluster_part, end_in, end_of, has_left_edges, has_right_edges, has_vertical_edges, is_nonzero, line_parts, part_between, parts_at, parts_of, start_in, start_of, text_parts};
+ghost use Rattle.lay_measure.specs.LineParts.{cluster_part, end_in, end_of, has_left_edges, has_right_edges, has_vertical_edges};
+ghost use Rattle.lay_measure.specs.LineParts.{line_parts, part_between, parts_at, parts_of, start_in, start_of, text_parts};
 
 use crate::contributions::{
-    contribution_at, left_edges, margin_or_zero, right_edges, size_of, size_or_zero,
+    contribution_at, left_edges, margin_or_zero, right_edges, size_or_zero,
 };
 use crate::measure_in::MeasureIn;
 use crate::preferred_widths::PreferredWidths;
 use lay_box_tree::InlinePart;
 use lay_space::{ClusterKind, Item, Mode, Segment, cluster_kind, next_place};
-use lay_style::Style;
-use lay_units::{ClusterWidth, NoMemory, Unit};
+use lay_style::{Style, size_of};
+use lay_units::{ClusterWidth, NoMemory, Unit, is_nonzero};
 use std::alloc::Global;
 
 /// Something in a line, in 1/64 px.
@@ -167,34 +168,28 @@ fn end_of(style: &Style, part: InlinePart) -> Result<LinePart, NoMemory>
 fn has_vertical_edges(style: &Style) -> bool
     ensures { result ≡ has_vertical_edges style.now }
 {
-    is_nonzero(margin_or_zero(style.margin.top))
-        || is_nonzero(size_of(style.border.width.top))
-        || is_nonzero(size_or_zero(style.padding.top))
-        || is_nonzero(margin_or_zero(style.margin.bottom))
-        || is_nonzero(size_of(style.border.width.bottom))
-        || is_nonzero(size_or_zero(style.padding.bottom))
+    is_nonzero(margin_or_zero(style.margin.top).0)
+        || is_nonzero(size_of(style.border.width.top).0)
+        || is_nonzero(size_or_zero(style.padding.top).0)
+        || is_nonzero(margin_or_zero(style.margin.bottom).0)
+        || is_nonzero(size_of(style.border.width.bottom).0)
+        || is_nonzero(size_or_zero(style.padding.bottom).0)
 }
 
 fn has_left_edges(style: &Style) -> bool
     ensures { result ≡ has_left_edges style.now }
 {
-    is_nonzero(margin_or_zero(style.margin.left))
-        || is_nonzero(size_of(style.border.width.left))
-        || is_nonzero(size_or_zero(style.padding.left))
+    is_nonzero(margin_or_zero(style.margin.left).0)
+        || is_nonzero(size_of(style.border.width.left).0)
+        || is_nonzero(size_or_zero(style.padding.left).0)
 }
 
 fn has_right_edges(style: &Style) -> bool
     ensures { result ≡ has_right_edges style.now }
 {
-    is_nonzero(margin_or_zero(style.margin.right))
-        || is_nonzero(size_of(style.border.width.right))
-        || is_nonzero(size_or_zero(style.padding.right))
-}
-
-fn is_nonzero(length: Unit) -> bool
-    ensures { result ≡ is_nonzero length }
-{
-    length.0 != 0
+    is_nonzero(margin_or_zero(style.margin.right).0)
+        || is_nonzero(size_of(style.border.width.right).0)
+        || is_nonzero(size_or_zero(style.padding.right).0)
 }
 
 fn push_part(parts: &mut Vec<LinePart>, part: LinePart) -> Result<(), NoMemory>

@@ -1,6 +1,6 @@
 //! The preferred widths of a context.
 
-ghost use Rattle.std.specs.Prelude.{ℕ, List, ◌≡◌, ◌≢◌, ◌<◌, ◌≤◌, ◌+◌, ◌++◌, drop, length, slice_get, Some, IfOk, OnOk};
+ghost use Rattle.std.specs.Prelude.{ℕ, List, ◌≡◌, ◌≢◌, ◌<◌, ◌≤◌, ◌+◌, drop, length, slice_get, Some, IfOk, OnOk};
 ghost use Rattle.lay_doc.specs.Tree.{IsTree};
 ghost use Rattle.lay_box_tree.specs.BoxColumns.{box_parents};
 ghost use Rattle.lay_box_tree.specs.Containers.{box_parent};
@@ -56,7 +56,8 @@ fn own_box_widths(
 }
 
 fn replaced_widths(w: Unit, h: Unit, style: &Style) -> PreferredWidths
-    ensures { result ≡ record { minimum = record { 0 = replaced_width w h style.now }; preferred = record { 0 = replaced_width w h style.now } } }
+    ensures { result
+        ≡ record { minimum = record { 0 = replaced_width w h style.now }; preferred = record { 0 = replaced_width w h style.now } } }
 {
     let width = replaced_width(w, h, style);
     PreferredWidths {
@@ -147,7 +148,8 @@ fn child_widths(
     requires tree { IsTree (box_parents of.now.boxes) }
     requires few { length of.now.boxes ≤ 4294967295 }
     requires inside { k < length of.now.boxes }
-    ensures { IfOk result (λ w. (cs : List Child) → inside ≡ totals_of cs → w ≡ contribution node.now (own_widths of.now k (role_of node.now) cs)) }
+    ensures { IfOk result
+        (λ w. (cs : List Child) → inside ≡ totals_of cs → w ≡ contribution node.now (own_widths of.now k (role_of node.now) cs)) }
 {
     let own = own_widths(alloc, of, k, node.role(), inside)?;
     contribution(node, own)

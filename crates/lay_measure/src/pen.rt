@@ -1,7 +1,9 @@
 //! How wide lines are.
 
-ghost use Rattle.std.specs.Prelude.{◌≡◌, ◌+ℤ◌, ◌*ℤ◌, IfOk};
-ghost use Rattle.lay_measure.specs.LineWidths.{begun, ends_line, float_sum, hung, line_width, moved, next_stop, over, over_all, spaced, went, widest_float, width_for};
+ghost use Rattle.std.specs.Prelude.{◌≡◌, ◌*ℤ◌, IfOk};
+ghost use Rattle.lay_units.specs.TabStops.{next_stop};
+ghost use Rattle.lay_measure.specs.LineWidths.{begun, ends_line, float_sum, hung, line_width, moved};
+ghost use Rattle.lay_measure.specs.LineWidths.{over, over_all, spaced, went, widest_float, width_for};
 
 use crate::line_parts::LinePart;
 use crate::preferred_widths::PreferredWidths;

@@ -1,15 +1,16 @@
 //! Widths of replaced elements.
 
-ghost use Rattle.std.specs.Prelude.{◌≡◌, pos, ◌≤ℤ◌, IfSome};
-ghost use Rattle.lay_widths.specs.Lengths.{IsSize, LenIsSize};
+ghost use Rattle.std.specs.Prelude.{◌≡◌, IfSome};
+ghost use Rattle.lay_units.specs.Units.{IsSize};
+ghost use Rattle.lay_widths.specs.Lengths.{LenIsSize};
 ghost use Rattle.lay_widths.specs.ReplacedFits.{ReplacedFits};
-ghost use Rattle.lay_measure.specs.ReplacedWidths.{length_or_auto, natural_size, replaced_of, replaced_width};
+ghost use Rattle.lay_measure.specs.ReplacedWidths.{length_or_auto, replaced_of, replaced_width};
 ghost use Rattle.lay_measure.specs.Contributions.{limit_of, size_or_zero};
 
-use crate::contributions::{limit_of, size_of, size_or_zero};
-use lay_style::{LengthPercentage, LengthPercentageOrAuto, LengthPercentageOrNone, Style};
-use lay_units::{Len, Unit, clamp_size};
-use lay_widths::{ReplacedIn, replaced_size};
+use crate::contributions::{limit_of, size_or_zero};
+use lay_style::{LengthPercentage, LengthPercentageOrAuto, LengthPercentageOrNone, Style, size_of};
+use lay_units::{Len, Unit};
+use lay_widths::{ReplacedIn, natural_length, replaced_size};
 
 /// The width of a replaced element of these natural sizes, whatever is around it.
 pub(crate) fn replaced_width(w: Unit, h: Unit, style: &Style) -> Unit
@@ -24,8 +25,8 @@ fn replaced_of(w: Unit, h: Unit, style: &Style) -> ReplacedIn
 {
     let sizing = &style.sizing;
     ReplacedIn {
-        natural_width: natural_size(w),
-        natural_height: natural_size(h),
+        natural_width: natural_length(w),
+        natural_height: natural_length(h),
         width: length_or_auto(sizing.width),
         height: length_or_auto(sizing.height),
         min_width: least(sizing.min_width),
@@ -33,15 +34,6 @@ fn replaced_of(w: Unit, h: Unit, style: &Style) -> ReplacedIn
         min_height: least(sizing.min_height),
         max_height: greatest(sizing.max_height),
     }
-}
-
-/// A natural size, which is from 1 unit on.
-fn natural_size(size: Unit) -> Unit
-    ensures value { result ≡ natural_size size }
-    ensures size { IsSize result.0 }
-    ensures positive { pos 1 ≤ℤ result.0 }
-{
-    Unit(clamp_size(i128::from(size.0)).0.max(1))
 }
 
 /// A `width` or a `height`, of which a percentage is `auto`.

@@ -1,14 +1,12 @@
 -- The works of claims.
-use Rattle.std.proofs.Common.{◌≡◌, ◌∙◌, ℕ, List, sym, ap, subst, Some}
+use Rattle.std.proofs.Common.{◌≡◌, ◌∙◌, ℕ, sym, ap, subst, Some}
 use Rattle.lay_cell_laws.specs.Laws.{OneCellLocal}
-use Rattle.lay_claims.specs.cell_work.CellInputFits.{LeadsInward}
 use Rattle.lay_claims.specs.cell_work.CellInputs.{CellInput}
 use Rattle.lay_claims.specs.cell_work.CellLocal.{IsCellLocal}
 use Rattle.lay_claims.specs.cell_work.CellValues.{CellValue}
 use Rattle.lay_claims.specs.cell_work.Claims.{Claim}
 use Rattle.lay_claims.specs.cell_work.shape.declared.cell_key.CellKey.{CellKey}
-use Rattle.lay_claims.specs.Outcomes.{AreOutcomesOf, IsOutcomeAt, IsWorkOf, Work}
-use Rattle.lay_claims.specs.declared.outcome.Outcome.{Outcome}
+use Rattle.lay_claims.specs.Outcomes.{IsOutcomeAt, IsWorkOf, Work}
 use Rattle.lay_claims.specs.declared.outcome.Outcome.TheVariants.{Done}
 use Rattle.lay_outcome_laws.specs.Laws.{BatchesAreOneByOne, OneWork}
 

@@ -1,7 +1,8 @@
 //! Sinks over memory.
 
-ghost use Rattle.std.specs.Prelude.{◌≡◌, ℕ, ◌+◌, ◌-◌, ◌<◌, ◌≤◌, ◌↔◌, ◌^◌, ◌⊎◌, ◌++◌, List, [], Option, Some, length, take, IfOk, OnErr, OnOk, IsErr, IsTrue, min};
-ghost use Rattle.lay_outside.specs.Outside.{Rose, Took};
+ghost use Rattle.std.specs.Prelude.{◌≡◌, ◌+◌, ◌-◌, ◌<◌, ◌≤◌, ◌↔◌, ◌^◌, ◌⊎◌, ◌++◌, []};
+ghost use Rattle.std.specs.Prelude.{Some, length, take, IfOk, OnErr, OnOk, IsErr, IsTrue, min};
+ghost use Rattle.lay_outside.specs.Outside.{Rose};
 ghost use Rattle.lay_outside.specs.Memory.{Room, Drain, is_listed};
 
 use crate::{Failed, Sink};
@@ -19,7 +20,7 @@ pub struct FixedSink {
 }
 
 impl Model for FixedSink {
-    ghost use Rattle.std.specs.Prelude.{List, ℕ, ◌-◌, ◌≤◌, length, vec_len, vec_capacity};
+    ghost use Rattle.std.specs.Prelude.{◌-◌, ◌≤◌, length, vec_len, vec_capacity};
     ghost use Rattle.lay_outside.specs.Memory.{Room};
 
     ghost Value = { Room };
@@ -95,12 +96,20 @@ pub struct MemSink {
 }
 
 impl Model for MemSink {
-    ghost use Rattle.std.specs.Prelude.{List, ℕ, ◌-◌, ◌≤◌, ◌<◌, length, vec_len, vec_capacity};
+    ghost use Rattle.std.specs.Prelude.{◌-◌, ◌≤◌, ◌<◌, length, vec_len, vec_capacity};
     ghost use Rattle.lay_outside.specs.Memory.{Drain};
 
     ghost Value = { Drain };
 
-    ghost view = { λ s. record { bytes = s.bytes.items; room = s.room - vec_len s.bytes; step = s.step; fail = s.fail.items; calls = s.calls; faults = s.faults } };
+    ghost view = { λ s.
+        record {
+          bytes = s.bytes.items;
+          room = s.room - vec_len s.bytes;
+          step = s.step;
+          fail = s.fail.items;
+          calls = s.calls;
+          faults = s.faults;
+        } };
 
     ghost invariant = { λ s. (vec_len s.bytes ≤ s.room) × (s.room ≤ vec_capacity s.bytes) × (0 < s.step) };
 }
@@ -143,7 +152,8 @@ impl Sink for MemSink {
         ensures failed { OnErr result (Rose self.old.faults self.new.faults) }
         ensures never_falls { self.old.faults ≤ self.new.faults }
 
-        ensures fails_only { self.old.calls < 2 ^ 64 - 1 → IsErr result → IsTrue (is_listed self.old.fail self.old.calls) ⊎ ((self.old.room ≡ 0) × (0 < length piece.now)) }
+        ensures fails_only { self.old.calls < 2 ^ 64 - 1 → IsErr result
+            → IsTrue (is_listed self.old.fail self.old.calls) ⊎ ((self.old.room ≡ 0) × (0 < length piece.now)) }
         ensures fails_where_listed { self.old.calls < 2 ^ 64 - 1 → IsTrue (is_listed self.old.fail self.old.calls) → IsErr result }
         ensures fails_where_full { self.old.room ≡ 0 → 0 < length piece.now → IsErr result }
         ensures amount { IfOk result (λ n. n ≡ min (length piece.now) (min self.old.step self.old.room)) }

@@ -1,6 +1,7 @@
 //! Sources over memory.
 
-ghost use Rattle.std.specs.Prelude.{◌≡◌, ℕ, ◌+◌, ◌-◌, ◌<◌, ◌≤◌, ◌↔◌, ◌^◌, List, [], Option, Some, length, take, drop, IfOk, OnErr, OnOk, IsErr, IsOk, IsTrue, min};
+ghost use Rattle.std.specs.Prelude.{◌≡◌, ℕ, ◌+◌, ◌-◌, ◌<◌, ◌≤◌, ◌↔◌, ◌^◌, List, [], Some};
+ghost use Rattle.std.specs.Prelude.{length, drop, IfOk, OnErr, OnOk, IsErr, IsOk, IsTrue, min};
 ghost use Rattle.lay_outside.specs.Outside.{Rose, GivesNext};
 ghost use Rattle.lay_outside.specs.Memory.{Feed, is_listed};
 
@@ -75,7 +76,8 @@ impl Model for MemSource {
 
     ghost Value = { Feed };
 
-    ghost view = { λ s. record { bytes = drop s.at s.bytes.items; step = s.step; fail = s.fail.items; calls = s.calls; faults = s.faults } };
+    ghost view = { λ s.
+        record { bytes = drop s.at s.bytes.items; step = s.step; fail = s.fail.items; calls = s.calls; faults = s.faults } };
 
     ghost invariant = { λ s. (s.at ≤ length s.bytes.items) × (0 < s.step) };
 }

@@ -1,6 +1,6 @@
 //! Writing a text into a sink.
 
-ghost use Rattle.std.specs.Prelude.{◌≡◌, ℕ, ◌<◌, ◌≤◌, take, drop, length, Some, Option, OnOk, OnErr, IfSome};
+ghost use Rattle.std.specs.Prelude.{◌≡◌, ◌<◌, ◌≤◌, drop, length, OnOk, OnErr};
 ghost use Rattle.lay_outside.specs.Outside.{Rose, Took, TookFront};
 
 use crate::{Failed, Sink};

@@ -15,6 +15,8 @@ use Rattle.lay_box_tree.specs.declared.box_tree.BoxKind.{BoxKind}
 use Rattle.lay_box_tree.specs.declared.box_tree.BoxNode.{BoxNode}
 use Rattle.lay_box_tree.specs.declared.box_tree.Flow.{Flow}
 use Rattle.lay_box_tree.specs.declared.box_tree.Flow.TheVariants.{InFlow}
+use Rattle.lay_box_tree.specs.Kinds.{is_wrapper}
+use Rattle.lay_box_tree.proofs.BoxForests.{length-parents}
 use Rattle.lay_boxgen.specs.Contexts.{IsContextAt, box_at, is_marked}
 use Rattle.lay_boxgen.specs.Laws.{inner_boxes}
 use Rattle.lay_boxgen.specs.Listing.{box_node, box_style, kind_of, listed_part, style_of, text_at}
@@ -47,7 +49,7 @@ use Rattle.lay_own_nodes.proofs.OwnList.{around-before}
 use Rattle.lay_own_nodes.proofs.PartLeaves.{place-of}
 use Rattle.lay_own_nodes.proofs.StrayForms.{or-left, or-right}
 use Rattle.lay_own_nodes.proofs.TableChains.{anonymous-by, chain, differ, none-at-own, or-cases, root-flag, root-kinds, table-kind}
-use Rattle.lay_own_nodes.proofs.TableMarks.{Marked, is_table_box, is_wrapper_kind, length-parents, marked-part}
+use Rattle.lay_own_nodes.proofs.TableMarks.{Marked, is_table_box, marked-part}
 
 abbrev pub Is : (Flow → BoxKind → Style → Bool) → BoxNode → Bool
 Is S b = S b.flow b.kind b.style
@@ -233,7 +235,7 @@ module _ (S : Flow → BoxKind → Style → Bool) (takes : TakesAnonymousTables
     table-is : (r : ℕ) → r < length (B i) → is_table_box (listed_at (B i) r) ≡ true → Is S (listed_at (B i) r) ≡ true
     table-is r inside e =
         let b = listed_at (B i) r in
-        ap (λ (x : Flow). S x b.kind b.style) (flow-in r inside (table-anonymous b.anonymous (is_wrapper_kind b.kind) e))
+        ap (λ (x : Flow). S x b.kind b.style) (flow-in r inside (table-anonymous b.anonymous (is_wrapper b.kind) e))
         ∙ table-kind S takes b.anonymous b.kind b.style e (known.automatic r inside e)
 
     abbrev Said : ℕ → Type 0

@@ -11,11 +11,12 @@ use Rattle.lay_box_tree.specs.declared.box_tree.BoxKind.TheVariants as kind
 use Rattle.lay_box_tree.specs.declared.box_tree.BoxNode.{BoxNode}
 use Rattle.lay_box_tree.specs.declared.box_tree.Flow.{Flow}
 use Rattle.lay_box_tree.specs.declared.box_tree.Flow.TheVariants.{InFlow}
+use Rattle.lay_box_tree.specs.Kinds.{is_wrapper}
 use Rattle.lay_contexts.specs.Homes.{IsHome, further, is_anonymous_root, is_root, is_wrapper_or_cell, own, parent}
 use Rattle.lay_contexts.proofs.NearestRoots.{not_own}
 use Rattle.lay_own_nodes.specs.Shrinking.{TakesAnonymousTables}
 use Rattle.lay_own_nodes.proofs.StrayForms.{or-false}
-use Rattle.lay_own_nodes.proofs.TableMarks.{Marked, is_table_box, is_wrapper_kind}
+use Rattle.lay_own_nodes.proofs.TableMarks.{Marked, is_table_box}
 
 -- Booleans.
 pub or-cases : (b c : Bool) → (b || c) ≡ true → (b ≡ true) ⊎ (c ≡ true)
@@ -31,7 +32,7 @@ not-true true h = absurd (h refl)
 not-true false h = refl
 
 -- Kinds of boxes.
-table-root : (a i : Bool) (x : BoxKind) → (a && is_wrapper_kind x) ≡ true → (i ≡ true → a ≡ false) → (a && not i && is_wrapper_or_cell x) ≡ true
+table-root : (a i : Bool) (x : BoxKind) → (a && is_wrapper x) ≡ true → (i ≡ true → a ≡ false) → (a && not i && is_wrapper_or_cell x) ≡ true
 table-root true true x e h = absurd (let z = h refl in cc)
 table-root true false kind.Wrapper e h = refl
 table-root true false kind.InlineWrapper e h = refl
@@ -42,13 +43,13 @@ module _ (S : Flow → BoxKind → Style → Bool) (takes : TakesAnonymousTables
   Is b = S b.flow b.kind b.style
 
   -- the only anonymous roots that are such ones
-  pub root-kinds : (a i : Bool) (x : BoxKind) (s : Style) → (a && not i && is_wrapper_or_cell x) ≡ true → S InFlow x s ≡ true → (a && is_wrapper_kind x) ≡ true
+  pub root-kinds : (a i : Bool) (x : BoxKind) (s : Style) → (a && not i && is_wrapper_or_cell x) ≡ true → S InFlow x s ≡ true → (a && is_wrapper x) ≡ true
   root-kinds true false kind.Wrapper s e h = refl
   root-kinds true false kind.InlineWrapper s e h = refl
   root-kinds true false (kind.Cell m n) s e h = absurd (differ (S InFlow (kind.Cell m n) s) h (takes.cell m n s))
   root-kinds _ _ x s e h = absurd cc
 
-  pub table-kind : (a : Bool) (x : BoxKind) (s : Style) → (a && is_wrapper_kind x) ≡ true → s.table.layout ≡ Auto → S InFlow x s ≡ true
+  pub table-kind : (a : Bool) (x : BoxKind) (s : Style) → (a && is_wrapper x) ≡ true → s.table.layout ≡ Auto → S InFlow x s ≡ true
   table-kind true kind.Wrapper s e h = takes.wrapper s h
   table-kind true kind.InlineWrapper s e h = takes.inline_wrapper s h
   table-kind _ x s e h = absurd cc
@@ -67,7 +68,7 @@ module _ (nodes_of : List Node) (ss : List Style) (boxes : List BoxNode) (marks 
   mark k = get_or marks k false
 
   own-no-table : is_table_box (box_at boxes 0) ≡ false
-  own-no-table = ap (λ (a : Bool). a && is_wrapper_kind (box_at boxes 0).kind) element
+  own-no-table = ap (λ (a : Bool). a && is_wrapper (box_at boxes 0).kind) element
 
   pub none-at-own : (k : ℕ) → k ≡ 0 → (mark k || is_table_box (box_at boxes k)) ≡ false
   none-at-own k z =

@@ -13,25 +13,21 @@ use Rattle.lay_anonymous_boxes.specs.declared.facts.Facts.{Facts}
 use Rattle.lay_anonymous_boxes.specs.declared.facts.Form.{Form}
 use Rattle.lay_anonymous_boxes.specs.declared.facts.Form.TheVariants as form
 use Rattle.lay_box_tree.specs.BoxColumns.{box_at, box_parents, no_box}
-use Rattle.lay_box_tree.specs.declared.box_tree.BoxKind.{BoxKind}
 use Rattle.lay_box_tree.specs.declared.box_tree.BoxKind.TheVariants as kind
 use Rattle.lay_box_tree.specs.declared.box_tree.BoxNode.{BoxNode}
+use Rattle.lay_box_tree.specs.Kinds.{is_wrapper}
+use Rattle.lay_box_tree.proofs.BoxForests.{length-parents, parents-append}
 use Rattle.lay_boxgen.specs.Listing.{all_listed, box_node, box_style, kind_of, listed, listed_part, style_of, text_at}
 use Rattle.lay_own_nodes.specs.AnonymousTables.{AllInside, EachInside, IsInStrayPart, IsKnownInside, ListInside, is_anonymous_table}
 
 -- the box is the wrapper of an anonymous table
-abbrev pub is_wrapper_kind : BoxKind → Bool
-is_wrapper_kind kind.Wrapper = true
-is_wrapper_kind kind.InlineWrapper = true
-is_wrapper_kind _ = false
-
 abbrev pub is_table_box : BoxNode → Bool
-is_table_box b = b.anonymous && is_wrapper_kind b.kind
+is_table_box b = b.anonymous && is_wrapper b.kind
 
 abbrev pub table_boxes : List BoxNode → List Bool
 table_boxes boxes = map is_table_box boxes
 
-wrapper-kind : (text : List ℕ) (x : Form) → is_wrapper_kind (kind_of text x) ≡ is_table x
+wrapper-kind : (text : List ℕ) (x : Form) → is_wrapper (kind_of text x) ≡ is_table x
 wrapper-kind text form.Wrapper = refl
 wrapper-kind text _ = refl
 
@@ -122,17 +118,9 @@ marks-grow parent at b t ps ts ms below = record {
       | inr there ↦ (let in_below = there.1 in let e = there.2 in inr (suc there.0, omega (arith, in_below), omega (arith, e), there.3))
     ]
 
-parents-append : (xs ys : List BoxNode) → box_parents (xs ++ ys) ≡ box_parents xs ++ box_parents ys
-parents-append [] ys = refl
-parents-append (x ∷ xs) ys = ap (λ (ps : List ℕ). x.parent ∷ ps) (parents-append xs ys)
-
 tables-append : (xs ys : List BoxNode) → table_boxes (xs ++ ys) ≡ table_boxes xs ++ table_boxes ys
 tables-append [] ys = refl
 tables-append (x ∷ xs) ys = ap (λ (ts : List Bool). is_table_box x ∷ ts) (tables-append xs ys)
-
-pub length-parents : (xs : List BoxNode) → length (box_parents xs) ≡ length xs
-length-parents [] = refl
-length-parents (x ∷ xs) = ap suc (length-parents xs)
 
 module _ (nodes : List Node) (styles : List Style) where
   table-is : (above : Facts) (parent : ℕ) (f : Facts) → is_table_box (box_node nodes styles above parent f) ≡ is_anonymous_table f
@@ -212,7 +200,7 @@ KnownBox nodes styles b x =
     × (is_table_box x ≡ true → x.style.table.layout ≡ Auto)
 
 -- an anonymous table has the initial `table-layout`
-automatic-style : (styles : List Style) (above f : Facts) (text : List ℕ) (a : Bool) (x : Form) → f.anonymous ≡ a → (a && is_wrapper_kind (kind_of text x)) ≡ true
+automatic-style : (styles : List Style) (above f : Facts) (text : List ℕ) (a : Bool) (x : Form) → f.anonymous ≡ a → (a && is_wrapper (kind_of text x)) ≡ true
     → (style_of styles (if is_anchor x then above else f)).table.layout ≡ Auto
 automatic-style styles above f text true form.Wrapper e h = ap (λ (b : Bool). (box_style b (style_at styles f.place)).table.layout) e
 automatic-style styles above f text true form.InlineWrapper e h = ap (λ (b : Bool). (box_style b (style_at styles f.place)).table.layout) e

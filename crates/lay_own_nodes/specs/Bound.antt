@@ -22,7 +22,8 @@ id_of d contexts i = slice_index (ids_of d.nodes) (context_at contexts i).place
 
 -- the context with the number j after an edit is that with the number i before it, with the same boxes, and says the same of all its
 -- roots: its own box, and the anonymous tables and cells in it
-pub record IsUntouched (S : Flow → BoxKind → Style → Bool) (d e : Document) (contexts later : List Context) (all rest : List FormattingContext)
+pub record IsUntouched (S : Flow → BoxKind → Style → Bool) (d e : Document) (contexts later : List Context)
+    (all rest : List FormattingContext)
     (i j : ℕ) : Type 0 where
   pub within : j < length later
   pub element : id_of e later j ≡ id_of d contexts i

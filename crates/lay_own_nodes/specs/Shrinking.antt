@@ -38,7 +38,8 @@ pub data IsWithin (S : Flow → BoxKind → Style → Bool) (nodes : List Node) 
 
 -- the own box of the formatting context with the number j is such a one, or that of one around it
 pub data IsWithinOutward (S : Flow → BoxKind → Style → Bool) (all : List FormattingContext) : ℕ → Type 0 where
-  first : (j : ℕ) → S (box_in_list (boxes_in all j) 0).flow (box_in_list (boxes_in all j) 0).kind (box_in_list (boxes_in all j) 0).style ≡ true
+  first : (j : ℕ)
+      → S (box_in_list (boxes_in all j) 0).flow (box_in_list (boxes_in all j) 0).kind (box_in_list (boxes_in all j) 0).style ≡ true
       → IsWithinOutward S all j
   outward : (j : ℕ) → 0 < j → IsWithinOutward S all (formatting_context_at all j).outer → IsWithinOutward S all j
 
@@ -79,7 +80,8 @@ UnreachedContextsStayWithin = (d : Document) (edit : Edit) (styles others : List
     → (m : ℕ) × IsKeptAt d (after d edit) styles others k m × (IsWithin S d.nodes styles k ↔ IsWithin S (after d edit).nodes others m)
 
 -- the context with the number j after an edit is that with the number i before it, and says the same of the boxes around
-pub record StaysOutward (S : Flow → BoxKind → Style → Bool) (d e : Document) (contexts later : List Context) (all rest : List FormattingContext)
+pub record StaysOutward (S : Flow → BoxKind → Style → Bool) (d e : Document) (contexts later : List Context)
+    (all rest : List FormattingContext)
     (i j : ℕ) : Type 0 where
   pub within : j < length later
   pub node : slice_index (ids_of e.nodes) (context_at later j).place ≡ slice_index (ids_of d.nodes) (context_at contexts i).place

@@ -19,4 +19,5 @@ abbrev pub IsPaintedOnce : Document → List Style → List Context → Type 0
 IsPaintedOnce d styles tree = IsPermutation (filter (λ f. is_box_or_text f.kind) (frags_of tree)) (painted d styles tree)
 
 abbrev pub SolvedDocumentsArePaintedOnce : Type 0
-SolvedDocumentsArePaintedOnce = (d : Document) (face : FaceValue) (styles : List Style) (tree : List Context) → IsDocument d → Solves d face tree → IsPaintedOnce d styles tree
+SolvedDocumentsArePaintedOnce = (d : Document) (face : FaceValue) (styles : List Style) (tree : List Context)
+    → IsDocument d → Solves d face tree → IsPaintedOnce d styles tree

@@ -1,6 +1,7 @@
 -- Corners of border boxes, beside each other in a column with an entry for each box, and within which bounds they are.
-use Rattle.std.specs.Prelude.{ℕ, ◌<◌, ℤ, pos, neg_ℤ, ◌≤ℤ◌, List, length, slice_index_or}
-use Rattle.lay_sizes.specs.UsedLengths.{no_length}
+use Rattle.std.specs.Prelude.{ℕ, ◌<◌, List, length, slice_index_or}
+use Rattle.lay_units.specs.Units.{IsNear}
+use Rattle.lay_units.specs.Lengths.{no_length}
 use Rattle.lay_pieces.specs.declared.corner.Corner.{Corner}
 
 abbrev pub no_corner : Corner
@@ -8,10 +9,6 @@ no_corner = record { x = no_length; y = no_length }
 
 abbrev pub corner_at : List Corner → ℕ → Corner
 corner_at corners i = slice_index_or corners i no_corner
-
--- at most 2^60 units from 0
-abbrev pub IsNear : ℤ → Type 0
-IsNear v = (neg_ℤ (pos 1152921504606846976) ≤ℤ v) × (v ≤ℤ pos 1152921504606846976)
 
 pub record IsCornerNear (c : Corner) : Type 0 where
   pub x : IsNear c.x.0

@@ -1,8 +1,8 @@
 -- Pieces that are near the corner from which they are counted.
 use Rattle.std.specs.Prelude.{ℕ, ◌<◌, List, length, slice_get, IfSome}
 use Rattle.lay_units.specs.declared.records.Rect.{Rect}
+use Rattle.lay_units.specs.Units.{IsNear}
 use Rattle.lay_frag.specs.declared.frag.Frag.{Frag}
-use Rattle.lay_pieces.specs.Corners.{IsNear}
 
 pub record IsRectNear (r : Rect) : Type 0 where
   pub x : IsNear r.x.0

@@ -1,9 +1,10 @@
 -- Where boxes of one formatting context stand, a column with an entry for each box: the corner and the height of the border
 -- box, and how much further down what is in it stands, as in table cells (CSS 2.2, 17.5.3).
 use Rattle.std.specs.Prelude.{ℕ, ◌<◌, List, length, slice_index_or}
-use Rattle.lay_sizes.specs.UsedLengths.{no_length}
+use Rattle.lay_units.specs.Units.{IsNear}
+use Rattle.lay_units.specs.Lengths.{no_length}
 use Rattle.lay_pieces.specs.declared.standing.Standing.{Standing}
-use Rattle.lay_pieces.specs.Corners.{IsCornerNear, IsNear, no_corner}
+use Rattle.lay_pieces.specs.Corners.{IsCornerNear, no_corner}
 
 abbrev pub no_standing : Standing
 no_standing = record { corner = no_corner; height = no_length; shift = no_length }

@@ -1,7 +1,8 @@
 //! Corners of boxes.
 
 ghost use Rattle.std.specs.Prelude.{◌≡◌, IfErr, IfOk};
-ghost use Rattle.lay_pieces.specs.Corners.{IsCornerNear, IsNear};
+ghost use Rattle.lay_units.specs.Units.{IsNear};
+ghost use Rattle.lay_pieces.specs.Corners.{IsCornerNear};
 
 use lay_units::{NoMemory, Unit};
 

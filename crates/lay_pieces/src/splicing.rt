@@ -1,9 +1,8 @@
 //! The pieces of anonymous formatting contexts among those of the one around them.
 
-ghost use Rattle.std.specs.Prelude.{◌≡◌, ◌<◌, ◌+ℤ◌, Some, length, slice_get, OnOk};
+ghost use Rattle.std.specs.Prelude.{◌≡◌, ◌<◌, Some, length, slice_get, OnOk};
 ghost use Rattle.lay_units.specs.Units.{IsPosition};
 ghost use Rattle.lay_frag.specs.Pieces.{moved};
-ghost use Rattle.lay_pieces.specs.Corners.{IsNear};
 ghost use Rattle.lay_pieces.specs.NearPieces.{AreNearPieces, IsRectNear};
 ghost use Rattle.lay_pieces.specs.PieceParts.{with_pieces};
 ghost use Rattle.lay_pieces.specs.Splicing.{border_box, spliced};
@@ -12,7 +11,7 @@ ghost use Rattle.lay_pieces.specs.Standings.{IsStandingNear};
 use crate::piece_list::PieceList;
 use crate::standing::Standing;
 use lay_frag::Frag;
-use lay_units::{NoMemory, Rect, Unit};
+use lay_units::{NoMemory, Rect, Unit, sum_of};
 
 impl PieceList {
     /// Puts behind these those of an anonymous formatting context whose box is so wide and stands so, each counted from the
@@ -88,13 +87,4 @@ fn moved(piece: Frag, right: Unit, down: Unit) -> Frag
         },
         ..piece
     }
-}
-
-/// The sum of two positions.
-fn sum_of(a: Unit, b: Unit) -> Unit
-    requires a { IsPosition a.0 }
-    requires b { IsPosition b.0 }
-    ensures { result ≡ record { 0 = a.0 +ℤ b.0 } }
-{
-    Unit(a.0 + b.0)
 }

@@ -1,5 +1,5 @@
 -- White space processing and breaks lose no anchor: one among the items of a block container is in one of its segments.
-use Rattle.std.proofs.Common.{◌≡◌, ℕ, ◌+◌, ◌==◌, ◌&&◌, ◌||◌, not, Bool, true, false, List, [], ◌∷◌, ◌++◌, map, refl, sym, ap, ◌∙◌, if◌then◌else◌}
+use Rattle.std.proofs.Common.{◌≡◌, ℕ, ◌+◌, ◌==◌, ◌&&◌, ◌||◌, Bool, true, false, List, [], ◌∷◌, ◌++◌, refl, sym, ap, ◌∙◌, if◌then◌else◌}
 use Rattle.std.specs.List.{filter, list_any}
 use Rattle.std.proofs.lemmas.List.Folds.{list_any-append}
 use Rattle.lay_units.specs.declared.records.ClusterWidth.{ClusterWidth}
@@ -10,8 +10,6 @@ use Rattle.lay_space.specs.declared.item.Item.{Item}
 use Rattle.lay_space.specs.declared.item.Item.TheVariants as item
 use Rattle.lay_space.specs.declared.segment.Segment.{Segment}
 use Rattle.lay_space.specs.declared.tokens.Cluster.{Cluster}
-use Rattle.lay_space.specs.declared.tokens.ClusterKind.{ClusterKind}
-use Rattle.lay_space.specs.declared.tokens.ClusterKind.TheVariants as kind
 use Rattle.lay_space.specs.declared.tokens.Token.{Token}
 use Rattle.lay_space.specs.declared.tokens.Token.TheVariants as token
 use Rattle.lay_space.specs.declared.breaks.Entry.{Entry}

@@ -1,5 +1,5 @@
 -- The lines of a block container take all its segments, so one of them has each anchor.
-use Rattle.std.proofs.Common.{◌≡◌, ℕ, zero, suc, ℤ, ◌-◌, ◌||◌, Bool, true, false, List, [], ◌∷◌, ◌++◌, take, drop, map, length, Some, None, refl, sym, ap, subst, ◌∙◌, arith, if◌then◌else◌}
+use Rattle.std.proofs.Common.{◌≡◌, ℕ, zero, suc, ℤ, ◌-◌, ◌||◌, Bool, true, false, List, [], ◌∷◌, ◌++◌, take, drop, map, length, Some, refl, sym, ap, subst, ◌∙◌, arith, if◌then◌else◌}
 use Rattle.std.specs.List.{list_any}
 use Rattle.std.specs.Option.{is_some}
 use Rattle.std.proofs.lemmas.List.{length-drop, map-append, take-append-drop}

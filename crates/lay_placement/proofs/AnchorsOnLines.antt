@@ -1,10 +1,7 @@
 -- An anchor in a box that holds lines is on one of them.
-use Rattle.std.proofs.Common.{◌≡◌, ℕ, zero, suc, ◌<◌, ◌&&◌, Bool, true, false, List, [], ◌∷◌, length, map, slice_index_or, Some, None, refl, sym, ap, subst, ◌∙◌, arith, if◌then◌else◌}
-use Rattle.std.specs.Option.{is_some}
+use Rattle.std.proofs.Common.{◌≡◌, ℕ, zero, suc, ◌<◌, ◌&&◌, Bool, true, false, List, [], ◌∷◌, length, slice_index_or, Some, refl, sym, ap, ◌∙◌, arith}
 use Rattle.std.proofs.Math.ListN.{get_or-map}
-use Rattle.lay_units.specs.declared.length.Unit.{Unit as Length}
 use Rattle.lay_box_tree.specs.declared.box_role.Role.{Role}
-use Rattle.lay_box_tree.specs.declared.box_role.Role.TheVariants as role
 use Rattle.lay_box_tree.specs.declared.box_tree.BoxNode.{BoxNode}
 use Rattle.lay_box_tree.specs.Roles.{role_at}
 use Rattle.lay_space.specs.declared.segment.Segment.{Segment}
@@ -20,11 +17,10 @@ use Rattle.lay_blocks.specs.declared.flow_box.FlowKind.TheVariants.{Lines as wit
 use Rattle.lay_blocks.specs.BlockFloats.{Spot, content_of, floats_before, line_content_of, lines_at, no_spot}
 use Rattle.lay_blocks.specs.BlockPositions.{is_lines}
 use Rattle.lay_blocks.specs.Boxes.{box_at}
-use Rattle.lay_blocks.specs.Lengths.{length_at}
-use Rattle.lay_blocks.specs.MarginRuns.{block_at, block_of}
+use Rattle.lay_blocks.specs.MarginRuns.{block_of}
 use Rattle.lay_box_tree.specs.Containing.{container_of}
 use Rattle.lay_box_tree.proofs.ContainerSteps.{container_within}
-use Rattle.lay_flow_boxes.specs.ContextBlocks.{content_of_box, flow_box_of, holds_lines, is_anchor, line_container, lines_in, own_block}
+use Rattle.lay_flow_boxes.specs.ContextBlocks.{content_of_box, holds_lines, is_anchor, line_container, lines_in, own_block}
 use Rattle.lay_flow_boxes.specs.InlineContainers.{is_inline_container}
 use Rattle.lay_flow_boxes.specs.LineItems.{IsInLinesAs, Sort, anchor, as_anchor, as_atomic, as_inline, as_left_float, as_right_float, as_text, sorts_of}
 use Rattle.lay_flow_boxes.specs.PlaceInputs.{PlaceInput}
@@ -32,7 +28,6 @@ use Rattle.lay_flow_boxes.proofs.FlowFacts.{kind_with}
 use Rattle.lay_flow_boxes.proofs.LinesAreItems.{boxes_in_lines_lem}
 use Rattle.lay_placement.specs.ContextPlaces.{ContextPlaces, HasPlaces, measures_of, rows_at}
 use Rattle.lay_placement.specs.Laws.{AnchorsAreOnLines}
-use Rattle.lay_placement.specs.StaticPositions.{line_top}
 use Rattle.lay_placement.proofs.AnchorSegments.{anchor_in_segments, sort_is_there}
 use Rattle.lay_placement.proofs.AnchoredRows.{all_taken, left_over, top_there}
 

@@ -2,13 +2,15 @@
 use Rattle.std.proofs.Common.{◌≡◌, ℕ, zero, suc, ◌<◌, Bool, true, false, pos, List, [], ◌∷◌, length, slice_index_or, slice_get, IfSome, Option, None, refl, sym, ap, ◌∙◌, arith, if◌then◌else◌}
 use Rattle.std.proofs.lemmas.Int.{ints}
 use Rattle.lay_units.specs.declared.length.Unit.{Unit as Length}
+use Rattle.lay_units.specs.Units.{IsNear}
+use Rattle.lay_units.specs.Lengths.{no_length}
 use Rattle.lay_frag.specs.declared.frag.Frag.{Frag}
 use Rattle.lay_box_tree.specs.declared.box_tree.BoxNode.{BoxNode}
 use Rattle.lay_box_tree.specs.BoxColumns.{box_styles}
 use Rattle.lay_box_tree.specs.InlineParts.{AreInlineParts, inline_part, no_part}
 use Rattle.lay_blocks.specs.declared.flow_box.BlockBox.{BlockBox}
 use Rattle.lay_blocks.specs.Boxes.{box_at}
-use Rattle.lay_blocks.specs.Lengths.{length_at, no_length}
+use Rattle.lay_blocks.specs.Lengths.{length_at}
 use Rattle.lay_sizes.specs.BoxSizes.{border_width}
 use Rattle.lay_sizes.specs.declared.own_boxes.OwnBox.{OwnBox}
 use Rattle.lay_sizes.specs.OwnBoxes.{OwnBoxFits, own_box}
@@ -20,7 +22,7 @@ use Rattle.lay_flow_boxes.specs.ContextBlocks.{AreFlowBoxesOf, HasLefts, flow_bo
 use Rattle.lay_flow_boxes.specs.FlowShapes.{measures_in}
 use Rattle.lay_flow_boxes.specs.PlaceInputs.{PlaceInput}
 use Rattle.lay_pieces.specs.declared.standing.Standing.{Standing}
-use Rattle.lay_pieces.specs.Corners.{IsNear, no_corner}
+use Rattle.lay_pieces.specs.Corners.{no_corner}
 use Rattle.lay_pieces.specs.NearPieces.{IsRectNear}
 use Rattle.lay_pieces.specs.PieceParts.{with_pieces}
 use Rattle.lay_pieces.specs.Placements.{Placement, PlacementFits}

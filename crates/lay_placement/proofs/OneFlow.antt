@@ -2,11 +2,12 @@
 use Rattle.std.proofs.Common.{◌≡◌, ℕ, zero, suc, ◌<◌, ℤ, pos, ◌-ℤ◌, ◌+ℤ◌, true, false, List, [], ◌∷◌, None, refl, sym, ap, arith}
 use Rattle.std.proofs.lemmas.Int.{ints}
 use Rattle.lay_units.specs.declared.length.Unit.{Unit as Length}
+use Rattle.lay_units.specs.Lengths.{no_length}
 use Rattle.lay_blocks.specs.declared.flow_box.BlockBox.{BlockBox}
 use Rattle.lay_blocks.specs.declared.flow_box.FlowBox.{FlowBox}
 use Rattle.lay_blocks.specs.declared.flow_box.FlowKind.TheVariants.{Block as block}
 use Rattle.lay_blocks.specs.declared.block.Inside.TheVariants.{Blocks as blocks_inside}
-use Rattle.lay_blocks.specs.Lengths.{no_length, length_at}
+use Rattle.lay_blocks.specs.Lengths.{length_at}
 use Rattle.lay_blocks.specs.Children.{flag_at}
 use Rattle.lay_blocks.specs.MarginRuns.{Runs, HasRuns, block_at, block_with, run_at, through_of, before_top_of, to_bottom_of, top_run_of, bottom_run_of}
 use Rattle.lay_blocks.specs.BlockLayout.{BlockLayout}

@@ -6,7 +6,8 @@
 -- seen is treated as not there (9.4.2), and what floats or is in another formatting context has lines of its own, which don't
 -- count. Of those the rows of a block-level table in flow alone count for a cell. It is counted downward from the top border
 -- edge of the own box.
-use Rattle.std.specs.Prelude.{ℕ, zero, suc, ◌+ℤ◌, ◌&&◌, Bool, true, false, List, map, length, reverse, slice_index_or, Option, None, if◌then◌else◌}
+use Rattle.std.specs.Prelude.{ℕ, zero, suc, ◌+ℤ◌, ◌&&◌, Bool, true, false, List, map}
+use Rattle.std.specs.Prelude.{length, reverse, slice_index_or, Option, None, if◌then◌else◌}
 use Rattle.std.specs.List.{find, flat_map}
 use Rattle.std.specs.Option.{option_map, option_or}
 use Rattle.lay_units.specs.declared.length.Unit.{Unit as Length}
@@ -15,11 +16,10 @@ use Rattle.lay_style.specs.declared.style_words.Overflow.TheVariants as overflow
 use Rattle.lay_style.specs.ComputedStyle.{style_at}
 use Rattle.lay_box_tree.specs.declared.box_role.Role.{Role}
 use Rattle.lay_box_tree.specs.declared.box_role.Role.TheVariants as role
-use Rattle.lay_box_tree.specs.declared.box_tree.BoxKind.{BoxKind}
 use Rattle.lay_box_tree.specs.declared.box_tree.BoxKind.TheVariants as kind
 use Rattle.lay_box_tree.specs.declared.box_tree.BoxNode.{BoxNode}
 use Rattle.lay_box_tree.specs.BoxColumns.{box_styles}
-use Rattle.lay_box_tree.specs.Kinds.{is_wrapper}
+use Rattle.lay_box_tree.specs.Kinds.{is_wrapper, is_cell}
 use Rattle.lay_box_tree.specs.Roles.{role_at}
 use Rattle.lay_lines.specs.declared.row.Ended.{Ended}
 use Rattle.lay_inlines.specs.LinePieces.{baseline_of}
@@ -69,10 +69,6 @@ first_baseline_to i places (suc k) = option_or (first_baseline_to i places k) (b
 abbrev pub is_visible : Overflow → Bool
 is_visible overflow.Visible = true
 is_visible _ = false
-
-abbrev pub is_cell : BoxKind → Bool
-is_cell (kind.Cell colspan rowspan) = true
-is_cell _ = false
 
 -- the own box is a table cell
 abbrev pub is_of_cell : List BoxNode → Bool

@@ -4,10 +4,10 @@
 -- context is its own box.
 use Rattle.std.specs.Prelude.{ℕ, zero, suc, ◌+ℤ◌, List, [], ◌∷◌, ◌++◌, length, if◌then◌else◌}
 use Rattle.lay_units.specs.declared.length.Unit.{Unit as Length}
+use Rattle.lay_units.specs.Lengths.{no_length}
 use Rattle.lay_box_tree.specs.Roles.{role_at}
 use Rattle.lay_blocks.specs.FlowPlaces.{FlowPlacesValue, box_place_at}
 use Rattle.lay_sizes.specs.OwnBoxes.{own_box_at}
-use Rattle.lay_sizes.specs.UsedLengths.{no_length}
 use Rattle.lay_box_tree.specs.ContextBoxes.{is_inner}
 use Rattle.lay_relative.specs.declared.offset.Offset.{Offset}
 use Rattle.lay_relative.specs.Moves.{move_at}

@@ -3,14 +3,12 @@
 -- boxes and its texts (CSS 2.2, 9.2.1, 9.4.1 and 9.4.2). The boxes of elements inside it that have formatting contexts of their
 -- own are pieces of those. An anonymous one is of the same element, and its pieces stand where its box does: in box order, or
 -- on its line. An anonymous box is a piece of the nearest element. On a line without anything seen nothing is.
-use Rattle.std.specs.Prelude.{ℕ, zero, suc, ◌+ℤ◌, List, [], ◌∷◌, slice_index, if◌then◌else◌}
+use Rattle.std.specs.Prelude.{ℕ, zero, suc, ◌+ℤ◌, List, [], ◌∷◌, if◌then◌else◌}
 use Rattle.std.specs.List.{flat_map}
 use Rattle.lay_units.specs.declared.records.Rect.{Rect}
 use Rattle.lay_frag.specs.declared.frag.Frag.{Frag}
 use Rattle.lay_frag.specs.declared.frag.FragKind.{FragKind}
 use Rattle.lay_frag.specs.declared.frag.FragKind.TheVariants as kind
-use Rattle.lay_box_tree.specs.declared.box_tree.BoxNode.{BoxNode}
-use Rattle.lay_box_tree.specs.BoxColumns.{box_ids}
 use Rattle.lay_box_tree.specs.Roles.{is_inline_level, role_at}
 use Rattle.lay_inlines.specs.declared.line_piece.LinePiece.{LinePiece}
 use Rattle.lay_inlines.specs.declared.line_piece.LinePieceKind.{LinePieceKind}
@@ -19,6 +17,7 @@ use Rattle.lay_sizes.specs.BoxSizes.{border_width}
 use Rattle.lay_sizes.specs.OwnBoxes.{own_box_at}
 use Rattle.lay_sizes.specs.SizeColumns.{sizes_at}
 use Rattle.lay_box_tree.specs.ContextBoxes.{is_inner}
+use Rattle.lay_box_tree.specs.InlineParts.{id_at}
 use Rattle.lay_relative.specs.declared.offset.Offset.{Offset}
 use Rattle.lay_relative.specs.Moves.{move_at}
 use Rattle.lay_flow_boxes.specs.PlaceInputs.{PlaceInput}
@@ -29,9 +28,6 @@ use Rattle.lay_placement.specs.BoxStandings.{standing_of_box}
 use Rattle.lay_placement.specs.ContextPlaces.{ContextPlaces}
 use Rattle.lay_placement.specs.OnLines.{on_lines_of}
 
-abbrev pub id_of : List BoxNode → ℕ → ℕ
-id_of boxes k = slice_index (box_ids boxes) k
-
 -- a rectangle that is moved so far
 abbrev pub moved_rect : Offset → Rect → Rect
 moved_rect o r = record { x = record { 0 = o.right.0 +ℤ r.x.0 }; y = record { 0 = o.down.0 +ℤ r.y.0 }; w = r.w; h = r.h }
@@ -40,7 +36,7 @@ moved_rect o r = record { x = record { 0 = o.right.0 +ℤ r.x.0 }; y = record { 
 abbrev pub piece_as : PlaceInput → ContextPlaces → LinePiece → FragKind → Frag
 piece_as i p piece kind = record {
   kind = kind;
-  node = record { 0 = id_of i.boxes piece.node };
+  node = record { 0 = id_at i.boxes piece.node };
   part = 0;
   rect = moved_rect (move_at p.moves piece.node) piece.rect;
 }
@@ -63,7 +59,7 @@ pieces_on_line i p piece = painted i p piece piece.kind
 abbrev pub piece_of_box : PlaceInput → ContextPlaces → ℕ → Frag
 piece_of_box i p k = record {
   kind = kind.Box;
-  node = record { 0 = id_of i.boxes k };
+  node = record { 0 = id_at i.boxes k };
   part = 0;
   rect = border_box (record { 0 = border_width (sizes_at i.sizes k) }) (standing_of_box i p k);
 }

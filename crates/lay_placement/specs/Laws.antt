@@ -4,12 +4,12 @@ use Rattle.std.specs.Prelude.{ℕ, ◌≡◌, ◌<◌, Bool, true, false, List, 
 use Rattle.std.specs.List.{list_any}
 use Rattle.std.specs.Option.{is_some}
 use Rattle.lay_units.specs.declared.length.Unit.{Unit as Length}
+use Rattle.lay_units.specs.Lengths.{no_length}
 use Rattle.lay_frag.specs.declared.frag.Frag.{Frag}
 use Rattle.lay_box_tree.specs.Roles.{role_at}
 use Rattle.lay_lines.specs.declared.row.Ended.{Ended}
 use Rattle.lay_inlines.specs.LinePieces.{baseline_of}
 use Rattle.lay_blocks.specs.FlowPlaces.{FlowPlacesValue}
-use Rattle.lay_sizes.specs.UsedLengths.{no_length}
 use Rattle.lay_box_tree.specs.Containing.{container_of}
 use Rattle.lay_box_tree.specs.ContextBoxes.{AreContextBoxes}
 use Rattle.lay_flow_boxes.specs.ContextBlocks.{holds_lines, is_anchor}
@@ -30,7 +30,8 @@ OnePlacement = (i : PlaceInput) (p q : Placement) → AreContextBoxes i.boxes �
 
 -- an anchor in a box that holds lines is on one of them
 abbrev pub AnchorsAreOnLines : Type 0
-AnchorsAreOnLines = (i : PlaceInput) (p : ContextPlaces) (k : ℕ) → AreContextBoxes i.boxes → AreHeldByOthers i.boxes → HasPlaces i p → k < length i.boxes
+AnchorsAreOnLines = (i : PlaceInput) (p : ContextPlaces) (k : ℕ) → AreContextBoxes i.boxes
+    → AreHeldByOthers i.boxes → HasPlaces i p → k < length i.boxes
     → is_anchor (role_at i.boxes k) ≡ true → holds_lines (measures_of i p) p.shape.lefts (container_of i.boxes k) ≡ true
     → is_some (anchor_line i p k) ≡ true
 
@@ -53,7 +54,8 @@ FirstSeenLineGivesBaseline = (before after : List Ended) (row : Ended) → row.s
 
 -- of boxes of which one has a baseline and none before it, that one gives a cell its own
 abbrev pub FirstBoxGivesBaseline : Type 0
-FirstBoxGivesBaseline = (i : PlaceInput) (places : FlowPlacesValue) (k n : ℕ) (b : Length) → k < n → baseline_in i places k ≡ Some b → ((j : ℕ) → j < k → baseline_in i places j ≡ None)
+FirstBoxGivesBaseline = (i : PlaceInput) (places : FlowPlacesValue) (k n : ℕ) (b : Length) → k < n
+    → baseline_in i places k ≡ Some b → ((j : ℕ) → j < k → baseline_in i places j ≡ None)
     → first_baseline_to i places n ≡ Some b
 
 -- boxes in the same places that are moved by so much
@@ -80,4 +82,5 @@ pub record DifferInCorners (a b : Placement) : Type 0 where
   pub standings : map standing_without_corner a.standings ≡ map standing_without_corner b.standings
 
 abbrev pub OffsetsChangeCornersAlone : Type 0
-OffsetsChangeCornersAlone = (i : PlaceInput) (p : ContextPlaces) (m n : List Offset) → DifferInCorners (placement_of i (moved_by m p)) (placement_of i (moved_by n p))
+OffsetsChangeCornersAlone = (i : PlaceInput) (p : ContextPlaces) (m n : List Offset)
+    → DifferInCorners (placement_of i (moved_by m p)) (placement_of i (moved_by n p))

@@ -12,7 +12,8 @@ use Rattle.lay_inlines.specs.declared.lines.Container.{Container}
 use Rattle.lay_inlines.specs.LinePieces.{pieces_of}
 use Rattle.lay_blocks.specs.declared.flow_box.BlockBox.{BlockBox}
 use Rattle.lay_blocks.specs.declared.flow_box.FlowKind.{FlowKind}
-use Rattle.lay_blocks.specs.declared.flow_box.FlowKind.TheVariants.{Block as block, Lines as lines, Solid as solid, Float as float, LineFloat as line_float, Inline as inline}
+use Rattle.lay_blocks.specs.declared.flow_box.FlowKind.TheVariants.{Block as block, Lines as lines, Solid as solid}
+use Rattle.lay_blocks.specs.declared.flow_box.FlowKind.TheVariants.{Float as float, LineFloat as line_float, Inline as inline}
 use Rattle.lay_blocks.specs.Boxes.{box_at}
 use Rattle.lay_blocks.specs.FlowPlaces.{FlowPlacesValue}
 use Rattle.lay_content.specs.BoxMeasuresValue.{BoxMeasuresValue}

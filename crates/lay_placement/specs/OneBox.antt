@@ -2,19 +2,19 @@
 -- content is 0 (CSS 2.2, 10.6.7). It has the height that is given, or that, within its bounds (10.7).
 use Rattle.std.specs.Prelude.{ℤ, pos, List}
 use Rattle.lay_units.specs.declared.length.Unit.{Unit as Length}
+use Rattle.lay_units.specs.Lengths.{no_length}
 use Rattle.lay_frag.specs.declared.frag.Frag.{Frag}
 use Rattle.lay_frag.specs.declared.frag.FragKind.TheVariants as kind
 use Rattle.lay_box_tree.specs.declared.box_tree.BoxNode.{BoxNode}
+use Rattle.lay_box_tree.specs.InlineParts.{id_at}
 use Rattle.lay_blocks.specs.declared.block.Block.{Block}
 use Rattle.lay_blocks.specs.declared.block.Inside.TheVariants as inside
 use Rattle.lay_blocks.specs.declared.flow_box.HeightRule.{HeightRule}
 use Rattle.lay_blocks.specs.BlockPositions.{border_height}
 use Rattle.lay_sizes.specs.declared.sizing.BoxSizes.{BoxSizes}
-use Rattle.lay_sizes.specs.UsedLengths.{no_length}
 use Rattle.lay_pieces.specs.declared.standing.Standing.{Standing}
 use Rattle.lay_pieces.specs.Corners.{no_corner}
 use Rattle.lay_pieces.specs.Splicing.{border_box}
-use Rattle.lay_placement.specs.ContextPieces.{id_of}
 
 -- a block box of these used sizes, of whose height that is given, as margins and heights see it
 abbrev pub empty_block : BoxSizes → HeightRule → Block
@@ -39,4 +39,4 @@ only_standing height = record { corner = no_corner; height = height; shift = no_
 
 -- its piece, where it is so wide and stands so
 abbrev pub only_piece : List BoxNode → Length → Standing → Frag
-only_piece boxes width s = record { kind = kind.Box; node = record { 0 = id_of boxes 0 }; part = 0; rect = border_box width s }
+only_piece boxes width s = record { kind = kind.Box; node = record { 0 = id_at boxes 0 }; part = 0; rect = border_box width s }

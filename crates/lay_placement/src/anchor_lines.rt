@@ -6,7 +6,8 @@ ghost use Rattle.lay_blocks.specs.Children.{flag_at};
 ghost use Rattle.lay_box_tree.specs.Containing.{container_of};
 ghost use Rattle.lay_items.specs.InlineSegments.{segments_in};
 ghost use Rattle.lay_flow_boxes.specs.ContextBlocks.{is_anchor};
-ghost use Rattle.lay_placement.specs.AnchorLines.{ArePut, is_anchor_kind, is_free, is_open, top_at, top_in_line, top_in_segment, top_of_item};
+ghost use Rattle.lay_placement.specs.AnchorLines.{ArePut, is_anchor_kind, is_free, is_open, top_at};
+ghost use Rattle.lay_placement.specs.AnchorLines.{top_in_line, top_in_segment, top_of_item};
 ghost use Rattle.lay_placement.specs.ContextPlaces.{rows_at};
 ghost use Rattle.lay_placement.specs.Counts.{HaveCounts};
 ghost use Rattle.lay_placement.specs.StaticPositions.{anchor_line, line_top};
@@ -29,8 +30,11 @@ pub(crate) fn anchor_lines(
     places: &BoxPlaces,
 ) -> Result<Vec<Option<Unit>>, NoMemory>
     requires { HaveCounts input.now.boxes places.now }
-    ensures count { IfOk result (λ v. (k : ℕ) → k < length input.now.boxes → is_anchor (role_at input.now.boxes k) ≡ true → k < length v.items) }
-    ensures each { IfOk result (λ v. (k : ℕ) → k < length input.now.boxes → is_anchor (role_at input.now.boxes k) ≡ true → top_at v.items k ≡ anchor_line input.now places.now k) }
+    ensures count { IfOk result
+        (λ v. (k : ℕ) → k < length input.now.boxes → is_anchor (role_at input.now.boxes k) ≡ true → k < length v.items) }
+    ensures each { IfOk result
+        (λ v. (k : ℕ) → k < length input.now.boxes → is_anchor (role_at input.now.boxes k) ≡ true
+        → top_at v.items k ≡ anchor_line input.now places.now k) }
 {
     if !has_anchor(input.boxes()) {
         return Ok(Vec::new(alloc));
@@ -46,7 +50,9 @@ fn tops_of_lines(
 ) -> Result<Vec<Option<Unit>>, NoMemory>
     requires { HaveCounts input.now.boxes places.now }
     ensures count { IfOk result (λ v. length v.items ≡ length input.now.boxes) }
-    ensures each { IfOk result (λ v. (k : ℕ) → k < length input.now.boxes → is_anchor (role_at input.now.boxes k) ≡ true → top_at v.items k ≡ anchor_line input.now places.now k) }
+    ensures each { IfOk result
+        (λ v. (k : ℕ) → k < length input.now.boxes → is_anchor (role_at input.now.boxes k) ≡ true
+        → top_at v.items k ≡ anchor_line input.now places.now k) }
 {
     let count = input.boxes().len();
     let holders = anchor_holders(alloc, input.context_boxes())?;
@@ -80,7 +86,8 @@ fn is_anchor_kind(kind: &BoxKind) -> bool
 /// Whether each box holds an anchor.
 fn anchor_holders(alloc: Global, boxes: &ContextBoxes) -> Result<Vec<bool>, NoMemory>
     ensures count { IfOk result (λ v. length v.items ≡ length boxes.now) }
-    ensures each { IfOk result (λ v. (k : ℕ) → k < length boxes.now → is_anchor (role_at boxes.now k) ≡ true → flag_at v.items (container_of boxes.now k) ≡ true) }
+    ensures each { IfOk result
+        (λ v. (k : ℕ) → k < length boxes.now → is_anchor (role_at boxes.now k) ≡ true → flag_at v.items (container_of boxes.now k) ≡ true) }
 {
     let count = boxes.as_slice().len();
     let mut holders = vec![in alloc; false; count]?;
@@ -104,7 +111,9 @@ fn put_lines(
     requires counts { HaveCounts input.now.boxes places.now }
     requires place { c < length input.now.boxes }
     requires count { length tops.old ≡ length input.now.boxes }
-    ensures { OnOk result (ArePut input.now.boxes c tops.old tops.new (line_top (rows_at places.now.places c) (segments_in input.now.face input.now.boxes c))) }
+    ensures { OnOk result
+        (ArePut input.now.boxes c tops.old tops.new
+        (line_top (rows_at places.now.places c) (segments_in input.now.face input.now.boxes c))) }
 {
     let of = Holder {
         boxes: input.context_boxes(),

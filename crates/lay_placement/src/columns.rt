@@ -1,7 +1,6 @@
 //! Reading the columns of one formatting context.
 
-ghost use Rattle.std.specs.Prelude.{◌≡◌, ◌<◌, ◌+ℤ◌, length};
-ghost use Rattle.lay_units.specs.Units.{IsPosition};
+ghost use Rattle.std.specs.Prelude.{◌≡◌, ◌<◌, length};
 ghost use Rattle.lay_blocks.specs.FlowPlaces.{box_place_at};
 ghost use Rattle.lay_blocks.specs.Lengths.{length_at};
 ghost use Rattle.lay_sizes.specs.OwnBoxes.{own_box_at};
@@ -38,13 +37,4 @@ pub(crate) fn length_at(column: &[Unit], k: usize) -> Unit
     ensures { result ≡ record { 0 = length_at column.now k } }
 {
     column[k]
-}
-
-/// The sum of two positions.
-pub(crate) fn sum_of(a: Unit, b: Unit) -> Unit
-    requires a { IsPosition a.0 }
-    requires b { IsPosition b.0 }
-    ensures { result ≡ record { 0 = a.0 +ℤ b.0 } }
-{
-    Unit(a.0 + b.0)
 }

@@ -1,7 +1,7 @@
 //! Where the boxes of one formatting context stand: the columns.
 
 ghost use Rattle.std.specs.Prelude.{◌≡◌, IfOk};
-ghost use Rattle.lay_sizes.specs.OwnBoxes.{IsBoxSize};
+ghost use Rattle.lay_units.specs.Units.{IsBoxSize};
 ghost use Rattle.lay_relative.specs.MoveBounds.{IsMoveNear};
 ghost use Rattle.lay_relative.specs.Moves.{move_at};
 ghost use Rattle.lay_placement.specs.ContextPlaces.{HasPlaces, own_height, rows_at};

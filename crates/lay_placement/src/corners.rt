@@ -28,7 +28,8 @@ pub(crate) fn corners_of(
 ) -> Result<Vec<Corner>, NoMemory>
     requires counts { HaveCounts input.now.boxes places.now }
     requires on_lines { AreOnLines input.now places.now on_lines.now }
-    ensures each { IfOk result (λ v. (k : ℕ) → k < length input.now.boxes → kept_corner places.now.places v.items k ≡ corner_of_box input.now places.now k) }
+    ensures each { IfOk result
+        (λ v. (k : ℕ) → k < length input.now.boxes → kept_corner places.now.places v.items k ≡ corner_of_box input.now places.now k) }
     ensures near { IfOk result (λ v. AreNearCorners v.items) }
 {
     if !has_atomics(on_lines) {
@@ -70,7 +71,8 @@ fn corners_of_each(
 ) -> Result<Vec<Corner>, NoMemory>
     requires counts { HaveCounts input.now.boxes places.now }
     requires on_lines { AreOnLines input.now places.now on_lines.now }
-    ensures each { IfOk result (λ v. (k : ℕ) → k < length input.now.boxes → kept_corner places.now.places v.items k ≡ corner_of_box input.now places.now k) }
+    ensures each { IfOk result
+        (λ v. (k : ℕ) → k < length input.now.boxes → kept_corner places.now.places v.items k ≡ corner_of_box input.now places.now k) }
     ensures near { IfOk result (λ v. AreNearCorners v.items) }
 {
     let mut corners = corners_in_flow(alloc, places)?;
@@ -83,7 +85,8 @@ fn corners_of_each(
 /// Where the flow puts the border box of each box.
 fn corners_in_flow(alloc: Global, places: &BoxPlaces) -> Result<Vec<Corner>, NoMemory>
     ensures count { IfOk result (λ v. length v.items ≡ length places.now.places.boxes) }
-    ensures each { IfOk result (λ v. (k : ℕ) → k < length places.now.places.boxes → corner_at v.items k ≡ corner_in_flow places.now.places k) }
+    ensures each { IfOk result
+        (λ v. (k : ℕ) → k < length places.now.places.boxes → corner_at v.items k ≡ corner_in_flow places.now.places k) }
     ensures near { IfOk result (λ v. AreNearCorners v.items) }
 {
     let count = places.places.boxes().len();
@@ -99,7 +102,9 @@ fn corners_in_flow(alloc: Global, places: &BoxPlaces) -> Result<Vec<Corner>, NoM
 fn put_atomics(corners: &mut Vec<Corner>, pieces: &[LinePiece]) -> Result<(), NoMemory>
     requires near { AreNearCorners corners.old.items }
     ensures count { OnOk result (length corners.new.items ≡ length corners.old.items) }
-    ensures each { OnOk result ((k : ℕ) → k < length corners.old.items → corner_at corners.new.items k ≡ corner_among pieces.now k (corner_at corners.old.items k)) }
+    ensures each { OnOk result
+        ((k : ℕ) → k < length corners.old.items
+        → corner_at corners.new.items k ≡ corner_among pieces.now k (corner_at corners.old.items k)) }
     ensures near { OnOk result (AreNearCorners corners.new.items) }
 {
     for i in 0..pieces.len() {
@@ -112,7 +117,9 @@ fn put_atomics(corners: &mut Vec<Corner>, pieces: &[LinePiece]) -> Result<(), No
 fn put_atomic(corners: &mut Vec<Corner>, piece: LinePiece) -> Result<(), NoMemory>
     requires near { AreNearCorners corners.old.items }
     ensures count { OnOk result (length corners.new.items ≡ length corners.old.items) }
-    ensures each { OnOk result ((k : ℕ) → k < length corners.old.items → corner_at corners.new.items k ≡ corner_among (piece ∷ []) k (corner_at corners.old.items k)) }
+    ensures each { OnOk result
+        ((k : ℕ) → k < length corners.old.items
+        → corner_at corners.new.items k ≡ corner_among (piece ∷ []) k (corner_at corners.old.items k)) }
     ensures near { OnOk result (AreNearCorners corners.new.items) }
 {
     if !is_atomic_among(piece, corners.len()) {

@@ -1,15 +1,15 @@
 //! The baseline of a table cell (CSS 2.2, 17.5.3).
 
 ghost use Rattle.std.specs.Prelude.{◌≡◌, ◌<◌, length, IfOk, IfSome};
-ghost use Rattle.lay_box_tree.specs.Kinds.{is_wrapper};
 ghost use Rattle.lay_sizes.specs.OwnBoxes.{IsBaseline};
-ghost use Rattle.lay_placement.specs.Baselines.{baseline_in, first_baseline, first_baseline_to, is_cell, is_of_cell, is_solid, is_table_in_flow, table_baseline};
+ghost use Rattle.lay_placement.specs.Baselines.{baseline_in, first_baseline, first_baseline_to};
+ghost use Rattle.lay_placement.specs.Baselines.{is_of_cell, is_solid, is_table_in_flow, table_baseline};
 ghost use Rattle.lay_placement.specs.Counts.{HaveCounts};
 
 use crate::baselines::{baseline_below, baseline_of};
 use crate::columns::{own_box_at, place_at};
 use crate::context_places::{BoxPlaces, rows_at};
-use lay_box_tree::{BoxKind, Role};
+use lay_box_tree::{Role, is_cell, is_wrapper};
 use lay_flow_boxes::PlaceInput;
 use lay_lines::Ended;
 use lay_units::{NoMemory, Unit};
@@ -19,12 +19,6 @@ pub(crate) fn is_of_cell(input: &PlaceInput) -> bool
     ensures { result ≡ is_of_cell input.now.boxes }
 {
     is_cell(&input.boxes()[0].kind)
-}
-
-fn is_cell(kind: &BoxKind) -> bool
-    ensures { result ≡ is_cell kind.now }
-{
-    matches!(kind, BoxKind::Cell { .. })
 }
 
 /// The baseline of the first line or the first row in flow, downward from the top of the own border box. NoMemory is also the
@@ -65,12 +59,6 @@ fn is_table_in_flow(input: &PlaceInput, k: usize) -> bool
     ensures { result ≡ is_table_in_flow input.now.boxes k }
 {
     is_solid(input.role(k)) && is_wrapper(&input.boxes()[k].kind)
-}
-
-fn is_wrapper(kind: &BoxKind) -> bool
-    ensures { result ≡ is_wrapper kind.now }
-{
-    matches!(kind, BoxKind::Wrapper | BoxKind::InlineWrapper)
 }
 
 fn is_solid(role: Role) -> bool

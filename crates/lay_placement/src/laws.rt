@@ -1,7 +1,8 @@
 //! The laws of the definitions.
 
 ghost use Rattle.lay_placement.specs.AnchorLaws.{AnchorsAddNothingToLines};
-ghost use Rattle.lay_placement.specs.Laws.{AnchorsAreOnLines, FirstBoxGivesBaseline, FirstSeenLineGivesBaseline, LastSeenLineGivesBaseline, OffsetsChangeCornersAlone, OnePlacement, UnseenLinesGiveNone};
+ghost use Rattle.lay_placement.specs.Laws.{AnchorsAreOnLines, FirstBoxGivesBaseline, FirstSeenLineGivesBaseline};
+ghost use Rattle.lay_placement.specs.Laws.{LastSeenLineGivesBaseline, OffsetsChangeCornersAlone, OnePlacement, UnseenLinesGiveNone};
 
 /// The placement of a formatting context is the only one beside what it is given.
 pub fn one_placement()

@@ -2,7 +2,8 @@
 //! entry each, which are left out for speed.
 
 ghost use Rattle.std.specs.Prelude.{◌≡◌, None, length, IfOk};
-ghost use Rattle.lay_sizes.specs.OwnBoxes.{IsBoxSize, OwnBoxFits, own_box};
+ghost use Rattle.lay_units.specs.Units.{IsBoxSize};
+ghost use Rattle.lay_sizes.specs.OwnBoxes.{OwnBoxFits, own_box};
 ghost use Rattle.lay_sizes.specs.SizeBounds.{SizeFits};
 ghost use Rattle.lay_sizes.specs.SizeColumns.{sizes_at};
 ghost use Rattle.lay_flow_boxes.specs.PlaceInputs.{HeightRuleFits};
@@ -35,7 +36,8 @@ pub(crate) fn placement_of_one(alloc: Global, input: &PlaceInput) -> Result<Plac
 /// The box, as the formatting context around takes it. It has no line, so it has no baseline of its own.
 fn only_box(input: &PlaceInput) -> OwnBox
     requires { length input.now.boxes ≡ 1 }
-    ensures value { result ≡ own_box (sizes_at input.now.sizes 0) (record { 0 = empty_height (sizes_at input.now.sizes 0) input.now.own_height }) None }
+    ensures value { result
+        ≡ own_box (sizes_at input.now.sizes 0) (record { 0 = empty_height (sizes_at input.now.sizes 0) input.now.own_height }) None }
     ensures fits { OwnBoxFits result }
 {
     let _ = input.boxes();

@@ -2,6 +2,7 @@
 
 ghost use Rattle.std.specs.Prelude.{◌≡◌, ◌<◌, ◌≤◌, length, IfOk, OnOk};
 ghost use Rattle.std.specs.List.{flat_map};
+ghost use Rattle.lay_box_tree.specs.InlineParts.{id_at};
 ghost use Rattle.lay_sizes.specs.BoxSizes.{border_width};
 ghost use Rattle.lay_sizes.specs.SizeColumns.{sizes_at};
 ghost use Rattle.lay_pieces.specs.NearPieces.{AreNearPieces};
@@ -9,10 +10,11 @@ ghost use Rattle.lay_pieces.specs.PieceParts.{with_pieces};
 ghost use Rattle.lay_pieces.specs.Standings.{IsStandingNear};
 ghost use Rattle.lay_relative.specs.MoveBounds.{IsMoveNear};
 ghost use Rattle.lay_placement.specs.BoxStandings.{standing_of_box};
-ghost use Rattle.lay_placement.specs.ContextPieces.{id_of, moved_rect, piece_as, piece_of_box, pieces_of_box, pieces_on_line, pieces_to, spliced_at};
+ghost use Rattle.lay_placement.specs.ContextPieces.{moved_rect, piece_as, piece_of_box, pieces_of_box};
+ghost use Rattle.lay_placement.specs.ContextPieces.{pieces_on_line, pieces_to, spliced_at};
 ghost use Rattle.lay_placement.specs.Paintings.{IsPainting};
 
-use crate::columns::{own_box_at, sizes_at, sum_of};
+use crate::columns::{own_box_at, sizes_at};
 use crate::context_places::{BoxPlaces, move_of};
 use crate::on_lines::on_lines_at;
 use lay_box_tree::BoxNode;
@@ -23,7 +25,7 @@ use lay_inlines::{LinePiece, LinePieceKind, LinePieceList};
 use lay_pieces::{PieceList, Standing, near_position};
 use lay_relative::Offset;
 use lay_sizes::border_width;
-use lay_units::{NoMemory, Rect, Unit};
+use lay_units::{NoMemory, Rect, Unit, sum_of};
 use std::alloc::Global;
 
 /// What pieces are made of: what the placement is given, where its boxes stand, and what stands on the lines of each.
@@ -86,7 +88,8 @@ fn push_lines(
     on_lines: &[LinePiece],
 ) -> Result<(), NoMemory>
     requires { IsPainting of.now.input.now of.now.places.now of.now.on_lines.now of.now.standings.now }
-    ensures { OnOk result (pieces.new ≡ with_pieces pieces.old (flat_map (pieces_on_line of.now.input.now of.now.places.now) on_lines.now)) }
+    ensures { OnOk result
+        (pieces.new ≡ with_pieces pieces.old (flat_map (pieces_on_line of.now.input.now of.now.places.now) on_lines.now)) }
 {
     for k in 0..on_lines.len() {
         push_line_piece(pieces, of, on_lines[k])?;
@@ -120,7 +123,7 @@ fn piece_as(of: &Painting<'_>, piece: LinePiece, kind: FragKind) -> Result<Frag,
     let k = piece.node as usize;
     Ok(Frag {
         kind,
-        node: NodeId(id_of(of.input.boxes(), k)),
+        node: NodeId(id_at(of.input.boxes(), k)),
         part: 0,
         rect: moved_rect(move_of(of.places, k), piece.rect)?,
     })
@@ -141,8 +144,8 @@ fn moved_rect(by: Offset, rect: Rect) -> Result<Rect, NoMemory>
 }
 
 /// The id of the node of the box at k.
-fn id_of(boxes: &[BoxNode], k: usize) -> u32
-    ensures { result ≡ id_of boxes.now k }
+fn id_at(boxes: &[BoxNode], k: usize) -> u32
+    ensures { result ≡ id_at boxes.now k }
 {
     match boxes.get(k) {
         Some(node) => node.node.0,
@@ -159,7 +162,7 @@ fn piece_of_box(of: &Painting<'_>, k: usize) -> Frag
     let standing = standing_at(of, k);
     Frag {
         kind: FragKind::Box,
-        node: NodeId(id_of(of.input.boxes(), k)),
+        node: NodeId(id_at(of.input.boxes(), k)),
         part: 0,
         rect: Rect {
             x: standing.corner.x,

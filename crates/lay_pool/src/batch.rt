@@ -62,7 +62,8 @@ struct Ready {
 }
 
 fn prepared(alloc: Global, claims: usize, threads: usize) -> Result<Ready, NoMemory>
-    ensures notes { IfOk result (λ r. (vec_len r.notes ≡ claims) × ((place : ℕ) (d : Option Work) → slice_get r.notes.items place ≢ Some (Some d))) }
+    ensures notes { IfOk result
+        (λ r. (vec_len r.notes ≡ claims) × ((place : ℕ) (d : Option Work) → slice_get r.notes.items place ≢ Some (Some d))) }
     ensures outcomes { IfOk result (λ r. (r.outcomes.items ≡ []) × (claims ≤ vec_capacity r.outcomes)) }
 {
     let members = members_of(alloc, deal(alloc, threads, claims)?, claims)?;

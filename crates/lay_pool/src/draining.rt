@@ -45,7 +45,8 @@ fn outcome_at<G: Gate>(
     requires noted { (d : Option Work) → slice_get notes.old.items place ≡ Some (Some d) → IfSome d (IsWorkOf claim) }
     ensures own { IsOutcomeOf claim result }
     ensures len { vec_len notes.new ≡ vec_len notes.old }
-    ensures kept { (at : ℕ) (d : Option Work) → slice_get notes.new.items at ≡ Some (Some d) → slice_get notes.old.items at ≡ Some (Some d) }
+    ensures kept { (at : ℕ) (d : Option Work) → slice_get notes.new.items at ≡ Some (Some d)
+        → slice_get notes.old.items at ≡ Some (Some d) }
 {
     match take_note(notes, place) {
         Some(done) => outcome_of(claim, done),

@@ -85,7 +85,8 @@ pub(crate) fn take_note(
     requires { place < vec_len notes.old }
     ensures len { vec_len notes.new ≡ vec_len notes.old }
     ensures some { IfSome result (λ d. slice_get notes.old.items place ≡ Some (Some d)) }
-    ensures kept { (at : ℕ) (d : Option Work) → slice_get notes.new.items at ≡ Some (Some d) → slice_get notes.old.items at ≡ Some (Some d) }
+    ensures kept { (at : ℕ) (d : Option Work) → slice_get notes.new.items at ≡ Some (Some d)
+        → slice_get notes.old.items at ≡ Some (Some d) }
 {
     notes[place].take()
 }

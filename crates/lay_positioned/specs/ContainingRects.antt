@@ -4,9 +4,10 @@
 -- context, and so it is found step by step from the outside.
 use Rattle.std.specs.Prelude.{ℕ, zero, suc, ◌<◌, ◌-ℤ◌, Bool, List, Option, None, Some}
 use Rattle.lay_units.specs.declared.records.Rect.{Rect}
+use Rattle.lay_units.specs.Lengths.{no_length}
 use Rattle.lay_box_tree.specs.declared.box_tree.BoxNode.{BoxNode}
 use Rattle.lay_sizes.specs.declared.sizing.ContainingBlock.{ContainingBlock}
-use Rattle.lay_sizes.specs.UsedLengths.{no_length, or_zero}
+use Rattle.lay_sizes.specs.UsedLengths.{or_zero}
 use Rattle.lay_contexts.specs.FormattingContexts.{FormattingContext, boxes_in, formatting_context_at}
 use Rattle.lay_pieces.specs.declared.corner.Corner.{Corner}
 use Rattle.lay_positioned.specs.Holders.{IsHolderFor, holder_for}
@@ -28,11 +29,13 @@ seen_from corner r = record {
 
 -- This is the containing block of an absolutely positioned box that has its anchor at the place k in the formatting context with
 -- the number i.
-pub data IsContainingRect (viewport : ContainingBlock) (is_fixed : Bool) (contexts : List FormattingContext) (laid : ℕ → Layout) : (i k : ℕ) → Rect → Type 0 where
+pub data IsContainingRect (viewport : ContainingBlock) (is_fixed : Bool) (contexts : List FormattingContext) (laid : ℕ → Layout) : (i k : ℕ)
+    → Rect → Type 0 where
   held : (i k holder : ℕ) → IsHolderFor is_fixed (boxes_in contexts i) k (Some holder)
       → IsContainingRect viewport is_fixed contexts laid i k (padding_box (boxes_in contexts i) (laid i) holder)
   further : (i k : ℕ) (r : Rect) → 0 < i → IsHolderFor is_fixed (boxes_in contexts i) k None
-      → IsContainingRect viewport is_fixed contexts laid (formatting_context_at contexts i).outer (formatting_context_at contexts i).outer_box r
+      → IsContainingRect viewport is_fixed contexts laid (formatting_context_at contexts i).outer
+      (formatting_context_at contexts i).outer_box r
       → IsContainingRect viewport is_fixed contexts laid i k (seen_from (step contexts laid i) r)
   initial : (k : ℕ) → IsHolderFor is_fixed (boxes_in contexts 0) k None
       → IsContainingRect viewport is_fixed contexts laid 0 k (seen_from (laid 0).offset (viewport_rect viewport))
@@ -45,9 +48,11 @@ found_or boxes layout None outside = outside
 -- contexts around one than stand before it.
 abbrev pub containing_in : (turns : ℕ) → ContainingBlock → (is_fixed : Bool) → List FormattingContext → (ℕ → Layout) → (i k : ℕ) → Rect
 containing_in zero viewport is_fixed contexts laid i k =
-    found_or (boxes_in contexts i) (laid i) (holder_for is_fixed (boxes_in contexts i) k) (seen_from (laid 0).offset (viewport_rect viewport))
+    found_or (boxes_in contexts i) (laid i) (holder_for is_fixed (boxes_in contexts i) k)
+    (seen_from (laid 0).offset (viewport_rect viewport))
 containing_in (suc turns) viewport is_fixed contexts laid zero k =
-    found_or (boxes_in contexts 0) (laid 0) (holder_for is_fixed (boxes_in contexts 0) k) (seen_from (laid 0).offset (viewport_rect viewport))
+    found_or (boxes_in contexts 0) (laid 0) (holder_for is_fixed (boxes_in contexts 0) k)
+    (seen_from (laid 0).offset (viewport_rect viewport))
 containing_in (suc turns) viewport is_fixed contexts laid (suc i) k =
     let c = formatting_context_at contexts (suc i) in
     found_or c.boxes (laid (suc i)) (holder_for is_fixed c.boxes k)

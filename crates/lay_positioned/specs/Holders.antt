@@ -2,16 +2,12 @@
 -- a 'position' of 'absolute', 'relative' or 'fixed'" that is a block container. The wrapper of a table is one. On cells, captions
 -- and the other boxes in a table `position` has no effect, and an inline box is none.
 use Rattle.std.specs.Prelude.{ℕ, zero, suc, ◌≡◌, ◌<◌, ◌&&◌, Bool, true, false, List, map, slice_index_or, Option, None, Some, if◌then◌else◌}
-use Rattle.lay_style.specs.declared.style_words.Position.{Position}
 use Rattle.lay_style.specs.declared.style_words.Position.TheVariants as position
+use Rattle.lay_style.specs.Positions.{is_positioned}
 use Rattle.lay_box_tree.specs.declared.box_tree.BoxKind.{BoxKind}
 use Rattle.lay_box_tree.specs.declared.box_tree.BoxKind.TheVariants.{Block, InlineBlock, Wrapper, InlineWrapper}
 use Rattle.lay_box_tree.specs.declared.box_tree.BoxNode.{BoxNode}
 use Rattle.lay_box_tree.specs.Containers.{box_parent}
-
-abbrev pub is_positioned : Position → Bool
-is_positioned position.Static = false
-is_positioned _ = true
 
 abbrev pub can_hold : BoxKind → Bool
 can_hold Block = true

@@ -2,24 +2,17 @@
 -- and its offset. What it is given comes of the formatting contexts on the way to its containing block alone, and they have lower
 -- levels.
 use Rattle.std.specs.Prelude.{ℕ, ◌≡◌, ◌<◌, Bool, true, List, length, slice_index, Option}
-use Rattle.lay_units.specs.declared.length.Unit.{Unit as Length}
 use Rattle.lay_units.specs.declared.records.Rect.{Rect}
-use Rattle.lay_style.specs.declared.style.Style.{Style}
 use Rattle.lay_box_tree.specs.declared.box_tree.BoxNode.{BoxNode}
-use Rattle.lay_sizes.specs.declared.sizing.BoxSizes.{BoxSizes}
 use Rattle.lay_sizes.specs.declared.sizing.ContainingBlock.{ContainingBlock}
 use Rattle.lay_contexts.specs.FormattingContexts.{AreFormattingContexts, FormattingContext}
-use Rattle.lay_pieces.specs.declared.corner.Corner.{Corner}
 use Rattle.lay_abspos.specs.declared.setting.AbsoluteSetting.{AbsoluteSetting}
 use Rattle.lay_positioned.specs.Absolute.{is_absolute}
-use Rattle.lay_abspos.specs.AbsoluteSizes.{IsAbsoluteSized, IsStretchedHeight}
-use Rattle.lay_abspos.specs.AbsoluteTables.{IsTableLeft}
 use Rattle.lay_positioned.specs.ContainingRects.{IsContainingRect}
 use Rattle.lay_positioned.specs.Holders.{IsNearestHolder}
 use Rattle.lay_positioned.specs.HoldersOutward.{Holder, IsHolderOf}
 use Rattle.lay_positioned.specs.Layouts.{Layout}
 use Rattle.lay_positioned.specs.Levels.{HasLevels, IsLevelCount}
-use Rattle.lay_abspos.specs.Offsets.{IsOffset}
 use Rattle.lay_positioned.specs.Settings.{IsSetting, absolute_setting}
 use Rattle.lay_positioned.specs.Ways.{AreAlikeAt, IsOnWay}
 
@@ -42,7 +35,8 @@ OneHolder = (contexts : List FormattingContext) (i : ℕ) (x y : Option Holder) 
 
 -- and one containing block
 abbrev pub OneContainingRect : Type 0
-OneContainingRect = (viewport : ContainingBlock) (is_fixed : Bool) (contexts : List FormattingContext) (laid : ℕ → Layout) (i k : ℕ) (x y : Rect)
+OneContainingRect =
+    (viewport : ContainingBlock) (is_fixed : Bool) (contexts : List FormattingContext) (laid : ℕ → Layout) (i k : ℕ) (x y : Rect)
     → IsContainingRect viewport is_fixed contexts laid i k x → IsContainingRect viewport is_fixed contexts laid i k y → x ≡ y
 
 -- what is on the way of an absolutely positioned one has a lower level
@@ -52,7 +46,8 @@ WaysLeadDown = (contexts : List FormattingContext) (levels : List ℕ) (i j : �
 
 -- and stands before it
 abbrev pub WaysLeadOut : Type 0
-WaysLeadOut = (contexts : List FormattingContext) (i j : ℕ) → AreFormattingContexts contexts → i < length contexts → IsOnWay contexts i j → j < i
+WaysLeadOut = (contexts : List FormattingContext) (i j : ℕ) → AreFormattingContexts contexts
+    → i < length contexts → IsOnWay contexts i j → j < i
 
 -- An absolutely positioned one is given one setting, and the same one among other formatting contexts with other values, wherever it
 -- and those on its way are alike and those answer the same.
@@ -63,5 +58,6 @@ SettingsComeOfWays = (viewport : ContainingBlock) (a b : List FormattingContext)
 
 -- it is the value of `absolute_setting`
 abbrev pub SettingsAreValues : Type 0
-SettingsAreValues = (viewport : ContainingBlock) (contexts : List FormattingContext) (laid : ℕ → Layout) (i : ℕ) → AreFormattingContexts contexts
+SettingsAreValues = (viewport : ContainingBlock) (contexts : List FormattingContext) (laid : ℕ → Layout) (i : ℕ)
+    → AreFormattingContexts contexts
     → i < length contexts → IsSetting viewport contexts laid i (absolute_setting viewport contexts laid i)

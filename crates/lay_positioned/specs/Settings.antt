@@ -2,11 +2,9 @@
 -- in flow, its static position. The containing block is a rectangle that is counted as where the anchor stands; the static position
 -- is counted from the corner of that. Where the root is absolutely positioned, both are the viewport's.
 use Rattle.std.specs.Prelude.{ℕ, zero, suc, ◌≡◌, ◌-ℤ◌, List}
-use Rattle.lay_units.specs.Units.{IsPosition}
 use Rattle.lay_units.specs.declared.records.Rect.{Rect}
-use Rattle.lay_units.specs.declared.records.Len.TheVariants.{Of as of}
+use Rattle.lay_units.specs.Lengths.{no_length}
 use Rattle.lay_sizes.specs.declared.sizing.ContainingBlock.{ContainingBlock}
-use Rattle.lay_sizes.specs.UsedLengths.{no_length}
 use Rattle.lay_contexts.specs.FormattingContexts.{FormattingContext, formatting_context_at}
 use Rattle.lay_pieces.specs.declared.corner.Corner.{Corner}
 use Rattle.lay_abspos.specs.declared.setting.AbsoluteSetting.{AbsoluteSetting}
@@ -26,9 +24,12 @@ abbrev pub root_setting : ContainingBlock → AbsoluteSetting
 root_setting viewport = record { rect = viewport_rect viewport; static_left = no_length; static_top = no_length }
 
 -- what the formatting context with the number i, which isn't the root's, is given
-pub record IsInnerSetting (viewport : ContainingBlock) (contexts : List FormattingContext) (laid : ℕ → Layout) (i : ℕ) (s : AbsoluteSetting) : Type 0 where
+pub record IsInnerSetting (viewport : ContainingBlock) (contexts : List FormattingContext) (laid : ℕ → Layout) (i : ℕ) (s : AbsoluteSetting)
+    : Type 0 where
   pub rect : Rect
-  pub containing : IsContainingRect viewport (is_fixed contexts i) contexts laid (formatting_context_at contexts i).outer (formatting_context_at contexts i).outer_box rect
+  pub containing
+      : IsContainingRect viewport (is_fixed contexts i) contexts laid (formatting_context_at contexts i).outer
+      (formatting_context_at contexts i).outer_box rect
   pub setting_is : s ≡ setting_beside rect (standing_of contexts laid i).corner
 
 -- what the absolutely positioned one with the number i is given
@@ -41,4 +42,5 @@ abbrev pub absolute_setting : ContainingBlock → List FormattingContext → (�
 absolute_setting viewport contexts laid zero = root_setting viewport
 absolute_setting viewport contexts laid (suc i) =
     let c = formatting_context_at contexts (suc i) in
-    setting_beside (containing_in (suc i) viewport (is_fixed contexts (suc i)) contexts laid c.outer c.outer_box) (standing_of contexts laid (suc i)).corner
+    setting_beside (containing_in (suc i) viewport (is_fixed contexts (suc i)) contexts laid c.outer c.outer_box)
+    (standing_of contexts laid (suc i)).corner

@@ -16,7 +16,8 @@ pub data IsOnWayFrom (is_fixed : Bool) (contexts : List FormattingContext) (j : 
 -- it is on that of the absolutely positioned one with the number i; nothing is around the root's
 pub record IsOnWay (contexts : List FormattingContext) (i j : ℕ) : Type 0 where
   pub some : 0 < i
-  pub from : IsOnWayFrom (is_fixed contexts i) contexts j (formatting_context_at contexts i).outer (formatting_context_at contexts i).outer_box
+  pub from
+      : IsOnWayFrom (is_fixed contexts i) contexts j (formatting_context_at contexts i).outer (formatting_context_at contexts i).outer_box
 
 -- The formatting contexts with the number j of two lists have the same boxes, and stand at the same box of the one around them.
 pub record AreAlikeAt (a b : List FormattingContext) (j : ℕ) : Type 0 where

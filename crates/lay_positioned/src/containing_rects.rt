@@ -1,12 +1,10 @@
 //! The containing blocks of absolutely positioned boxes.
 
-ghost use Rattle.std.specs.Prelude.{◌≡◌, ◌<◌, None, IfOk, length};
-ghost use Rattle.lay_units.specs.Units.{IsUsedSize};
+ghost use Rattle.std.specs.Prelude.{◌≡◌, ◌<◌, IfOk, length};
 ghost use Rattle.lay_sizes.specs.UsedLengths.{or_zero};
-ghost use Rattle.lay_contexts.specs.FormattingContexts.{boxes_in, formatting_context_at};
+ghost use Rattle.lay_contexts.specs.FormattingContexts.{boxes_in};
 ghost use Rattle.lay_pieces.specs.NearPieces.{IsRectNear};
 ghost use Rattle.lay_positioned.specs.ContainingRects.{IsContainingRect, viewport_rect};
-ghost use Rattle.lay_positioned.specs.Holders.{IsHolderFor};
 ghost use Rattle.lay_abspos.specs.ViewportBounds.{ViewportFits};
 
 use crate::holders::holder_for;
@@ -24,9 +22,9 @@ pub(crate) struct Anchor {
     pub(crate) place: usize,
 }
 
-/// The containing block of an absolutely positioned box that has its anchor there, counted as where the anchor stands. The formatting contexts from there out to that of the containing block
-/// are laid out. NoMemory is the answer where one is more than 2^60 units from another, which it is in no document within
-/// the limits.
+/// The containing block of an absolutely positioned box that has its anchor there, counted as where the anchor stands. The
+/// formatting contexts from there out to that of the containing block are laid out. NoMemory is the answer where one is more
+/// than 2^60 units from another, which it is in no document within the limits.
 pub(crate) fn containing_rect<L: Layouts>(
     viewport: ContainingBlock,
     is_fixed: bool,

@@ -1,6 +1,7 @@
 //! The laws of the definitions. The functions do nothing.
 
-ghost use Rattle.lay_positioned.specs.Laws.{OneContainingRect, OneHolder, OneLevelCount, OneLevels, OneNearestHolder, SettingsAreValues, SettingsComeOfWays, WaysLeadDown, WaysLeadOut};
+ghost use Rattle.lay_positioned.specs.Laws.{OneContainingRect, OneHolder, OneLevelCount, OneLevels, OneNearestHolder};
+ghost use Rattle.lay_positioned.specs.Laws.{SettingsAreValues, SettingsComeOfWays, WaysLeadDown, WaysLeadOut};
 
 /// Formatting contexts have one column of levels.
 pub fn one_levels()

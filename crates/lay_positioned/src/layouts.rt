@@ -1,6 +1,6 @@
 //! What is known of formatting contexts that are laid out.
 
-ghost use Rattle.std.specs.Prelude.{ℕ, ◌≡◌, ◌<◌, ◌+ℤ◌, IfOk, length};
+ghost use Rattle.std.specs.Prelude.{ℕ, ◌≡◌, ◌<◌, IfOk, length};
 ghost use Rattle.lay_sizes.specs.SizeColumns.{HaveSizeBounds};
 ghost use Rattle.lay_pieces.specs.Corners.{IsCornerNear};
 ghost use Rattle.lay_pieces.specs.Standings.{AreNearStandings, IsStandingNear, standing_at};

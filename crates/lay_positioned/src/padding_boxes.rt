@@ -1,12 +1,11 @@
 //! Padding boxes.
 
-ghost use Rattle.std.specs.Prelude.{◌≡◌, ◌<◌, ◌+ℤ◌, ◌-ℤ◌, IfOk, length};
-ghost use Rattle.lay_units.specs.Units.{IsUsedSize};
+ghost use Rattle.std.specs.Prelude.{◌≡◌, ◌<◌, IfOk, length};
+ghost use Rattle.lay_units.specs.Units.{IsNear};
 ghost use Rattle.lay_style.specs.LengthValues.{size_of};
 ghost use Rattle.lay_sizes.specs.BoxSizes.{border_width};
 ghost use Rattle.lay_sizes.specs.SizeBounds.{SizeFits};
 ghost use Rattle.lay_sizes.specs.SizeColumns.{HaveSizeBounds, sizes_at};
-ghost use Rattle.lay_pieces.specs.Corners.{IsNear};
 ghost use Rattle.lay_pieces.specs.NearPieces.{IsRectNear};
 ghost use Rattle.lay_pieces.specs.Standings.{IsStandingNear};
 ghost use Rattle.lay_positioned.specs.PaddingBoxes.{borders_of, inside_borders, is_wrapper_at, padding_box};
@@ -18,8 +17,8 @@ use lay_abspos::{inside, moved};
 use lay_box_tree::{BoxKind, BoxNode, ContextBoxes};
 use lay_pieces::Standing;
 use lay_sizes::{BoxSizes, NO_SIZES, border_width};
-use lay_style::Style;
-use lay_units::{NoMemory, Rect, Sides, Unit, clamp_size};
+use lay_style::{Style, size_of};
+use lay_units::{NoMemory, Rect, Sides, Unit};
 
 const NO_BORDERS: Sides = Sides {
     top: Unit(0),
@@ -81,13 +80,6 @@ fn borders_of(is_wrapper: bool, style: &Style) -> Sides
         bottom: size_of(width.bottom),
         left: size_of(width.left),
     }
-}
-
-fn size_of(length: Unit) -> Unit
-    ensures value { result ≡ size_of length.0 }
-    ensures size { IsUsedSize result.0 }
-{
-    clamp_size(i128::from(length.0))
 }
 
 /// The padding box of a box that stands so, with these sizes and these borders.

@@ -1,8 +1,8 @@
 //! Rectangles that are counted from one corner or another.
 
 ghost use Rattle.std.specs.Prelude.{◌≡◌, ◌-ℤ◌, IfErr, IfOk};
-ghost use Rattle.lay_units.specs.Units.{IsPosition};
-ghost use Rattle.lay_pieces.specs.Corners.{IsCornerNear, IsNear};
+ghost use Rattle.lay_units.specs.Units.{IsPosition, IsNear};
+ghost use Rattle.lay_pieces.specs.Corners.{IsCornerNear};
 ghost use Rattle.lay_pieces.specs.NearPieces.{IsRectNear};
 ghost use Rattle.lay_positioned.specs.ContainingRects.{seen_from};
 

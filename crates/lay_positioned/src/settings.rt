@@ -1,10 +1,10 @@
 //! What an absolutely positioned box is given from outside.
 
-ghost use Rattle.std.specs.Prelude.{◌≡◌, ◌<◌, ◌-ℤ◌, IfOk, length};
+ghost use Rattle.std.specs.Prelude.{◌≡◌, ◌<◌, IfOk, length};
 ghost use Rattle.lay_pieces.specs.Corners.{IsCornerNear};
 ghost use Rattle.lay_pieces.specs.NearPieces.{IsRectNear};
 ghost use Rattle.lay_positioned.specs.Settings.{IsInnerSetting, IsSetting, absolute_setting, setting_beside};
-ghost use Rattle.lay_abspos.specs.AbsoluteSettings.{SettingFits, block_in};
+ghost use Rattle.lay_abspos.specs.AbsoluteSettings.{SettingFits};
 ghost use Rattle.lay_abspos.specs.ViewportBounds.{ViewportFits};
 
 use crate::absolute::is_fixed;

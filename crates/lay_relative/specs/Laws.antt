@@ -7,4 +7,5 @@ use Rattle.lay_relative.specs.declared.offset.Offset.{Offset}
 use Rattle.lay_relative.specs.Moves.{HasMoves}
 
 abbrev pub OneColumnOfMoves : Type 0
-OneColumnOfMoves = (boxes : List BoxNode) (sizes : List BoxSizes) (m n : List Offset) → AreContextBoxes boxes → HasMoves boxes sizes m → HasMoves boxes sizes n → m ≡ n
+OneColumnOfMoves = (boxes : List BoxNode) (sizes : List BoxSizes) (m n : List Offset) → AreContextBoxes boxes
+    → HasMoves boxes sizes m → HasMoves boxes sizes n → m ≡ n

@@ -1,11 +1,8 @@
 -- Moves within bounds.
-use Rattle.std.specs.Prelude.{ℕ, ◌<◌, ℤ, pos, neg_ℤ, ◌≤ℤ◌, List, length}
+use Rattle.std.specs.Prelude.{ℕ, ◌<◌, List, length}
+use Rattle.lay_units.specs.Units.{IsNear}
 use Rattle.lay_relative.specs.declared.offset.Offset.{Offset}
 use Rattle.lay_relative.specs.Moves.{move_at}
-
--- at most 2^60 units
-abbrev pub IsNear : ℤ → Type 0
-IsNear v = (neg_ℤ (pos 1152921504606846976) ≤ℤ v) × (v ≤ℤ pos 1152921504606846976)
 
 pub record IsMoveNear (o : Offset) : Type 0 where
   pub right : IsNear o.right.0

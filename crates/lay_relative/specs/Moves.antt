@@ -3,7 +3,8 @@
 -- that is moved with it: "any resulting translation also affects the block-level box contained in the inline box" (9.2.1.1).
 -- The own box isn't moved here: the formatting context around it does that. By themselves neither is an anchor, which stands
 -- for what isn't in flow, nor a text, nor a part of a table, on which relative positioning has no effect.
-use Rattle.std.specs.Prelude.{ℕ, zero, suc, ◌≡◌, ◌<◌, ◌+ℤ◌, Bool, true, false, List, length, replicate, slice_index_or, Option, None, if◌then◌else◌}
+use Rattle.std.specs.Prelude.{ℕ, zero, suc, ◌≡◌, ◌<◌, ◌+ℤ◌, Bool, true, false, List, length}
+use Rattle.std.specs.Prelude.{replicate, slice_index_or, Option, None, if◌then◌else◌}
 use Rattle.std.specs.Option.{unwrap_or}
 use Rattle.lay_style.specs.ComputedStyle.{style_at}
 use Rattle.lay_box_tree.specs.declared.box_role.Role.{Role}

@@ -9,7 +9,8 @@ use Rattle.lay_relative.specs.FormerParents.{WasIn}
 abbrev pub IsNextTo : List BoxNode → (n p q : ℕ) → Type 0
 IsNextTo boxes n p q =
     ((q ≡ 0) × ((j : ℕ) → p < j → j < n → is_part_at boxes (id_at boxes p) j ≡ false))
-    ⊎ ((p < q) × (q < n) × (is_part_at boxes (id_at boxes p) q ≡ true) × ((j : ℕ) → p < j → j < q → is_part_at boxes (id_at boxes p) j ≡ false))
+    ⊎ ((p < q) × (q < n) × (is_part_at boxes (id_at boxes p) q ≡ true)
+    × ((j : ℕ) → p < j → j < q → is_part_at boxes (id_at boxes p) j ≡ false))
 
 -- that of each part
 pub record AreNextTo (boxes : List BoxNode) (next : List ℕ) (n : ℕ) : Type 0 where

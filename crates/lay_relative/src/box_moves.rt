@@ -1,6 +1,6 @@
 //! By how much the boxes of one formatting context are moved, as it is kept.
 
-ghost use Rattle.std.specs.Prelude.{◌≡◌, length, replicate};
+ghost use Rattle.std.specs.Prelude.{◌≡◌, replicate};
 ghost use Rattle.lay_relative.specs.MoveBounds.{AreNearMoves, IsMoveNear};
 ghost use Rattle.lay_relative.specs.Moves.{move_at};
 ghost use Rattle.lay_relative.specs.RelativeOffsets.{no_offset};

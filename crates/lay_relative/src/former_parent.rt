@@ -6,7 +6,7 @@ ghost use Rattle.lay_box_tree.specs.InlineParts.{is_inline_at};
 ghost use Rattle.lay_box_tree.specs.BoxColumns.{box_parents};
 ghost use Rattle.lay_relative.specs.FormerParents.{AreFormerParents, IsFormerParent};
 ghost use Rattle.lay_relative.specs.OpenParts.{AreNextPlaces, AreOpen, GoesOn};
-ghost use Rattle.lay_relative.specs.SubtreeEnds.{AreEnds, IsEnd};
+ghost use Rattle.lay_relative.specs.SubtreeEnds.{IsEnd};
 
 use crate::next_place::{is_inline_at, next_places};
 use crate::subtree_end::{box_parent, subtree_ends};
@@ -89,7 +89,8 @@ fn is_top_over(next: &[usize], end: usize, parts: &[usize]) -> bool
 
 /// The topmost of these parts, if it stands behind the place `parent`.
 fn nearest(parts: &[usize], parent: usize) -> Option<usize>
-    ensures { MatchOption result ((i : ℕ) → i + 1 ≡ length parts.now → slice_index parts.now i ≤ parent) (λ p. (i : ℕ) × (i + 1 ≡ length parts.now) × (slice_index parts.now i ≡ p) × (parent < p)) }
+    ensures { MatchOption result ((i : ℕ) → i + 1 ≡ length parts.now → slice_index parts.now i ≤ parent)
+        (λ p. (i : ℕ) × (i + 1 ≡ length parts.now) × (slice_index parts.now i ≡ p) × (parent < p)) }
 {
     match parts.len() {
         0 => None,

@@ -1,10 +1,11 @@
 //! By how much the boxes of one formatting context are moved.
 
-ghost use Rattle.std.specs.Prelude.{ℕ, ◌≡◌, ◌<◌, ◌+ℤ◌, Option, List, IsFalse, length, IfOk};
+ghost use Rattle.std.specs.Prelude.{◌≡◌, ◌<◌, ◌+ℤ◌, IsFalse, length, IfOk};
+ghost use Rattle.lay_units.specs.Units.{IsNear};
 ghost use Rattle.lay_sizes.specs.SizeColumns.{HaveSizeBounds};
 ghost use Rattle.lay_relative.specs.FormerParents.{AreFormerParents};
-ghost use Rattle.lay_relative.specs.MoveBounds.{AreNearMoves, IsMoveNear, IsNear};
-ghost use Rattle.lay_relative.specs.Moves.{HasMoves, NoneIsRelative, carrier, is_movable, move_at, move_of, own_offset, sum_of};
+ghost use Rattle.lay_relative.specs.MoveBounds.{AreNearMoves, IsMoveNear};
+ghost use Rattle.lay_relative.specs.Moves.{HasMoves, NoneIsRelative, carrier, is_movable, move_of, own_offset, sum_of};
 ghost use Rattle.lay_relative.specs.RelativeOffsets.{IsOffsetUsed};
 
 use crate::box_moves::BoxMoves;

@@ -1,6 +1,6 @@
 //! The lines of a tree.
 
-ghost use Rattle.std.specs.Prelude.{◌≡◌, string_bytes};
+ghost use Rattle.std.specs.Prelude.{string_bytes};
 ghost use Rattle.lay_frag.specs.Lines.{context_text, frag_line, tree_text};
 ghost use Rattle.lay_frag.specs.Pieces.{IsContextInRange, IsTreeInRange};
 ghost use Rattle.lay_report.specs.Writing.{Pushes};

@@ -63,7 +63,8 @@ fn push_history<K: Sink>(
     sink: &mut K,
 ) -> Result<(), ReportFault>
     ensures { Pushes (record { taken = K.taken sink.old; faults = K.faults sink.old; held = string_bytes buffer.old })
-        (record { taken = K.taken sink.new; faults = K.faults sink.new; held = string_bytes buffer.new }) (history_text history.now trees.now) result }
+        (record { taken = K.taken sink.new; faults = K.faults sink.new; held = string_bytes buffer.new })
+        (history_text history.now trees.now) result }
 {
     for entry in history {
         push_entry_text(alloc, entry, trees, buffer, sink)?;
@@ -79,7 +80,8 @@ fn push_final<K: Sink>(
     sink: &mut K,
 ) -> Result<(), ReportFault>
     ensures { Pushes (record { taken = K.taken sink.old; faults = K.faults sink.old; held = string_bytes buffer.old })
-        (record { taken = K.taken sink.new; faults = K.faults sink.new; held = string_bytes buffer.new }) (final_text version trees.now) result }
+        (record { taken = K.taken sink.new; faults = K.faults sink.new; held = string_bytes buffer.new })
+        (final_text version trees.now) result }
 {
     push_version(buffer, "final ", version)?;
     push_shown(Some(version), trees, buffer, sink)
@@ -94,7 +96,8 @@ fn push_entry_text<K: Sink>(
     sink: &mut K,
 ) -> Result<(), ReportFault>
     ensures { Pushes (record { taken = K.taken sink.old; faults = K.faults sink.old; held = string_bytes buffer.old })
-        (record { taken = K.taken sink.new; faults = K.faults sink.new; held = string_bytes buffer.new }) (entry_text trees.now entry.now) result }
+        (record { taken = K.taken sink.new; faults = K.faults sink.new; held = string_bytes buffer.new })
+        (entry_text trees.now entry.now) result }
 {
     push_entry(alloc, buffer, entry)?;
     push_shown(shown_version(entry), trees, buffer, sink)
@@ -108,7 +111,8 @@ fn push_shown<K: Sink>(
     sink: &mut K,
 ) -> Result<(), ReportFault>
     ensures { Pushes (record { taken = K.taken sink.old; faults = K.faults sink.old; held = string_bytes buffer.old })
-        (record { taken = K.taken sink.new; faults = K.faults sink.new; held = string_bytes buffer.new }) (shown_lines trees.now version) result }
+        (record { taken = K.taken sink.new; faults = K.faults sink.new; held = string_bytes buffer.new })
+        (shown_lines trees.now version) result }
 {
     match version {
         Some(version) => push_tree_at(version, trees, buffer, sink),
@@ -124,7 +128,8 @@ fn push_tree_at<K: Sink>(
     sink: &mut K,
 ) -> Result<(), ReportFault>
     ensures { Pushes (record { taken = K.taken sink.old; faults = K.faults sink.old; held = string_bytes buffer.old })
-        (record { taken = K.taken sink.new; faults = K.faults sink.new; held = string_bytes buffer.new }) (tree_lines (tree_at version trees.now)) result }
+        (record { taken = K.taken sink.new; faults = K.faults sink.new; held = string_bytes buffer.new })
+        (tree_lines (tree_at version trees.now)) result }
 {
     match tree_at(trees, version) {
         Some(tree) => push_tree(tree, buffer, sink),

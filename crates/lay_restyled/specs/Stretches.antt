@@ -29,7 +29,8 @@ abbrev pub stretch_of : Document → Edit → Option Stretch
 stretch_of d (SetStyle node decl) = option_map (subtree_at (parents_of d.nodes)) (place_of node.0 (ids_of d.nodes))
 stretch_of d (ClearStyle node property) = option_map (subtree_at (parents_of d.nodes)) (place_of node.0 (ids_of d.nodes))
 stretch_of d (SetText node text) = Some (none_of (length d.nodes))
-stretch_of d (Insert parent index new) = option_map (λ p. inserted_at (slot_of (parents_of d.nodes) p index)) (place_of parent.0 (ids_of d.nodes))
+stretch_of d (Insert parent index new) =
+    option_map (λ p. inserted_at (slot_of (parents_of d.nodes) p index)) (place_of parent.0 (ids_of d.nodes))
 stretch_of d (Remove node) = option_map (removed_at (parents_of d.nodes)) (place_of node.0 (ids_of d.nodes))
 stretch_of d (Bad bad) = None
 

@@ -1,11 +1,10 @@
 //! The computed styles of a document after an edit.
 
-ghost use Rattle.std.specs.Prelude.{◌≡◌, ◌++◌, ◌+◌, ◌-◌, ◌≤◌, None, IfOk, OnOk, drop, length, take};
+ghost use Rattle.std.specs.Prelude.{◌≡◌, ◌++◌, ◌+◌, ◌-◌, None, IfOk, OnOk};
 ghost use Rattle.lay_style.specs.ComputedStyle.{HasStyles};
 ghost use Rattle.lay_doc.specs.Document.{declarations_of, parents_of};
 ghost use Rattle.lay_doc.specs.Edits.{after, fault};
 ghost use Rattle.lay_doc.specs.Tree.{IsTree};
-ghost use Rattle.lay_inherit.specs.StylesTo.{StylesTo};
 ghost use Rattle.lay_restyled.specs.KeptStyles.{KeepsStyles};
 
 use crate::stretch::{Stretch, stretch_of};

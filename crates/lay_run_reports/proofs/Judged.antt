@@ -1,14 +1,12 @@
 -- The verdict on a core's report.
-use Rattle.std.proofs.Common.{◌≡◌, ◌∙◌, ℕ, List, refl, sym, ap, subst, Ok, Result}
+use Rattle.std.proofs.Common.{◌≡◌, ℕ, List, subst, Ok, Result}
 use Rattle.lay_layout.specs.doc.Document.{Document}
 use Rattle.lay_layout.specs.edit_lists.declared.command.Cmd.{Cmd}
 use Rattle.lay_layout.specs.face.FaceValue.{FaceValue}
 use Rattle.lay_layout.specs.run.Runs.{Run}
 use Rattle.lay_report.specs.Report.{run_report}
 use Rattle.lay_json.specs.declared.fault.InputFault.{InputFault}
-use Rattle.lay_json.specs.Reading.{HoldsBoth}
 use Rattle.lay_input.specs.declared.check.Check.{Check}
-use Rattle.lay_input.specs.StyledReading.{IsStyledReading}
 use Rattle.lay_input.specs.StyledChecks.{IsStyledCheck}
 use Rattle.lay_input.specs.Laws.{OneStyledCheck, RunsAreStyledBesideReports}
 use Rattle.lay_core.specs.State.{State}
@@ -17,7 +15,7 @@ use Rattle.lay_audit.specs.declared.verdict.Verdict.TheVariants.{Yes}
 use Rattle.lay_audit.specs.LegalReports.{Basis, IsLegalReport}
 use Rattle.lay_audit.specs.Laws.{OneVerdict}
 use Rattle.lay_audit.specs.Verdicts.{IsVerdict}
-use Rattle.lay_check.specs.Judging.{IsJudged, SpellCheck, basis_in}
+use Rattle.lay_check.specs.Judging.{IsJudged, basis_in}
 use Rattle.lay_run_reports.specs.Laws.{IsOfRun, RunReportsAreLegal, RunReportsAreYes}
 
 abbrev based : Document → FaceValue → List (List Cmd) → Basis

@@ -1,14 +1,13 @@
 -- A core's report, as a legal one.
-use Rattle.std.proofs.Common.{◌≡◌, ℕ, ◌==◌, ◌<◌, suc, List, [], ◌∷◌, find, length, cond, Some, None, option_map, refl, sym, ap, ◌∙◌, subst, arith, inl, inr, eq-eqb, ne_eqb, All}
+use Rattle.std.proofs.Common.{◌≡◌, ℕ, ◌==◌, suc, List, [], ◌∷◌, find, cond, Some, option_map, refl, sym, ap, ◌∙◌, subst, arith, inl, inr, eq-eqb, ne_eqb, All}
 use Rattle.std.proofs.lemmas.Bool.{cases_eq}
-use Rattle.lay_layout.specs.doc.Document.{IsDocument}
 use Rattle.lay_layout.specs.frag.Pieces.{Context}
 use Rattle.lay_layout.specs.history.Histories.{doc_at}
 use Rattle.lay_layout.specs.history.Trees.{PublishedTreeValue, tree_at}
 use Rattle.lay_layout.proofs.lay_history.Lists.{not_none, some_is}
 use Rattle.lay_layout.specs.context.Laws.{OneSolution}
 use Rattle.lay_layout.specs.context.Solves.{Solves}
-use Rattle.lay_core.specs.Laws.{HasLastTree, LastTree}
+use Rattle.lay_core.specs.Laws.{LastTree}
 use Rattle.lay_run_reports.specs.Laws.{PublishedTreesAreLayouts, RunReportsAreLegal}
 
 pub run_reports_are_legal : LastTree → RunReportsAreLegal

@@ -1,6 +1,6 @@
 -- Contexts that keep their links through one edit and another keep them through both.
-use Rattle.std.proofs.Common.{◌≡◌, ℕ, zero, suc, ◌<◌, ◌||◌, Bool, true, false, List, [], ◌∷◌, length, slice_index_or, refl, arith, ap, sym, ◌∙◌}
-use Rattle.lay_layout.specs.contexts.Contexts.{Context, boxes_in, context_at}
+use Rattle.std.proofs.Common.{◌≡◌, ℕ, zero, suc, ◌<◌, ◌||◌, Bool, true, false, List, [], ◌∷◌, length, refl, arith, ap, sym, ◌∙◌}
+use Rattle.lay_layout.specs.contexts.Contexts.{Context, context_at}
 use Rattle.lay_later_contexts.specs.Links.{AreRestyled, HasLinks, is_made}
 use Rattle.lay_settled_cells.specs.Since.{either}
 

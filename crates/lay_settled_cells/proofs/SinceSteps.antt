@@ -1,14 +1,12 @@
 -- What is known since all cells were clean, through claims, what comes of them, and edits.
-use Rattle.std.proofs.Common.{◌≡◌, ◌⊎◌, inl, inr, ◌<◌, ◌≤◌, ◌+◌, ℕ, Bool, List, slice_set, refl, arith, ap, sym, subst, ◌∙◌}
-use Rattle.lay_layout.specs.doc.Document.{Document}
-use Rattle.lay_layout.specs.face.FaceValue.{FaceValue}
+use Rattle.std.proofs.Common.{◌≡◌, inl, inr, ◌≤◌, ◌+◌, List, slice_set, refl, arith, ap, sym, subst}
 use Rattle.lay_layout.specs.cells.Steps.{draws_after}
 use Rattle.lay_layout.proofs.lay_cells.Keeps.{draws_more}
 use Rattle.lay_layout.specs.contexts.Contexts.{Context}
 use Rattle.lay_layout.specs.context.Medium.{Medium}
-use Rattle.lay_cell_steps.specs.cell_laws.SoundCells.{CellRow, CellState}
+use Rattle.lay_cell_steps.specs.cell_laws.SoundCells.{CellState}
 use Rattle.lay_settled_cells.specs.Laws.{ClaimsKeepSince, EditsBeginSince, EditsKeepSince, FinishesKeepSince, GiveBacksKeepSince}
-use Rattle.lay_settled_cells.specs.Since.{IsSince, KeepSince, Since, either}
+use Rattle.lay_settled_cells.specs.Since.{IsSince, KeepSince, Since}
 use Rattle.lay_settled_cells.proofs.KeptRows.{back_keeps, claim_keeps, clean_keeps, finish_keeps, marks_keep}
 use Rattle.lay_settled_cells.proofs.RestyledTwice.{restyled_twice}
 

@@ -1,5 +1,5 @@
 -- An unchanged cell is given what it was when all cells were clean, of which its kept pair is.
-use Rattle.std.proofs.Common.{◌≡◌, ◌<◌, ℕ, false, List, length, map, slice_get, Option, Some, option_map, arith, ap, sym, subst, ◌∙◌}
+use Rattle.std.proofs.Common.{◌≡◌, ◌<◌, ℕ, false, List, length, map, slice_get, Some, option_map, arith, ap, sym, subst, ◌∙◌}
 use Rattle.lay_layout.specs.doc.Document.{Document}
 use Rattle.lay_layout.specs.face.FaceValue.{FaceValue}
 use Rattle.lay_layout.specs.cells.Places.{AtPlace}
@@ -16,7 +16,7 @@ use Rattle.lay_cell_steps.specs.shape.declared.cell_key.CellKey.{CellKey}
 use Rattle.lay_cell_steps.specs.shape.declared.context_phase.ContextPhase.{ContextPhase}
 use Rattle.lay_cell_steps.specs.shape.Dependencies.{in_phase, needs_in, needs_of}
 use Rattle.lay_cell_steps.specs.shape.Keys.{key_of as key_of_cell}
-use Rattle.lay_cell_steps.specs.shape.Shapes.{cells_of, entry_of as entry_of_cell, shape_of}
+use Rattle.lay_cell_steps.specs.shape.Shapes.{cells_of, entry_of as entry_of_cell}
 use Rattle.lay_cell_steps.proofs.lay_shape.CellOrder.{cell_within}
 use Rattle.lay_cell_steps.proofs.lay_shape.Members.{in_map}
 use Rattle.lay_cell_steps.specs.cell_work.CellInputs.{CellInput}

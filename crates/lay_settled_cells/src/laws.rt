@@ -1,6 +1,7 @@
 //! The laws. Their functions do nothing.
 
-ghost use Rattle.lay_settled_cells.specs.Laws.{ClaimsKeepSince, EditsBeginSince, EditsKeepSince, FinishesKeepSince, GiveBacksKeepSince, UnchangedCellsKeepInputs};
+ghost use Rattle.lay_settled_cells.specs.Laws.{ClaimsKeepSince, EditsBeginSince, EditsKeepSince};
+ghost use Rattle.lay_settled_cells.specs.Laws.{FinishesKeepSince, GiveBacksKeepSince, UnchangedCellsKeepInputs};
 
 use lay_cell_steps::cell_laws::inputs_are_kept;
 

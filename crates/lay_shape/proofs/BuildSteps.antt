@@ -1,14 +1,14 @@
 -- What is put together from the front on has one more.
-use Rattle.std.proofs.Common.{◌≡◌, ◌≢◌, ℕ, zero, suc, ◌+◌, ◌-◌, ◌<◌, ◌≤◌, ◌==◌, ◌^◌, Bool, true, false, cond, List, [], ◌∷◌, ◌++◌, length, map, filter, flat_map, reverse, take, slice_get, slice_index, slice_index_or, get_or, All, Some, refl, ap, sym, subst, ◌∙◌, arith, append-nil, append_assoc, length-set, slice_set}
+use Rattle.std.proofs.Common.{◌≡◌, ◌≢◌, ℕ, zero, suc, ◌+◌, ◌-◌, ◌<◌, ◌≤◌, ◌==◌, ◌^◌, Bool, true, false, cond, List, [], ◌∷◌, ◌++◌, length, map, filter, flat_map, reverse, take, slice_get, slice_index, slice_index_or, get_or, All, Some, refl, ap, sym, ◌∙◌, arith, append-nil, append_assoc, length-set, slice_set}
 use Rattle.std.proofs.lemmas.Bool.{eq-eqb, eqb-true}
-use Rattle.std.proofs.lemmas.List.{flat_map_more, get_or-set_other, get_or-set_same, get_or-map, get_or_at, get_or-reverse, length-map, length-take-le, map-id, map_more, map_push, take_all, take_more}
+use Rattle.std.proofs.lemmas.List.{flat_map_more, get_or-set_other, get_or-set_same, length-map, length-take-le, map-id, map_more, map_push, take_all, take_more}
 use Rattle.std.proofs.lemmas.List.Elements.{filter-append, filter_more}
-use Rattle.std.proofs.lemmas.List.FromFn.{filter_of_map_range_with_len_more, get_or-map-range_with_len, get_or-range_with_len, length-map-range_with_len, length-range_with_len, map-range_with_len_more}
+use Rattle.std.proofs.lemmas.List.FromFn.{get_or-map-range_with_len, map-range_with_len_more}
 use Rattle.std.proofs.lemmas.Option.{get_or_from_slice_get, none-some, slice_get-get_or, slice_get_within}
 use Rattle.lay_layout.specs.units.Limits.{most_nodes}
 use Rattle.std.specs.List.{range_with_len}
 use Rattle.lay_layout.specs.cells.Shapes.{Entry, IsEachOnce, IsIn}
-use Rattle.lay_layout.specs.contexts.Contexts.{AreContexts, Context, IsInside, context_at}
+use Rattle.lay_layout.specs.contexts.Contexts.{AreContexts, Context, context_at}
 use Rattle.lay_layout.specs.positioned.Levels.{one_if}
 use Rattle.lay_shape.specs.declared.cell_key.CellKey.{CellKey}
 use Rattle.lay_shape.specs.declared.context_phase.ContextPhase.{ContextPhase}
@@ -16,11 +16,11 @@ use Rattle.lay_shape.specs.Building.{AreByLevel, entries_to, levels_of}
 use Rattle.lay_layout.specs.context.declared.task.Phase.{Phase}
 use Rattle.lay_layout.specs.context.declared.task.Phase.TheVariants.{Size, Place}
 use Rattle.lay_shape.specs.Dependencies.{in_phase, needs_in, needs_of}
-use Rattle.lay_shape.specs.Keys.{AreOfOwnNodes, key_of, node_of}
+use Rattle.lay_shape.specs.Keys.{AreOfOwnNodes, key_of}
 use Rattle.lay_shape.specs.Levels.{level_of}
 use Rattle.lay_shape.specs.Shapes.{at_level, cells_of, entry_of, round_of}
 use Rattle.lay_shape.specs.Ways.{is_absolute, way_of}
-use Rattle.lay_shape.proofs.CellOrder.{cell_in, cell_once, cell_within, cells_few, need_before}
+use Rattle.lay_shape.proofs.CellOrder.{cell_once, cell_within, cells_few, need_before}
 use Rattle.lay_shape.proofs.LevelSteps.{level_few, level_step}
 use Rattle.lay_shape.proofs.Members.{from_map, in_map}
 use Rattle.lay_shape.proofs.NeedSteps.{needs_once}

@@ -1,6 +1,5 @@
 -- The laws of ways, cells and their order.
-use Rattle.std.proofs.Common.{◌≡◌, ℕ, ◌<◌, ◌≤◌, ◌^◌, List, length, map, slice_get, Some, ap, sym, subst, ◌∙◌, arith}
-use Rattle.std.specs.Prelude.{◌↔◌}
+use Rattle.std.proofs.Common.{◌≡◌, ℕ, ◌≤◌, ◌^◌, List, length, slice_get, Some, ap, sym, subst, ◌∙◌, arith}
 use Rattle.std.proofs.lemmas.List.{length-map}
 use Rattle.lay_layout.specs.units.Limits.{most_nodes}
 use Rattle.lay_layout.specs.cells.Shapes.{Entry, IsEachOnce, IsIn, IsShape, StandsBefore}

@@ -1,5 +1,5 @@
 -- The cells in order: each stands there, where its turn is, and there are three times as many as contexts at most.
-use Rattle.std.proofs.Common.{◌≡◌, ◌⊎◌, inl, inr, ⊎_elim, ℕ, zero, suc, ◌+◌, ◌-◌, ◌*◌, ◌<◌, ◌≤◌, ◌==◌, nat_le, Bool, true, false, cond, List, [], ◌∷◌, ◌++◌, length, map, filter, flat_map, reverse, slice_get, Some, refl, ap, sym, subst, ◌∙◌, arith, length-append}
+use Rattle.std.proofs.Common.{◌≡◌, ◌⊎◌, ⊎_elim, ℕ, zero, suc, ◌+◌, ◌-◌, ◌<◌, ◌≤◌, ◌==◌, nat_le, Bool, true, false, cond, List, [], ◌∷◌, length, map, filter, flat_map, reverse, slice_get, Some, refl, ap, subst, arith, length-append}
 use Rattle.std.proofs.lemmas.Bool.{eqb-true, eq-eqb, le-leb, leb-true}
 use Rattle.std.proofs.lemmas.List.{length-map, length-reverse, reverse-reverse}
 use Rattle.std.proofs.lemmas.List.FromFn.{length-range_with_len}
@@ -15,7 +15,7 @@ use Rattle.lay_shape.specs.Shapes.{at_level, cells_of, numbers_of, round_of}
 use Rattle.lay_shape.proofs.LevelSteps.{level_few}
 use Rattle.lay_shape.proofs.Members.{from_filter, from_flat_map, from_map, from_range, in_either, in_filter, in_flat_map, in_left, in_map, in_range, in_reverse, in_right}
 use Rattle.lay_shape.proofs.Rising.{Rises, falling, in_order, joined, one_place, rising, rounds}
-use Rattle.lay_shape.proofs.Turns.{IsBefore, before, round_start, turn}
+use Rattle.lay_shape.proofs.Turns.{before, round_start, turn}
 
 all_pass : (xs : List ℕ) → filter (λ i. true) xs ≡ xs
 all_pass [] = refl

@@ -1,5 +1,5 @@
 -- What a cell depends on: cells of contexts inside it, of the one around it and of those on its way, each once.
-use Rattle.std.proofs.Common.{◌≡◌, ◌⊎◌, inl, inr, ⊎_elim, ℕ, zero, suc, ◌+◌, ◌<◌, ◌≤◌, ◌&&◌, not, nat_lt, Bool, true, false, List, [], ◌∷◌, ◌++◌, length, map, slice_get, slice_index, Some, refl, ap, sym, subst, ◌∙◌, arith, if◌then◌else◌}
+use Rattle.std.proofs.Common.{◌≡◌, ◌⊎◌, inl, inr, ⊎_elim, ℕ, zero, suc, ◌+◌, ◌<◌, ◌&&◌, not, nat_lt, Bool, true, false, List, [], ◌∷◌, ◌++◌, length, map, slice_get, Some, refl, ap, sym, subst, ◌∙◌, arith, if◌then◌else◌}
 use Rattle.std.proofs.lemmas.Option.{get_or_from_slice_get, slice_get_within}
 use Rattle.lay_layout.specs.cells.Shapes.{IsEachOnce, IsIn}
 use Rattle.lay_layout.specs.context.declared.task.Phase.{Phase}
@@ -8,7 +8,7 @@ use Rattle.lay_layout.specs.contexts.Contexts.{AreContexts, Context, IsInside, c
 use Rattle.lay_shape.specs.declared.context_phase.ContextPhase.{ContextPhase}
 use Rattle.lay_shape.specs.Dependencies.{in_phase, inner_flows, is_inner_flow, needs_in, on_way, outer_needs, way_needs}
 use Rattle.lay_shape.specs.Ways.{IsOnWay, is_absolute, way_of}
-use Rattle.lay_shape.proofs.Members.{from_filter, from_flat_map, from_map, in_cases, in_either, in_here, in_none}
+use Rattle.lay_shape.proofs.Members.{from_filter, from_flat_map, from_map, in_cases, in_either, in_none}
 use Rattle.lay_shape.proofs.Once.{once_append, once_filter, once_flat_map, once_map, once_more, once_none}
 use Rattle.lay_shape.proofs.WaySteps.{in_way_on, on_way_lower, ways_once}
 

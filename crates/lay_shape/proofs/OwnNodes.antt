@@ -1,5 +1,5 @@
 -- The own box of a context is of its node, so contexts of one node are one.
-use Rattle.std.proofs.Common.{◌≡◌, ◌⊎◌, inl, inr, ⊎_elim, ℕ, ◌<◌, List, [], ◌∷◌, length, map, slice_get, slice_index, refl, ap, sym, subst, ◌∙◌, arith, Bool, true, false, IsTrue, Option, Some, None}
+use Rattle.std.proofs.Common.{◌≡◌, ◌⊎◌, ⊎_elim, ℕ, ◌<◌, List, [], ◌∷◌, length, slice_get, slice_index, refl, ap, sym, subst, ◌∙◌, arith, Bool, true, false, IsTrue, Option, Some, None}
 use Rattle.std.proofs.lemmas.Bool.{cases_lt}
 use Rattle.std.proofs.lemmas.List.{get_or-map}
 use Rattle.std.proofs.lemmas.Option.{get_or_from_slice_get, slice_get-map}
@@ -18,10 +18,10 @@ use Rattle.lay_layout.specs.boxgen.Laws.{inner_boxes}
 use Rattle.lay_layout.specs.boxgen.Listing.{listed_part}
 use Rattle.lay_layout.specs.boxgen.NodeBoxes.{node_box}
 use Rattle.lay_layout.specs.boxgen.NodeTrees.{as_own, box_with, tree_at}
-use Rattle.lay_layout.specs.boxgen.Parts.{nothing, part, put_list}
+use Rattle.lay_layout.specs.boxgen.Parts.{nothing, put_list}
 use Rattle.lay_layout.proofs.lay_boxgen.NodeForms.{IsNodeBox, is-node_box}
 use Rattle.lay_layout.proofs.lay_boxgen.WholeParts.{context_is_one_box}
-use Rattle.lay_layout.specs.contexts.ContextList.{AreContextsOf, boxes_at, boxes_of_spots}
+use Rattle.lay_layout.specs.contexts.ContextList.{AreContextsOf}
 use Rattle.lay_layout.specs.contexts.ContextTree.{boxes_of_place}
 use Rattle.lay_layout.specs.contexts.Contexts.{Context, boxes_in}
 use Rattle.lay_layout.specs.contexts.DocumentContexts.{root_spot, spot_at}

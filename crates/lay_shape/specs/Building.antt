@@ -16,7 +16,8 @@ levels_of contexts = map (level_of contexts) (range_with_len 0 (length contexts)
 -- of each level the contexts before n that have it
 pub record AreByLevel (contexts : List Context) (lists : List (List ℕ)) (n : ℕ) : Type 0 where
   pub count : length lists ≡ length contexts + 1
-  pub each : (level : ℕ) → level < length contexts + 1 → slice_index_or lists level [] ≡ filter (λ i. level_of contexts i == level) (range_with_len 0 n)
+  pub each : (level : ℕ) → level < length contexts + 1
+      → slice_index_or lists level [] ≡ filter (λ i. level_of contexts i == level) (range_with_len 0 n)
 
 -- the entries of the first n cells
 abbrev pub entries_to : List Context → ℕ → List (Entry CellKey)

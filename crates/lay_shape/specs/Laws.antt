@@ -15,7 +15,8 @@ use Rattle.lay_shape.specs.Ways.{IsOnWay, way_of}
 
 -- Just the contexts on a way are listed as those.
 abbrev pub WaysAreLists : Type 0
-WaysAreLists = (contexts : List Context) (i j : ℕ) → AreContexts contexts → i < length contexts → IsIn (way_of contexts i) j ↔ IsOnWay contexts i j
+WaysAreLists = (contexts : List Context) (i j : ℕ) → AreContexts contexts → i < length contexts
+    → IsIn (way_of contexts i) j ↔ IsOnWay contexts i j
 
 -- the cell stands at this place among these, and at no other
 pub record StandsOnce (cells : List ContextPhase) (c : ContextPhase) : Type 0 where
@@ -25,20 +26,24 @@ pub record StandsOnce (cells : List ContextPhase) (c : ContextPhase) : Type 0 wh
 
 -- Each phase of each context is one cell.
 abbrev pub CellsStandOnce : Type 0
-CellsStandOnce = (contexts : List Context) (i : ℕ) (phase : Phase) → AreContexts contexts → i < length contexts → StandsOnce (cells_of contexts) (in_phase phase i)
+CellsStandOnce = (contexts : List Context) (i : ℕ) (phase : Phase) → AreContexts contexts
+    → i < length contexts → StandsOnce (cells_of contexts) (in_phase phase i)
 
 -- And there are no other cells.
 abbrev pub CellsAreOfContexts : Type 0
-CellsAreOfContexts = (contexts : List Context) (c : ContextPhase) → AreContexts contexts → IsIn (cells_of contexts) c → c.context < length contexts
+CellsAreOfContexts = (contexts : List Context) (c : ContextPhase) → AreContexts contexts
+    → IsIn (cells_of contexts) c → c.context < length contexts
 
 -- What a cell depends on stands before it.
 abbrev pub NeedsStandBefore : Type 0
-NeedsStandBefore = (contexts : List Context) (place : ℕ) (c need : ContextPhase) → AreContexts contexts → slice_get (cells_of contexts) place ≡ Some c
+NeedsStandBefore = (contexts : List Context) (place : ℕ) (c need : ContextPhase) → AreContexts contexts
+    → slice_get (cells_of contexts) place ≡ Some c
     → IsIn (needs_in contexts c) need → (before : ℕ) × (before < place) × (slice_get (cells_of contexts) before ≡ Some need)
 
 -- Cells can be kept in this shape.
 abbrev pub CellsHaveAShape : Type 0
-CellsHaveAShape = (contexts : List Context) → AreContexts contexts → length contexts ≤ most_nodes → AreOfOwnNodes contexts → IsShape (shape_of contexts)
+CellsHaveAShape = (contexts : List Context) → AreContexts contexts → length contexts ≤ most_nodes
+    → AreOfOwnNodes contexts → IsShape (shape_of contexts)
 
 -- No two contexts of a document are of one node.
 abbrev pub ContextsAreOfOwnNodes : Type 0

@@ -1,7 +1,7 @@
 -- The way from the anchor of an absolutely positioned box out to its containing block (CSS 2.2, 10.1), by contexts: from that of the
 -- anchor to the one among whose boxes the nearest holder is, both included, or out to the root's where the viewport is the containing
 -- block. An anonymous table or cell on the way is in one of these contexts.
-use Rattle.std.specs.Prelude.{ℕ, zero, suc, ◌≡◌, ◌<◌, Bool, true, false, List, [], ◌∷◌, Option, None, Some, if◌then◌else◌}
+use Rattle.std.specs.Prelude.{ℕ, zero, suc, ◌≡◌, ◌<◌, Bool, true, List, [], ◌∷◌, Option, None, Some, if◌then◌else◌}
 use Rattle.lay_layout.specs.contexts.Contexts.{Context, boxes_in, context_at}
 use Rattle.lay_layout.specs.positioned.Absolute.{is_own_absolute, is_own_fixed}
 use Rattle.lay_layout.specs.positioned.Holders.{IsHolderFor, holder_for}

@@ -1,6 +1,7 @@
 //! The laws of the definitions. The functions do nothing.
 
-ghost use Rattle.lay_shape.specs.Laws.{CellsAreOfContexts, CellsHaveAShape, CellsStandOnce, ContextsAreOfOwnNodes, NeedsStandBefore, WaysAreLists};
+ghost use Rattle.lay_shape.specs.Laws.{CellsAreOfContexts, CellsHaveAShape, CellsStandOnce};
+ghost use Rattle.lay_shape.specs.Laws.{ContextsAreOfOwnNodes, NeedsStandBefore, WaysAreLists};
 
 /// Just the contexts on the way out to a containing block are listed as those.
 pub fn ways_are_lists()

@@ -82,7 +82,8 @@ fn push_inner(
     phase: Phase,
 ) -> Result<(), NoMemory>
     requires { i < length contexts.now }
-    ensures { OnOk result (keys.new.items ≡ keys.old.items ++ map (key_of contexts.now) (map (in_phase phase) (inner_flows contexts.now i))) }
+    ensures { OnOk result
+        (keys.new.items ≡ keys.old.items ++ map (key_of contexts.now) (map (in_phase phase) (inner_flows contexts.now i))) }
 {
     for k in 0..contexts.at(i).inner().len() {
         let number = inner_at(contexts, i, k);

@@ -1,35 +1,29 @@
 -- What a task needs is of a cell that its cell depends on, or of that cell.
-use Rattle.std.proofs.Common.{◌≡◌, ◌⊎◌, inl, inr, ℕ, zero, suc, ◌<◌, ◌&&◌, not, nat_lt, Bool, true, false, List, [], ◌∷◌, ◌++◌, length, map, slice_get, slice_index, slice_index_or, refl, ap, sym, subst, ◌∙◌, arith, if◌then◌else◌, Some}
+use Rattle.std.proofs.Common.{◌≡◌, inl, inr, ℕ, zero, suc, ◌<◌, ◌&&◌, not, nat_lt, Bool, true, false, List, [], ◌∷◌, ◌++◌, length, map, slice_index, slice_index_or, refl, ap, sym, subst, ◌∙◌, arith, if◌then◌else◌, Some}
 use Rattle.std.proofs.lemmas.Bool.{and_from, lt-ltb}
 use Rattle.std.proofs.lemmas.Option.{slice_get-get_or}
-use Rattle.lay_layout.specs.style.declared.style.Style.{Style}
-use Rattle.lay_layout.specs.doc.Document.{Document, IsDocument}
 use Rattle.lay_layout.specs.box_tree.BoxColumns.{box_at}
 use Rattle.lay_layout.specs.box_tree.Containing.{is_anonymous}
-use Rattle.lay_layout.specs.box_tree.declared.box_tree.BoxKind.{BoxKind}
 use Rattle.lay_layout.specs.box_tree.declared.box_tree.BoxNode.{BoxNode}
 use Rattle.lay_layout.specs.box_tree.declared.box_tree.Flow.TheVariants.{InFlow}
 use Rattle.lay_layout.specs.cells.Shapes.{IsIn}
 use Rattle.lay_layout.specs.context.declared.task.Phase.{Phase}
 use Rattle.lay_layout.specs.context.declared.task.Phase.TheVariants.{Measure, Size, Place}
-use Rattle.lay_layout.specs.context.declared.task.Task.{Task}
 use Rattle.lay_layout.specs.context.Needs.{IsAround, IsInsideFlow, IsOnWayOf, Needs}
-use Rattle.lay_layout.proofs.lay_context.TaskOrder.{IsInFlowInside, flow_inside}
-use Rattle.lay_layout.specs.contexts.ContextList.{AreContextsOf}
+use Rattle.lay_layout.proofs.lay_context.TaskOrder.{flow_inside}
 use Rattle.lay_layout.specs.contexts.Contexts.{AreContexts, Context, boxes_in, context_at}
 use Rattle.lay_layout.specs.contexts.FlowLaws.{flow_at}
 use Rattle.lay_layout.specs.contexts.FormattingBoxes.{as_member, as_own, at_home_before}
-use Rattle.lay_layout.specs.contexts.FormattingContexts.{FormattingContext, boxes_in as boxes_of, formatting_context_at}
-use Rattle.lay_layout.specs.contexts.FormattingContextList.{AreFormattingContextsOf, first_number, homes_in, inner_numbers, number_at, number_of, spot_of}
+use Rattle.lay_layout.specs.contexts.FormattingContexts.{FormattingContext, formatting_context_at}
+use Rattle.lay_layout.specs.contexts.FormattingContextList.{AreFormattingContextsOf, homes_in, number_of, spot_of}
 use Rattle.lay_layout.specs.contexts.Homes.{box_roots, is_root, is_wrapper_or_cell}
 use Rattle.lay_layout.specs.contexts.Laws.{IsNotedAround}
 use Rattle.lay_layout.specs.contexts.declared.spot.Spot.{Spot}
-use Rattle.lay_layout.proofs.lay_contexts.ContextFacts.{IsBehind, IsStanding, home_root, home_there, is_behind, spot_there}
+use Rattle.lay_layout.proofs.lay_contexts.ContextFacts.{home_root, home_there, is_behind, spot_there}
 use Rattle.lay_layout.proofs.lay_contexts.ContextNumbers.{are_contexts}
 use Rattle.lay_layout.proofs.lay_contexts.FlowAround.{anonymous_in_flow}
 use Rattle.lay_layout.proofs.lay_contexts.NotedAround.{contexts_are_noted}
 use Rattle.lay_layout.specs.positioned.Absolute.{is_absolute as is_absolute_among, is_absolute_flow, is_fixed as is_fixed_among, is_own_absolute, is_own_fixed}
-use Rattle.lay_layout.specs.positioned.Ways.{IsOnWay as IsOnWayAmong}
 use Rattle.lay_shape.specs.Dependencies.{in_phase, inner_flows, is_inner_flow, needs_in, on_way, outer_needs, way_needs}
 use Rattle.lay_shape.specs.Ways.{IsOnWay, is_absolute, is_fixed, way_of}
 use Rattle.lay_shape.proofs.Members.{in_filter, in_flat_map, in_here, in_left, in_map, in_right, in_there}

@@ -1,11 +1,11 @@
 -- The formatting contexts on a way are of the contexts on it: where none of the boxes around a box in the list of its home is a holder,
 -- and none around that home, none around the box in its context is.
-use Rattle.std.proofs.Common.{◌≡◌, ℕ, zero, suc, ◌+◌, ◌<◌, ◌≤◌, ◌&&◌, not, Bool, true, false, List, [], ◌∷◌, length, slice_index, slice_index_or, map, refl, ap, sym, subst, ◌∙◌, arith, Option, Some, None}
+use Rattle.std.proofs.Common.{◌≡◌, ℕ, zero, suc, ◌<◌, ◌≤◌, Bool, true, false, List, [], ◌∷◌, length, slice_index, refl, ap, sym, subst, ◌∙◌, arith, Option, None}
 use Rattle.lay_layout.specs.box_tree.BoxColumns.{box_at}
 use Rattle.lay_layout.specs.box_tree.Containers.{box_parent}
 use Rattle.lay_layout.specs.box_tree.ContextBoxes.{AreContextBoxes}
 use Rattle.lay_layout.specs.box_tree.declared.box_tree.BoxNode.{BoxNode}
-use Rattle.lay_layout.specs.contexts.Contexts.{AreContexts, Context, boxes_in, context_at}
+use Rattle.lay_layout.specs.contexts.Contexts.{AreContexts, Context, boxes_in}
 use Rattle.lay_layout.specs.contexts.FormattingBoxes.{as_member, at_home_before, boxes_of_root, place_inside, rank}
 use Rattle.lay_layout.specs.contexts.FormattingContexts.{FormattingContext, boxes_in as boxes_of, formatting_context_at}
 use Rattle.lay_layout.specs.contexts.FormattingContextList.{AreFormattingContextsOf, homes_in, number_at, number_of, rank_at, spot_of}

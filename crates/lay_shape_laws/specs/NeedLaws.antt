@@ -26,7 +26,8 @@ pub record IsShapedNeed (contexts : List Context) (i : ℕ) (phase : Phase) (nee
   pub shaped : IsIn (needs_in contexts (in_phase phase i)) (in_phase needed.phase context) ⊎ ((context ≡ i) × (needed.phase ≡ phase))
 
 abbrev pub NeedsAreShaped : Type 0
-NeedsAreShaped = (d : Document) (styles : List Style) (contexts : List Context) (all : List FormattingContext) (i r : ℕ) (phase : Phase) (needed : Task)
+NeedsAreShaped =
+    (d : Document) (styles : List Style) (contexts : List Context) (all : List FormattingContext) (i r : ℕ) (phase : Phase) (needed : Task)
     → IsDocument d → length styles ≡ length d.nodes → AreContextsOf d.nodes styles contexts → AreFormattingContextsOf contexts all
     → i < length contexts → r < length (boxes_in contexts i) → is_root (boxes_in contexts i) r ≡ true
     → Needs all (record { context = number_of contexts i r; phase = phase }) needed → IsShapedNeed contexts i phase needed

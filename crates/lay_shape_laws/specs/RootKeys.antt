@@ -12,6 +12,7 @@ use Rattle.lay_shape.specs.Keys.{node_of}
 
 -- of contexts of one node, before the edit and after it, both are the first or neither is
 abbrev pub RootStaysFirst : Type 0
-RootStaysFirst = (d : Document) (edit : Edit) (styles others : List Style) (contexts later : List Context) (i j : ℕ) → Edits d edit styles others
+RootStaysFirst = (d : Document) (edit : Edit) (styles others : List Style) (contexts later : List Context) (i j : ℕ)
+    → Edits d edit styles others
     → AreContextsOf d.nodes styles contexts → AreContextsOf (after d edit).nodes others later
     → i < length contexts → j < length later → node_of contexts i ≡ node_of later j → (i ≡ 0) ↔ (j ≡ 0)

@@ -3,7 +3,8 @@
 -- are joined by white space, `>` or `+`, with white space allowed round the last two. A name begins with an
 -- ASCII letter, `_` or a character from U+0080 on, or with `-` and such a one, and goes on with these, digits
 -- and `-`. Pseudo-classes, pseudo-elements and attribute selectors aren't selectors here.
-use Rattle.std.specs.Prelude.{ℕ, ◌≡◌, ◌<◌, ◌==◌, ◌||◌, List, [], ◌∷◌, length, drop, Bool, true, false, Option, Some, None, option_map, nat_le, if◌then◌else◌}
+use Rattle.std.specs.Prelude.{ℕ, ◌≡◌, ◌<◌, ◌==◌, ◌||◌, List, [], ◌∷◌, length, drop, Bool, true}
+use Rattle.std.specs.Prelude.{false, Option, Some, None, option_map, nat_le, if◌then◌else◌}
 use Rattle.std.specs.Char.{is_ascii_alphabetic, is_ascii_digit, is_ascii_whitespace}
 use Rattle.lay_values.specs.Numbers.{leading, behind}
 use Rattle.lay_values.specs.Reading.{without_front, trimmed}

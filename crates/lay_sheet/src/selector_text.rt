@@ -1,10 +1,11 @@
 //! How selectors are written.
 
-ghost use Rattle.std.specs.Prelude.{◌≡◌, ◌≤◌, ◌<◌, IfOk, IfSome, length, List, Option, Some, None, option_map};
+ghost use Rattle.std.specs.Prelude.{◌≡◌, ◌≤◌, ◌<◌, IfOk, length, Some, None, option_map};
 ghost use Rattle.lay_values.specs.Numbers.{leading, behind};
 ghost use Rattle.lay_values.specs.Reading.{without_front};
-ghost use Rattle.lay_sheet.specs.declared.selector.Step.{Step as StepValue};
-ghost use Rattle.lay_sheet.specs.SelectorTexts.{is_name_start, is_name_part, begins_plain_name, begins_name, name_of, begins_compound, simple_of, behind_simple, begins_with_space, joint_of, behind_sign, behind_joint, AreSteps, IsSelectorText, AreSelectors};
+ghost use Rattle.lay_sheet.specs.SelectorTexts.{is_name_start, is_name_part, begins_plain_name, begins_name, name_of};
+ghost use Rattle.lay_sheet.specs.SelectorTexts.{begins_compound, simple_of, behind_simple, begins_with_space, joint_of};
+ghost use Rattle.lay_sheet.specs.SelectorTexts.{behind_sign, behind_joint, AreSteps, IsSelectorText, AreSelectors};
 
 use crate::pieces::{behind_first, split_before, trimmed};
 use crate::selector::{Joint, Name, Selector, Simple, Step};

@@ -1,7 +1,7 @@
 -- Used sizes are within their bounds.
 use Rattle.std.proofs.Common.{ℤ, pos, arith, Option, Some, None}
 use Rattle.std.proofs.lemmas.Int.{ints, clamps}
-use Rattle.lay_units.specs.Units.{clamp_of, clamp_size_of, percentage_of, IsUsed, IsUsedSize}
+use Rattle.lay_units.specs.Units.{clamp_of, clamp_size_of, percentage_of, IsUsed, IsUsedSize, IsSize}
 use Rattle.lay_units.specs.declared.length.Unit.{Unit as Length}
 use Rattle.lay_units.specs.declared.records.Len.{Len}
 use Rattle.lay_units.specs.declared.records.Len.TheVariants.{Auto as auto, Of as of}
@@ -13,7 +13,6 @@ use Rattle.lay_style.specs.declared.style_lengths.LengthPercentage.TheVariants a
 use Rattle.lay_widths.specs.declared.widths.BlockOut.{BlockOut}
 use Rattle.lay_widths.specs.declared.widths.UsedWidths.{UsedWidths}
 use Rattle.lay_widths.specs.BlockWidths.{IsHeld}
-use Rattle.lay_widths.specs.Lengths.{IsSize}
 use Rattle.lay_widths.specs.ReplacedSizes.{sizes_for}
 use Rattle.lay_widths.specs.declared.replaced.ReplacedIn.{ReplacedIn}
 use Rattle.lay_widths.specs.declared.replaced.Sizes.{Sizes}

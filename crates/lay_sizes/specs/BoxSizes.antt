@@ -6,6 +6,7 @@ use Rattle.lay_units.specs.declared.length.Unit.{Unit as Length}
 use Rattle.lay_units.specs.declared.records.Len.{Len}
 use Rattle.lay_units.specs.declared.records.Len.TheVariants.{Of as of}
 use Rattle.lay_units.specs.declared.records.BlockIn.{BlockIn}
+use Rattle.lay_units.specs.Lengths.{no_length}
 use Rattle.lay_style.specs.declared.style.Style.{Style}
 use Rattle.lay_widths.specs.declared.widths.BlockOut.{BlockOut}
 use Rattle.lay_widths.specs.declared.widths.UsedWidths.{UsedWidths}
@@ -16,7 +17,8 @@ use Rattle.lay_sizes.specs.declared.sizing.ContainingBlock.{ContainingBlock}
 use Rattle.lay_sizes.specs.declared.sizing.WidthRule.{WidthRule}
 use Rattle.lay_sizes.specs.declared.sizing.WidthRule.TheVariants.{Fills, Inline, ShrinksToFit, ReplacedBlock, Replaced}
 use Rattle.lay_sizes.specs.declared.replaced.NaturalSize.{NaturalSize}
-use Rattle.lay_sizes.specs.UsedLengths.{no_length, block_of, edges_of, or_zero, used_vertical_margin, used_height, used_min_height, used_max_height, definite_height}
+use Rattle.lay_sizes.specs.UsedLengths.{block_of, edges_of, or_zero, used_vertical_margin, used_height}
+use Rattle.lay_sizes.specs.UsedLengths.{used_min_height, used_max_height, definite_height}
 use Rattle.lay_sizes.specs.ReplacedBoxes.{replaced_size_of}
 
 -- this width between margins of which auto ones are zero

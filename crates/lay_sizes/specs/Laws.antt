@@ -8,7 +8,8 @@ use Rattle.lay_sizes.specs.BoxSizes.{IsSized}
 use Rattle.lay_sizes.specs.SizeBounds.{SizeFits}
 
 abbrev pub OneBoxSizes : Type 0
-OneBoxSizes = (containing : ContainingBlock) (rule : WidthRule) (s : Style) (y z : BoxSizes) → IsSized containing rule s y → IsSized containing rule s z → y ≡ z
+OneBoxSizes = (containing : ContainingBlock) (rule : WidthRule) (s : Style) (y z : BoxSizes)
+    → IsSized containing rule s y → IsSized containing rule s z → y ≡ z
 
 abbrev pub SizesFit : Type 0
 SizesFit = (containing : ContainingBlock) (rule : WidthRule) (s : Style) (z : BoxSizes) → IsSized containing rule s z → SizeFits z

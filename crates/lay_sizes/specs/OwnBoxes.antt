@@ -1,13 +1,13 @@
 -- The own box of a context, as the context around it takes it: its used margins, the size of its border box (CSS 2.2, 8.1),
 -- and its baseline as an inline-block (10.8.1). The context around knows nothing else of what is inside.
 use Rattle.std.specs.Prelude.{ℕ, ◌^◌, ◌<◌, ℤ, pos, neg_ℤ, ◌+ℤ◌, ◌≤ℤ◌, List, length, slice_index_or, Option, None, IfSome}
-use Rattle.lay_units.specs.Units.{IsUsed}
+use Rattle.lay_units.specs.Units.{IsUsed, IsBoxSize}
 use Rattle.lay_units.specs.declared.length.Unit.{Unit as Length}
 use Rattle.lay_units.specs.declared.records.Sides.{Sides}
+use Rattle.lay_units.specs.Lengths.{no_length}
 use Rattle.lay_sizes.specs.declared.own_boxes.OwnBox.{OwnBox}
 use Rattle.lay_sizes.specs.declared.sizing.BoxSizes.{BoxSizes}
 use Rattle.lay_sizes.specs.BoxSizes.{border_width}
-use Rattle.lay_sizes.specs.UsedLengths.{no_length}
 
 -- the margins of a box
 abbrev pub margins_of : BoxSizes → Sides
@@ -45,10 +45,6 @@ no_own_box = record {
 
 abbrev pub own_box_at : List OwnBox → ℕ → OwnBox
 own_box_at inner k = slice_index_or inner k no_own_box
-
--- the width or the height of a border box: a used size and two insets
-abbrev pub IsBoxSize : ℤ → Type 0
-IsBoxSize v = (pos 0 ≤ℤ v) × (v ≤ℤ pos 10737418240)
 
 -- at most 2^59 units from 0
 abbrev pub IsBaseline : ℤ → Type 0

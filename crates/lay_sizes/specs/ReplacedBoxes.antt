@@ -1,20 +1,14 @@
 -- The used size of the box of a replaced element beside its containing block (CSS 2.2, 10.3.2, 10.3.4, 10.4, 10.6.2
 -- and 10.7): percentages are of the containing block, those of heights where its height doesn't depend on what is in
 -- it. Natural sizes are from 1 unit on. An image of 300 by 150 px whose `width` is 50% beside 200 px is 100 by 50 px.
-use Rattle.std.specs.Prelude.{pos}
-use Rattle.std.specs.Int.{int_max}
 use Rattle.lay_units.specs.Units.{clamp_size_of}
-use Rattle.lay_units.specs.declared.length.Unit.{Unit as Length}
 use Rattle.lay_style.specs.declared.style.Style.{Style}
 use Rattle.lay_widths.specs.declared.replaced.ReplacedIn.{ReplacedIn}
 use Rattle.lay_widths.specs.declared.replaced.ReplacedSize.{ReplacedSize}
-use Rattle.lay_widths.specs.ReplacedSizes.{sizes_for}
+use Rattle.lay_widths.specs.ReplacedSizes.{sizes_for, natural_length}
 use Rattle.lay_sizes.specs.declared.sizing.ContainingBlock.{ContainingBlock}
 use Rattle.lay_sizes.specs.declared.replaced.NaturalSize.{NaturalSize}
 use Rattle.lay_sizes.specs.UsedLengths.{used_width, used_size, used_limit, used_height, used_min_height, used_max_height}
-
-abbrev pub natural_length : Length → Length
-natural_length u = record { 0 = int_max (pos 1) (clamp_size_of u.0) }
 
 -- what the used size of a replaced element depends on
 abbrev pub replaced_of : ContainingBlock → NaturalSize → Style → ReplacedIn

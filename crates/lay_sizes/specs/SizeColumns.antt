@@ -3,10 +3,10 @@
 use Rattle.std.specs.Prelude.{ℕ, ◌<◌, List, length, slice_index_or, None}
 use Rattle.lay_units.specs.declared.records.Len.TheVariants.{Auto as auto}
 use Rattle.lay_units.specs.declared.records.Sides.{Sides}
+use Rattle.lay_units.specs.Lengths.{no_length}
 use Rattle.lay_widths.specs.declared.widths.BlockOut.{BlockOut}
 use Rattle.lay_sizes.specs.declared.sizing.BoxSizes.{BoxSizes}
 use Rattle.lay_sizes.specs.SizeBounds.{SizeFits}
-use Rattle.lay_sizes.specs.UsedLengths.{no_length}
 
 abbrev pub no_widths : BlockOut
 no_widths = record { margin_left = no_length; width = no_length; margin_right = no_length }

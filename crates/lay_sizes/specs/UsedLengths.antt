@@ -1,13 +1,14 @@
 -- What margins, borders, paddings, widths and heights are used as (CSS 2.2, 8.3, 8.4, 8.5.1, 10.2, 10.4, 10.5 and
 -- 10.7): a percentage is taken of the width or the height of the containing block, rounded down, and a used length is
 -- held within its bounds. A percentage of 12.5% of 51,200 units is 6,400 units.
-use Rattle.std.specs.Prelude.{◌+ℤ◌, pos, Option, Some, None}
+use Rattle.std.specs.Prelude.{◌+ℤ◌, Option, Some, None}
 use Rattle.lay_units.specs.Units.{percentage_of}
 use Rattle.lay_units.specs.declared.length.Unit.{Unit as Length}
 use Rattle.lay_units.specs.declared.records.Len.{Len}
 use Rattle.lay_units.specs.declared.records.Len.TheVariants.{Auto as auto, Of as of}
 use Rattle.lay_units.specs.declared.records.Sides.{Sides}
 use Rattle.lay_units.specs.declared.records.BlockIn.{BlockIn}
+use Rattle.lay_units.specs.Lengths.{no_length}
 use Rattle.lay_style.specs.declared.style.Style.{Style}
 use Rattle.lay_style.specs.declared.style_lengths.LengthPercentageOrAuto.{LengthPercentageOrAuto}
 use Rattle.lay_style.specs.declared.style_lengths.LengthPercentageOrAuto.TheVariants as or_auto
@@ -17,9 +18,6 @@ use Rattle.lay_style.specs.declared.style_lengths.LengthPercentageOrNone.{Length
 use Rattle.lay_style.specs.declared.style_lengths.LengthPercentageOrNone.TheVariants as or_none
 use Rattle.lay_style.specs.LengthValues.{length_of, size_of}
 use Rattle.lay_heights.specs.MinMax.{with_min_max_of}
-
-abbrev pub no_length : Length
-no_length = record { 0 = pos 0 }
 
 -- a margin beside the width of the containing block
 abbrev pub used_margin : Length → LengthPercentageOrAuto → Len

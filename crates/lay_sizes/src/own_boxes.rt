@@ -1,8 +1,8 @@
 //! How the own box of a context looks from outside.
 
 ghost use Rattle.std.specs.Prelude.{◌≡◌, ◌+ℤ◌, IfSome};
-ghost use Rattle.lay_units.specs.Units.{IsUsed};
-ghost use Rattle.lay_sizes.specs.OwnBoxes.{IsBaseline, IsBoxSize, OwnBoxFits, margin_height, margin_width, margins_of, own_box};
+ghost use Rattle.lay_units.specs.Units.{IsUsed, IsBoxSize};
+ghost use Rattle.lay_sizes.specs.OwnBoxes.{IsBaseline, OwnBoxFits, margin_height, margin_width, margins_of, own_box};
 ghost use Rattle.lay_sizes.specs.SizeBounds.{SizeFits};
 
 use crate::sizing::{BoxSizes, border_width};

@@ -1,18 +1,17 @@
 //! Boxes of replaced elements.
 
-ghost use Rattle.std.specs.Prelude.{◌≡◌, pos, ◌≤ℤ◌};
+ghost use Rattle.std.specs.Prelude.{◌≡◌};
 ghost use Rattle.lay_units.specs.Units.{IsPosition, IsUsedSize};
-ghost use Rattle.lay_widths.specs.Lengths.{IsSize};
 ghost use Rattle.lay_widths.specs.ReplacedFits.{ReplacedFits};
-ghost use Rattle.lay_sizes.specs.ReplacedBoxes.{natural_length, replaced_of, replaced_size_of};
+ghost use Rattle.lay_sizes.specs.ReplacedBoxes.{replaced_of, replaced_size_of};
 
 use crate::sizing::ContainingBlock;
 use crate::used_lengths::{
     used_height, used_limit, used_max_height, used_min_height, used_size, used_width,
 };
 use lay_style::Style;
-use lay_units::{Unit, clamp_size};
-use lay_widths::{ReplacedIn, ReplacedSize, replaced_size};
+use lay_units::Unit;
+use lay_widths::{ReplacedIn, ReplacedSize, natural_length, replaced_size};
 
 /// The natural size of a replaced element, in 1/64 px. A length below 1 counts as 1.
 #[derive(Clone, Copy, PartialEq, Eq)]
@@ -52,13 +51,4 @@ fn replaced_of(containing: ContainingBlock, natural: NaturalSize, style: &Style)
         min_height: used_min_height(height, style.sizing.min_height),
         max_height: used_max_height(height, style.sizing.max_height),
     }
-}
-
-/// A natural size, which is from 1 unit on.
-fn natural_length(length: Unit) -> Unit
-    ensures value { result ≡ natural_length length }
-    ensures size { IsSize result.0 }
-    ensures positive { pos 1 ≤ℤ result.0 }
-{
-    Unit(clamp_size(i128::from(length.0)).0.max(1))
 }

@@ -1,11 +1,12 @@
 //! The used sizes of boxes.
 
-ghost use Rattle.std.specs.Prelude.{◌≡◌, ◌+ℤ◌, IfSome};
-ghost use Rattle.lay_units.specs.Units.{IsPosition, IsUsedSize, clamp_of};
+ghost use Rattle.std.specs.Prelude.{◌≡◌, IfSome};
+ghost use Rattle.lay_units.specs.Units.{IsPosition, IsUsedSize, clamp_of, IsSize};
 ghost use Rattle.lay_widths.specs.BlockWidths.{IsHeld};
-ghost use Rattle.lay_widths.specs.Lengths.{BlockFits, IsSize, LenIsSize};
+ghost use Rattle.lay_widths.specs.Lengths.{BlockFits, LenIsSize};
 ghost use Rattle.lay_sizes.specs.UsedLengths.{block_of, or_zero};
-ghost use Rattle.lay_sizes.specs.BoxSizes.{IsSized, IsUsedWidth, border_width, content_block, height_of, max_height_of, min_height_of, natural_of, widths_beside, with_width};
+ghost use Rattle.lay_sizes.specs.BoxSizes.{IsSized, IsUsedWidth, border_width, content_block, height_of};
+ghost use Rattle.lay_sizes.specs.BoxSizes.{max_height_of, min_height_of, natural_of, widths_beside, with_width};
 ghost use Rattle.lay_sizes.specs.SizeBounds.{SizeFits};
 
 use crate::replaced::{NaturalSize, replaced_size_of};
@@ -14,7 +15,7 @@ use crate::used_lengths::{
     used_vertical_margin,
 };
 use lay_style::Style;
-use lay_units::{BlockIn, Len, Sides, Unit, clamp};
+use lay_units::{BlockIn, Len, Sides, Unit, clamp, sum_of};
 use lay_widths::{BlockOut, solve_block, solve_float};
 
 /// A containing block (CSS 2.2, 10.1), in 1/64 px. Its height is auto where it depends on what is in it.
@@ -238,12 +239,4 @@ pub fn border_width(sizes: &BoxSizes) -> Unit
         sum_of(sizes.widths.width, sizes.edges.left),
         sizes.edges.right,
     )
-}
-
-fn sum_of(a: Unit, b: Unit) -> Unit
-    requires a { IsPosition a.0 }
-    requires b { IsPosition b.0 }
-    ensures { result ≡ record { 0 = a.0 +ℤ b.0 } }
-{
-    Unit(a.0 + b.0)
 }

@@ -1,15 +1,18 @@
 //! Used lengths: percentages taken of the width or the height of the containing block.
 
-ghost use Rattle.std.specs.Prelude.{◌≡◌, ◌+ℤ◌, Option, IfSome};
-ghost use Rattle.lay_units.specs.Units.{IsPosition, IsUsedSize, percentage_of};
+ghost use Rattle.std.specs.Prelude.{◌≡◌, IfSome};
+ghost use Rattle.lay_units.specs.Units.{IsPosition, IsUsedSize, percentage_of, IsSize};
 ghost use Rattle.lay_style.specs.LengthValues.{length_of, size_of};
-ghost use Rattle.lay_widths.specs.Lengths.{BlockFits, IsSize, LenFits, LenIsSize};
+ghost use Rattle.lay_widths.specs.Lengths.{BlockFits, LenFits, LenIsSize};
 ghost use Rattle.lay_sizes.specs.SizeBounds.{AreInsets, IsInset};
-ghost use Rattle.lay_sizes.specs.UsedLengths.{or_zero, used_margin, used_vertical_margin, used_width, used_size, used_limit, used_height, used_min_height, used_max_height, definite_height, block_of, edge_of, edges_of};
+ghost use Rattle.lay_sizes.specs.UsedLengths.{or_zero, used_margin, used_vertical_margin, used_width, used_size, used_limit, used_height};
+ghost use Rattle.lay_sizes.specs.UsedLengths.{used_min_height, used_max_height, definite_height, block_of, edge_of, edges_of};
 
 use lay_heights::with_min_max;
-use lay_style::{LengthPercentage, LengthPercentageOrAuto, LengthPercentageOrNone, Style};
-use lay_units::{BlockIn, Len, Percent, Sides, Unit, clamp, clamp_size, percent_of};
+use lay_style::{
+    LengthPercentage, LengthPercentageOrAuto, LengthPercentageOrNone, Style, length_of, size_of,
+};
+use lay_units::{BlockIn, Len, Percent, Sides, Unit, percent_of};
 
 /// What the used widths of a block depend on, for the width of its containing block.
 pub fn block_of(containing: Unit, style: &Style) -> BlockIn
@@ -182,17 +185,4 @@ fn share_of(percent: Percent, length: Unit) -> Unit
     ensures size { IsUsedSize result.0 }
 {
     size_of(percent_of(percent, length))
-}
-
-fn length_of(length: Unit) -> Unit
-    ensures { result ≡ length_of length.0 }
-{
-    clamp(i128::from(length.0))
-}
-
-fn size_of(length: Unit) -> Unit
-    ensures value { result ≡ size_of length.0 }
-    ensures size { IsUsedSize result.0 }
-{
-    clamp_size(i128::from(length.0))
 }

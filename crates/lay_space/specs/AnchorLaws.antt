@@ -27,4 +27,5 @@ has_any [] = false
 has_any (x ∷ xs) = true
 
 abbrev pub AnchorsMoveNoBreak : Type 0
-AnchorsMoveNoBreak = (items : List Item) → segments_of (without_anchors items) ≡ filter (λ s. has_any s.items) (map segment_without_anchors (segments_of items))
+AnchorsMoveNoBreak = (items : List Item)
+    → segments_of (without_anchors items) ≡ filter (λ s. has_any s.items) (map segment_without_anchors (segments_of items))

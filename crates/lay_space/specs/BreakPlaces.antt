@@ -54,6 +54,7 @@ may_break_behind (End n) next = false
 may_break_behind (Float n) next = false
 may_break_behind (Anchor n) next = false
 
+-- whether a line has to break behind it
 abbrev pub is_linefeed : ClusterKind → Bool
 is_linefeed CollapsibleSpace = false
 is_linefeed PreservedSpace = false

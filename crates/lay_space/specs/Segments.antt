@@ -1,7 +1,8 @@
 -- Segments of inline content (CSS 2.2, 9.4.2): what stands from one break to the next. A text that has a
 -- break inside is cut there. Each of its parts is a text of its own, with the bytes of its clusters and with
 -- their widths, whose places count from its start.
-use Rattle.std.specs.Prelude.{ℕ, ◌+◌, ◌==◌, nat_lt, Bool, true, false, ◌&&◌, ◌||◌, not, if◌then◌else◌, List, [], ◌∷◌, ◌++◌, length, slice_index, slice_get, slice_range, Option, Some, None}
+use Rattle.std.specs.Prelude.{ℕ, ◌+◌, ◌==◌, nat_lt, Bool, true, false, ◌&&◌, ◌||◌, not, if◌then◌else◌, List}
+use Rattle.std.specs.Prelude.{[], ◌∷◌, ◌++◌, length, slice_index, slice_get, slice_range, Option, Some, None}
 use Rattle.lay_units.specs.declared.records.ClusterWidth.{ClusterWidth}
 use Rattle.lay_space.specs.declared.item.Item.{Item}
 use Rattle.lay_space.specs.declared.item.Item.TheVariants as item
@@ -72,7 +73,8 @@ cut items current held (entry.Break f ∷ xs) = record { items = current ++ text
 cut items current held (entry.Content (token.Cluster c) ∷ xs) = cut items current (held ++ c ∷ []) xs
 cut items current held (entry.Content token.TextEnd ∷ xs) = cut items (current ++ text_of items held) [] xs
 cut items current held (entry.Content (token.Atomic n m) ∷ xs) = cut items (current ++ text_of items held ++ item.Atomic n m ∷ []) [] xs
-cut items current held (entry.Content (token.Start n takes) ∷ xs) = cut items (current ++ text_of items held ++ item.Start n takes ∷ []) [] xs
+cut items current held (entry.Content (token.Start n takes) ∷ xs) =
+    cut items (current ++ text_of items held ++ item.Start n takes ∷ []) [] xs
 cut items current held (entry.Content (token.End n) ∷ xs) = cut items (current ++ text_of items held ++ item.End n ∷ []) [] xs
 cut items current held (entry.Content (token.Float n) ∷ xs) = cut items (current ++ text_of items held ++ item.Float n ∷ []) [] xs
 cut items current held (entry.Content (token.Anchor n) ∷ xs) = cut items (current ++ text_of items held ++ item.Anchor n ∷ []) [] xs

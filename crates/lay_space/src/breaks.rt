@@ -3,17 +3,13 @@
 ghost use Rattle.std.specs.Prelude.{
   ◌≡◌,
   IfSome,
-  [],
   ◌∷◌,
   ◌++◌,
-  List,
   None,
   Some,
   not,
   ◌&&◌,
   ◌||◌,
-  IfOk,
-  OnOk,
   true,
   false,
 };
@@ -32,12 +28,7 @@ ghost use Rattle.lay_space.specs.Breaks.{
   front_break,
   back_break,
   solid_after,
-  settled,
-  goes_back,
-  waits,
   is_start,
-  flushed,
-  entries_of,
 };
 
 use crate::tokens::{ClusterKind, Token};

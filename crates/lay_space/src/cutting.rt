@@ -32,7 +32,6 @@ ghost use Rattle.lay_space.specs.Segments.{
   placed,
   text_of,
   cut,
-  segments_of,
 };
 
 use crate::breaks::Entry;

@@ -1,6 +1,6 @@
 //! Inline content as flat tokens.
 
-ghost use Rattle.std.specs.Prelude.{◌≡◌, ◌+◌, ◌≤◌, ◌==◌, ◌∷◌, ◌++◌, IfOk, OnOk, slice_index, List, true, false, []};
+ghost use Rattle.std.specs.Prelude.{◌≡◌, ◌+◌, ◌≤◌, ◌==◌, ◌∷◌, ◌++◌, IfOk, slice_index, List, true, false};
 ghost use Rattle.lay_space.specs.Tokens.{
   is_byte,
   space_kind,

@@ -5,7 +5,15 @@
 -- ones.
 use Rattle.std.specs.Prelude.{ℕ, zero, suc, ◌≡◌, ◌<◌, List, [], length, slice_index, slice_index_or}
 use Rattle.lay_units.specs.declared.length.Unit.{Unit as Length}
-use Rattle.lay_style.specs.declared.property.Property.TheVariants.{Display, Position, Float, Clear, Top, Right, Bottom, Left, ZIndex, Width, Height, MinWidth, MinHeight, MaxWidth, MaxHeight, MarginTop, MarginRight, MarginBottom, MarginLeft, PaddingTop, PaddingRight, PaddingBottom, PaddingLeft, BorderTopWidth, BorderRightWidth, BorderBottomWidth, BorderLeftWidth, BorderTopStyle, BorderRightStyle, BorderBottomStyle, BorderLeftStyle, Overflow, FontSize, LineHeight, TextIndent, TextAlign, WhiteSpace, LetterSpacing, WordSpacing, VerticalAlign, TableLayout, BorderCollapse, BorderSpacing, CaptionSide, Visibility, EmptyCells}
+use Rattle.lay_style.specs.declared.property.Property.TheVariants.{Display, Position, Float, Clear, Top, Right, Bottom, Left, ZIndex}
+use Rattle.lay_style.specs.declared.property.Property.TheVariants.{Width, Height, MinWidth, MinHeight, MaxWidth, MaxHeight, MarginTop}
+use Rattle.lay_style.specs.declared.property.Property.TheVariants.{MarginRight, MarginBottom, MarginLeft, PaddingTop, PaddingRight}
+use Rattle.lay_style.specs.declared.property.Property.TheVariants.{PaddingBottom, PaddingLeft, BorderTopWidth, BorderRightWidth}
+use Rattle.lay_style.specs.declared.property.Property.TheVariants.{BorderBottomWidth, BorderLeftWidth, BorderTopStyle, BorderRightStyle}
+use Rattle.lay_style.specs.declared.property.Property.TheVariants.{BorderBottomStyle, BorderLeftStyle, Overflow, FontSize, LineHeight}
+use Rattle.lay_style.specs.declared.property.Property.TheVariants.{TextIndent, TextAlign, WhiteSpace, LetterSpacing, WordSpacing}
+use Rattle.lay_style.specs.declared.property.Property.TheVariants.{VerticalAlign, TableLayout, BorderCollapse, BorderSpacing, CaptionSide}
+use Rattle.lay_style.specs.declared.property.Property.TheVariants.{Visibility, EmptyCells}
 use Rattle.lay_style.specs.declared.style.Edges.{Edges}
 use Rattle.lay_style.specs.declared.style.Borders.{Borders}
 use Rattle.lay_style.specs.declared.style.Sizing.{Sizing}
@@ -18,8 +26,12 @@ use Rattle.lay_style.specs.declared.style_lengths.LengthPercentage.{LengthPercen
 use Rattle.lay_style.specs.declared.style_lengths.LengthPercentageOrAuto.{LengthPercentageOrAuto}
 use Rattle.lay_style.specs.Values.{Declaration}
 use Rattle.lay_style.specs.Inheritance.{cascaded}
-use Rattle.lay_style.specs.KeywordValues.{display_of, position_of, float_of, clear_of, border_style_of, overflow_of, visibility_of, text_align_of, white_space_of, table_layout_of, border_collapse_of, caption_side_of, empty_cells_of}
-use Rattle.lay_style.specs.LengthValues.{offset_of, size_or_auto_of, size_measure_of, size_or_none_of, indent_of, spacing_of, border_width_of, font_size_of, line_height_of, vertical_align_of, z_index_of, border_spacing_of, px}
+use Rattle.lay_style.specs.KeywordValues.{display_of, position_of, float_of, clear_of, border_style_of, overflow_of, visibility_of}
+use Rattle.lay_style.specs.KeywordValues.{text_align_of, white_space_of, table_layout_of, border_collapse_of, caption_side_of}
+use Rattle.lay_style.specs.KeywordValues.{empty_cells_of}
+use Rattle.lay_style.specs.LengthValues.{offset_of, size_or_auto_of, size_measure_of, size_or_none_of, indent_of, spacing_of}
+use Rattle.lay_style.specs.LengthValues.{border_width_of, font_size_of, line_height_of, vertical_align_of, z_index_of, border_spacing_of}
+use Rattle.lay_style.specs.LengthValues.{px}
 use Rattle.lay_style.specs.InitialStyle.{initial_style}
 
 abbrev pub font_size : Length → List Declaration → Length

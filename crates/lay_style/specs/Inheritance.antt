@@ -1,7 +1,9 @@
 -- Where a property's value on a node comes from (CSS 2.2, 6.1.1, 6.2 and 6.2.1).
 use Rattle.std.specs.Prelude.{Bool, true, false, List, Option, Some, None, if◌then◌else◌}
 use Rattle.lay_style.specs.declared.property.Property.{Property}
-use Rattle.lay_style.specs.declared.property.Property.TheVariants.{FontSize, LineHeight, TextIndent, TextAlign, WhiteSpace, LetterSpacing, WordSpacing, BorderCollapse, BorderSpacing, CaptionSide, Visibility, EmptyCells}
+use Rattle.lay_style.specs.declared.property.Property.TheVariants.{FontSize, LineHeight, TextIndent, TextAlign, WhiteSpace}
+use Rattle.lay_style.specs.declared.property.Property.TheVariants.{LetterSpacing, WordSpacing, BorderCollapse}
+use Rattle.lay_style.specs.declared.property.Property.TheVariants.{BorderSpacing, CaptionSide, Visibility, EmptyCells}
 use Rattle.lay_style.specs.declared.property.Given.{Given}
 use Rattle.lay_style.specs.declared.property.Given.TheVariants.{Inherit}
 use Rattle.lay_style.specs.Values.{Declaration}

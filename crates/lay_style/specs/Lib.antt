@@ -9,3 +9,4 @@ pub mod LengthValues
 pub mod InitialStyle
 pub mod ComputedStyle
 pub mod NumberKinds
+pub mod Positions

@@ -5,13 +5,23 @@ use Rattle.std.specs.Prelude.{ℕ, ◌^◌, ℤ, pos, neg_ℤ, int_le, Bool, tru
 use Rattle.std.specs.Int.{int_rem_euclid}
 use Rattle.std.specs.Ordering.{int_eq}
 use Rattle.lay_style.specs.declared.property.Property.{Property}
-use Rattle.lay_style.specs.declared.property.Property.TheVariants.{Display, Position, Float, Clear, Top, Right, Bottom, Left, ZIndex, Width, Height, MinWidth, MinHeight, MaxWidth, MaxHeight, MarginTop, MarginRight, MarginBottom, MarginLeft, PaddingTop, PaddingRight, PaddingBottom, PaddingLeft, BorderTopWidth, BorderRightWidth, BorderBottomWidth, BorderLeftWidth, BorderTopStyle, BorderRightStyle, BorderBottomStyle, BorderLeftStyle, Overflow, FontSize, LineHeight, TextIndent, TextAlign, WhiteSpace, LetterSpacing, WordSpacing, VerticalAlign, TableLayout, BorderCollapse, BorderSpacing, CaptionSide, Visibility, EmptyCells}
+use Rattle.lay_style.specs.declared.property.Property.TheVariants.{Display, Position, Float, Clear, Top, Right, Bottom, Left, ZIndex}
+use Rattle.lay_style.specs.declared.property.Property.TheVariants.{Width, Height, MinWidth, MinHeight, MaxWidth, MaxHeight, MarginTop}
+use Rattle.lay_style.specs.declared.property.Property.TheVariants.{MarginRight, MarginBottom, MarginLeft, PaddingTop, PaddingRight}
+use Rattle.lay_style.specs.declared.property.Property.TheVariants.{PaddingBottom, PaddingLeft, BorderTopWidth, BorderRightWidth}
+use Rattle.lay_style.specs.declared.property.Property.TheVariants.{BorderBottomWidth, BorderLeftWidth, BorderTopStyle, BorderRightStyle}
+use Rattle.lay_style.specs.declared.property.Property.TheVariants.{BorderBottomStyle, BorderLeftStyle, Overflow, FontSize, LineHeight}
+use Rattle.lay_style.specs.declared.property.Property.TheVariants.{TextIndent, TextAlign, WhiteSpace, LetterSpacing, WordSpacing}
+use Rattle.lay_style.specs.declared.property.Property.TheVariants.{VerticalAlign, TableLayout, BorderCollapse, BorderSpacing, CaptionSide}
+use Rattle.lay_style.specs.declared.property.Property.TheVariants.{Visibility, EmptyCells}
 use Rattle.lay_style.specs.declared.property.Word.{Word}
 use Rattle.lay_style.specs.declared.property.OneLength.{OneLength}
 use Rattle.lay_style.specs.declared.property.OneLength.TheVariants.{Length as one_length, Em as one_em}
 use Rattle.lay_style.specs.declared.property.Given.{Given}
 use Rattle.lay_style.specs.declared.property.Given.TheVariants.{Keyword, Length, Em, Percent, Number, Pair, Inherit}
-use Rattle.lay_style.specs.Words.{is_display, is_position, is_float, is_clear, is_auto, is_none, is_border_width, is_border_style, is_overflow, is_font_size, is_normal, is_text_align, is_white_space, is_vertical_align, is_table_layout, is_border_collapse, is_caption_side, is_visibility, is_empty_cells}
+use Rattle.lay_style.specs.Words.{is_display, is_position, is_float, is_clear, is_auto, is_none, is_border_width, is_border_style}
+use Rattle.lay_style.specs.Words.{is_overflow, is_font_size, is_normal, is_text_align, is_white_space, is_vertical_align}
+use Rattle.lay_style.specs.Words.{is_table_layout, is_border_collapse, is_caption_side, is_visibility, is_empty_cells}
 
 -- the keywords of a property, but for `inherit`
 abbrev pub takes_word : Property → Word → Bool

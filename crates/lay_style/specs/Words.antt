@@ -1,7 +1,14 @@
 -- The keywords that a property takes beside `inherit`, a group for the properties that share them.
 use Rattle.std.specs.Prelude.{Bool, true, false}
 use Rattle.lay_style.specs.declared.property.Word.{Word}
-use Rattle.lay_style.specs.declared.property.Word.TheVariants.{Absolute, Auto, Baseline, Block, Both, Bottom, Center, Collapse, Dashed, Dotted, Double, Fixed, Groove, Hidden, Hide, Inline, InlineBlock, InlineTable, Inset, Justify, Large, Larger, Left, ListItem, Medium, Middle, None, Normal, Nowrap, Outset, Pre, PreLine, PreWrap, Relative, Ridge, Right, Scroll, Separate, Show, Small, Smaller, Solid, Static, Sub, Super, Table, TableCaption, TableCell, TableColumn, TableColumnGroup, TableFooterGroup, TableHeaderGroup, TableRow, TableRowGroup, TextBottom, TextTop, Thick, Thin, Top, Visible, XLarge, XSmall, XxLarge, XxSmall}
+use Rattle.lay_style.specs.declared.property.Word.TheVariants.{Absolute, Auto, Baseline, Block, Both, Bottom, Center, Collapse, Dashed}
+use Rattle.lay_style.specs.declared.property.Word.TheVariants.{Dotted, Double, Fixed, Groove, Hidden, Hide, Inline, InlineBlock}
+use Rattle.lay_style.specs.declared.property.Word.TheVariants.{InlineTable, Inset, Justify, Large, Larger, Left, ListItem, Medium}
+use Rattle.lay_style.specs.declared.property.Word.TheVariants.{Middle, None, Normal, Nowrap, Outset, Pre, PreLine, PreWrap, Relative}
+use Rattle.lay_style.specs.declared.property.Word.TheVariants.{Ridge, Right, Scroll, Separate, Show, Small, Smaller, Solid, Static}
+use Rattle.lay_style.specs.declared.property.Word.TheVariants.{Sub, Super, Table, TableCaption, TableCell, TableColumn, TableColumnGroup}
+use Rattle.lay_style.specs.declared.property.Word.TheVariants.{TableFooterGroup, TableHeaderGroup, TableRow, TableRowGroup, TextBottom}
+use Rattle.lay_style.specs.declared.property.Word.TheVariants.{TextTop, Thick, Thin, Top, Visible, XLarge, XSmall, XxLarge, XxSmall}
 
 -- what `display` takes (CSS 2.2, 9.2.4)
 abbrev pub is_display : Word → Bool

@@ -14,6 +14,7 @@ mod property;
 mod style;
 mod style_lengths;
 mod style_words;
+mod used_lengths;
 mod values;
 mod words;
 
@@ -30,3 +31,4 @@ pub use style_words::{
     BorderCollapse, BorderStyle, CaptionSide, Clear, Display, EmptyCells, Float, Overflow,
     Position, TableLayout, TextAlign, Visibility, WhiteSpace,
 };
+pub use used_lengths::{length_of, size_of};

@@ -1,7 +1,8 @@
 //! The values that each property takes, as `specs/Values.antt` has them.
 
 ghost use Rattle.std.specs.Prelude.{◌≡◌, ◌≤◌, ◌^◌};
-ghost use Rattle.lay_style.specs.Values.{takes_word, lengths_of, percentages_of, is_within, is_whole, is_number_of, is_spacing, is_pair_of, is_value_of};
+ghost use Rattle.lay_style.specs.Values.{takes_word, lengths_of, percentages_of, is_within, is_whole};
+ghost use Rattle.lay_style.specs.Values.{is_number_of, is_spacing, is_pair_of, is_value_of};
 ghost use Rattle.lay_style.specs.NumberKinds.{numbers_of};
 
 use crate::property::{Given, OneLength, Property, Word};

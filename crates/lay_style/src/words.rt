@@ -1,7 +1,9 @@
 //! The keywords that a property takes beside `inherit`, as `specs/Words.antt` has them.
 
 ghost use Rattle.std.specs.Prelude.{◌≡◌};
-ghost use Rattle.lay_style.specs.Words.{is_display, is_position, is_float, is_clear, is_auto, is_none, is_border_width, is_border_style, is_overflow, is_font_size, is_normal, is_text_align, is_white_space, is_vertical_align, is_table_layout, is_border_collapse, is_caption_side, is_visibility, is_empty_cells};
+ghost use Rattle.lay_style.specs.Words.{is_display, is_position, is_float, is_clear, is_auto, is_none, is_border_width, is_border_style};
+ghost use Rattle.lay_style.specs.Words.{is_overflow, is_font_size, is_normal, is_text_align, is_white_space, is_vertical_align};
+ghost use Rattle.lay_style.specs.Words.{is_table_layout, is_border_collapse, is_caption_side, is_visibility, is_empty_cells};
 
 use crate::property::Word;
 

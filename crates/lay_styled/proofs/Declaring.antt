@@ -1,6 +1,6 @@
 -- What a node declares in the end has the greatest key of all that it may have.
 use Rattle.std.proofs.Common.{◌≡◌, ◌∙◌, ℕ, zero, suc, ◌<◌, ◌≤◌, ◌⊎◌, inl, inr, List, [], ◌∷◌, Bool, true, false, length, refl, sym, ap, subst, arith}
-use Rattle.std.specs.Prelude.{slice_index_or, Option, Some, None, is_none, ◌==◌, ◌||◌, if◌then◌else◌}
+use Rattle.std.specs.Prelude.{slice_index_or, Option, Some, None, is_none, ◌||◌, if◌then◌else◌}
 use Rattle.std.specs.List.{slice_get}
 use Rattle.std.proofs.lemmas.Bool.{false≢true, eq-eqb, eqb-true, ne_eqb, cases_lt}
 use Rattle.std.proofs.lemmas.Option.{slice_get_within}
@@ -8,7 +8,7 @@ use Rattle.std.proofs.Math.ListN.{get_or-eq_default}
 use Rattle.lay_style.specs.declared.property.Property.{Property}
 use Rattle.lay_style.specs.declared.property.Given.{Given}
 use Rattle.lay_style.specs.Values.{Declaration}
-use Rattle.lay_style.specs.PropertyNumbers.{number_of, is_same_property}
+use Rattle.lay_style.specs.PropertyNumbers.{number_of}
 use Rattle.lay_style.specs.Declarations.{declared_value, with_declaration}
 use Rattle.lay_style.proofs.Cleared.{sets_one_lem}
 use Rattle.lay_doc.specs.declared.node.Node.{Node}
@@ -16,11 +16,10 @@ use Rattle.lay_doc.specs.Document.{Document}
 use Rattle.lay_names.specs.declared.names.Names.{Names}
 use Rattle.lay_sheet.specs.Sheets.{RuleValue}
 use Rattle.lay_styled.specs.declared.candidates.Candidate.{Candidate}
-use Rattle.lay_styled.specs.Weights.{bit, key_of, own_key, is_less_key, is_lighter}
+use Rattle.lay_styled.specs.Weights.{key_of, own_key, is_less_key, is_lighter}
 use Rattle.lay_styled.specs.Winners.{settled_one, settled, restyled}
-use Rattle.lay_styled.specs.Cascade.{IsInSheet, IsGreatest, AreWinners, IsCascaded}
+use Rattle.lay_styled.specs.Cascade.{IsInSheet, IsGreatest, AreWinners}
 use Rattle.lay_styled.specs.Laws.{MayHave, by_sheet, by_itself, StyledDeclares}
-use Rattle.lay_styled.proofs.Keys.{less_self}
 use Rattle.lay_styled.proofs.Numbers.{number_below, number_at, property_at}
 
 -- what a property is declared as, where this is taken for it

@@ -1,7 +1,7 @@
 -- All selectors that match a node stand among those that are looked up for it.
-use Rattle.std.proofs.Common.{◌≡◌, ◌∙◌, ℕ, zero, suc, ◌+◌, ◌-◌, ◌*◌, ◌%◌, ◌<◌, ◌≤◌, ◌⊎◌, inl, inr, List, [], ◌∷◌, ◌++◌, Bool, true, false, length, take, reverse, replicate, refl, sym, ap, subst, arith, set}
-use Rattle.std.specs.Prelude.{slice_index_or, Option, Some, None, ◌||◌}
-use Rattle.std.specs.List.{slice_get, Contains, flat_map, list_any}
+use Rattle.std.proofs.Common.{◌≡◌, ◌∙◌, ℕ, suc, ◌+◌, ◌-◌, ◌*◌, ◌%◌, ◌<◌, ◌≤◌, ◌⊎◌, inl, inr, List, [], ◌∷◌, ◌++◌, true, length, take, reverse, refl, sym, ap, subst, arith, set}
+use Rattle.std.specs.Prelude.{slice_index_or, Option, Some, None}
+use Rattle.std.specs.List.{slice_get, Contains, list_any}
 use Rattle.std.specs.Str.{bytes_eq}
 use Rattle.std.specs.Cmp.Lexicographic.{same_text}
 use Rattle.std.proofs.lemmas.Bool.{false≢true, cases_eq, cases_lt, or_cases}
@@ -18,7 +18,7 @@ use Rattle.lay_sheet.specs.declared.selector.Step.{Step}
 use Rattle.lay_sheet.specs.Sheets.{RuleValue}
 use Rattle.lay_cascade.specs.NodeNames.{fits, fits_at}
 use Rattle.lay_cascade.specs.Matching.{Matches, IsMatched}
-use Rattle.lay_cascade.proofs.Climbing.{fits_within, fits_read}
+use Rattle.lay_cascade.proofs.Climbing.{fits_read}
 use Rattle.lay_cascade.proofs.Leading.{head_fits}
 use Rattle.lay_styled.specs.declared.entry.Entry.{Entry}
 use Rattle.lay_styled.specs.declared.candidates.Candidate.{Candidate}

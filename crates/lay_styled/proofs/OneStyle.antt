@@ -1,5 +1,5 @@
 -- A sheet styles a document in one way.
-use Rattle.std.proofs.Common.{◌≡◌, ◌∙◌, ℕ, ◌+◌, ◌<◌, List, [], ◌∷◌, false, length, refl, sym, ap, subst, arith}
+use Rattle.std.proofs.Common.{◌≡◌, ◌∙◌, ℕ, ◌<◌, List, [], length, refl, sym, ap, subst, arith}
 use Rattle.std.specs.Prelude.{slice_index, slice_index_or, Option, Some, None}
 use Rattle.std.specs.List.{slice_get}
 use Rattle.std.proofs.lemmas.List.{ext_get_or}
@@ -13,9 +13,9 @@ use Rattle.lay_sheet.specs.declared.declaration.SheetDecl.{SheetDecl}
 use Rattle.lay_cascade.specs.declared.counts.Specificity.{Specificity}
 use Rattle.lay_cascade.specs.Specificity.{specificity_of}
 use Rattle.lay_styled.specs.declared.candidates.Candidate.{Candidate}
-use Rattle.lay_styled.specs.Weights.{key_of, is_lighter}
+use Rattle.lay_styled.specs.Weights.{key_of}
 use Rattle.lay_styled.specs.Winners.{sheet_candidate, restyled}
-use Rattle.lay_styled.specs.Cascade.{IsInSheet, IsGreatest, AreWinners, AreAllWinners, IsCascaded}
+use Rattle.lay_styled.specs.Cascade.{IsInSheet, IsGreatest, AreWinners, AreAllWinners}
 use Rattle.lay_styled.specs.Laws.{OneStyled}
 use Rattle.lay_styled.proofs.Keys.{one_key}
 use Rattle.lay_styled.proofs.Numbers.{property_at, number_at}

@@ -1,26 +1,23 @@
 -- Nodes that take declarations one after the other.
-use Rattle.std.proofs.Common.{◌≡◌, ◌∙◌, ℕ, zero, suc, ◌+◌, ◌<◌, ◌≤◌, ◌⊎◌, inl, inr, List, [], ◌∷◌, ◌++◌, Bool, true, false, length, drop, replicate, refl, sym, ap, subst, arith, length-append}
-use Rattle.std.specs.Prelude.{slice_index, slice_index_or, Option, Some, None, is_some, is_none, option_map, not, ◌||◌, if◌then◌else◌}
+use Rattle.std.proofs.Common.{◌≡◌, ◌∙◌, ℕ, zero, suc, ◌+◌, ◌<◌, ◌≤◌, ◌⊎◌, inl, inr, List, [], ◌∷◌, ◌++◌, true, false, length, drop, replicate, refl, sym, ap, subst, arith, length-append}
+use Rattle.std.specs.Prelude.{slice_index, slice_index_or, Option, Some, None, is_some, is_none, option_map, not, ◌||◌}
 use Rattle.std.proofs.lemmas.Bool.{false≢true, cases_lt}
 use Rattle.std.proofs.lemmas.List.{get_or_append_left, get_or_push, length-replicate, get_or-replicate}
 use Rattle.lay_style.specs.declared.property.Property.{Property}
 use Rattle.lay_style.specs.declared.property.Given.{Given}
 use Rattle.lay_style.specs.Values.{Declaration}
 use Rattle.lay_style.specs.PropertyNumbers.{number_of}
-use Rattle.lay_style.specs.Declarations.{declared_value, with_declaration}
+use Rattle.lay_style.specs.Declarations.{declared_value}
 use Rattle.lay_style.specs.Places.{place_of}
 use Rattle.lay_style.proofs.Places.{place_here, place_later}
 use Rattle.lay_doc.specs.declared.node.Node.{Node}
-use Rattle.lay_doc.specs.declared.node.NodeId.{NodeId}
-use Rattle.lay_doc.specs.declared.edit.EditFault.{EditFault}
-use Rattle.lay_doc.specs.declared.edit.EditFault.TheVariants.{NoNode, NotElement}
 use Rattle.lay_doc.specs.Document.{Document, IsDocument, ids_of, is_text_at}
 use Rattle.lay_doc.specs.Changes.{style_fault, with_style, changed_at, after_change}
 use Rattle.lay_doc.proofs.NodeColumns.{length-ids}
 use Rattle.lay_names.specs.declared.names.Names.{Names}
 use Rattle.lay_sheet.specs.Sheets.{RuleValue}
 use Rattle.lay_styled.specs.declared.candidates.Candidate.{Candidate}
-use Rattle.lay_styled.specs.Winners.{settled_one, settled, restyled}
+use Rattle.lay_styled.specs.Winners.{settled, restyled}
 use Rattle.lay_styled.specs.Cascade.{AreWinners, AreAllWinners, IsCascaded}
 use Rattle.lay_styled.specs.Taken.{declares_at, takes_one, takes, IsCascadedTo}
 use Rattle.lay_styled.proofs.Numbers.{number_below}

@@ -1,8 +1,8 @@
 -- The greatest declarations, with one more or with those of a rule set.
 use Rattle.std.proofs.Common.{◌≡◌, ◌∙◌, ℕ, zero, suc, ◌+◌, ◌<◌, ◌≤◌, ◌⊎◌, inl, inr, List, [], ◌∷◌, ◌++◌, Bool, true, false, length, take, replicate, refl, sym, ap, subst, arith, set, append_assoc}
-use Rattle.std.specs.Prelude.{◌==◌, slice_index_or, Option, Some, None, if◌then◌else◌}
+use Rattle.std.specs.Prelude.{slice_index_or, Option, Some, None, if◌then◌else◌}
 use Rattle.std.specs.List.{slice_get, Contains}
-use Rattle.std.proofs.lemmas.Bool.{false≢true, eq-eqb, eqb-true, ne_eqb, cases_eq}
+use Rattle.std.proofs.lemmas.Bool.{eq-eqb, eqb-true, cases_eq}
 use Rattle.std.proofs.lemmas.List.{get_or-set_same, get_or-set_other, length-set, get_or-replicate, length-replicate, take_more, flat_map_more}
 use Rattle.std.proofs.lemmas.Option.{slice_get_within}
 use Rattle.std.proofs.lemmas.List.Elements.{Contains-push, Contains-push_cases, Contains-append_left}

@@ -1,10 +1,9 @@
 -- The cascade (CSS 2.2, 6.4). A sheet has a declaration for a node where a selector of its rule set matches the node. Among
 -- those for one property the greatest weight decides. A node's own declaration stands above those of the sheet that aren't
 -- important, and below those that are.
-use Rattle.std.specs.Prelude.{ℕ, ◌≡◌, ◌<◌, List, [], ◌∷◌, length, Bool, true, false, Option, Some, None, slice_index_or, option_map}
+use Rattle.std.specs.Prelude.{ℕ, ◌≡◌, ◌<◌, List, [], length, true, false, Option, Some, None, slice_index_or}
 use Rattle.std.specs.List.{slice_get}
 use Rattle.lay_style.specs.declared.property.Property.{Property}
-use Rattle.lay_style.specs.declared.property.Given.{Given}
 use Rattle.lay_style.specs.PropertyNumbers.{number_of, is_same_property}
 use Rattle.lay_doc.specs.declared.node.Node.{Node}
 use Rattle.lay_doc.specs.Document.{Document, is_text_at}
@@ -20,7 +19,8 @@ use Rattle.lay_styled.specs.Weights.{is_lighter}
 use Rattle.lay_styled.specs.Winners.{sheet_candidate, restyled}
 
 -- the rule set at r has, for the property p of the node at k, this declaration by its selector at s; a text has none
-pub record IsBy (rules : List RuleValue) (nodes : List Node) (names : List Names) (k : ℕ) (p : Property) (e : Entry) (c : Candidate) : Type 0 where
+pub record IsBy (rules : List RuleValue) (nodes : List Node) (names : List Names) (k : ℕ) (p : Property) (e : Entry) (c : Candidate)
+    : Type 0 where
   pub rule : RuleValue
   pub selector : List Step
   pub place : ℕ
@@ -44,12 +44,14 @@ pub record IsGreatest (Holds : Candidate → Type 0) (found : Option Candidate) 
   pub greatest : (c d : Candidate) → found ≡ Some c → Holds d → is_lighter c.weight d.weight ≡ false
 
 -- these are the greatest of the sheet's for the node at k, by the numbers of the 46 properties
-pub record AreWinners (rules : List RuleValue) (nodes : List Node) (names : List Names) (k : ℕ) (winners : List (Option Candidate)) : Type 0 where
+pub record AreWinners (rules : List RuleValue) (nodes : List Node) (names : List Names) (k : ℕ) (winners : List (Option Candidate))
+    : Type 0 where
   pub count : length winners ≡ 46
   pub each : (p : Property) → IsGreatest (IsInSheet rules nodes names k p) (slice_index_or winners (number_of p) None)
 
 -- the same for each of the first n nodes
-pub record AreAllWinners (rules : List RuleValue) (nodes : List Node) (names : List Names) (n : ℕ) (winners : List (List (Option Candidate))) : Type 0 where
+pub record AreAllWinners (rules : List RuleValue) (nodes : List Node) (names : List Names) (n : ℕ)
+    (winners : List (List (Option Candidate))) : Type 0 where
   pub count : length winners ≡ n
   pub each : (k : ℕ) → k < n → AreWinners rules nodes names k (slice_index_or winners k [])
 

@@ -1,6 +1,7 @@
 -- Where the selectors of a sheet are looked up: by the name that the last simple selector asks for, of which each has its list,
 -- or in a list of their own where it asks for none. A list may have other selectors too.
-use Rattle.std.specs.Prelude.{ℕ, ◌≡◌, ◌+◌, ◌-◌, ◌*◌, ◌%◌, ◌<◌, ◌⊎◌, ◌++◌, List, [], ◌∷◌, length, Option, Some, None, set, slice_index_or, option_and_then}
+use Rattle.std.specs.Prelude.{ℕ, ◌≡◌, ◌+◌, ◌-◌, ◌*◌, ◌%◌, ◌<◌, ◌⊎◌, ◌++◌, List, [], ◌∷◌}
+use Rattle.std.specs.Prelude.{length, Option, Some, None, set, slice_index_or, option_and_then}
 use Rattle.std.specs.List.{slice_get, Contains, flat_map}
 use Rattle.lay_names.specs.declared.names.Names.{Names}
 use Rattle.lay_sheet.specs.declared.selector.Simple.{Simple}

@@ -15,6 +15,7 @@ abbrev pub IsBySome : List RuleValue → List Node → List Names → ℕ → Li
 IsBySome rules nodes names k seen p c = (e : Entry) × Contains seen e × IsBy rules nodes names k p e c
 
 -- these are the greatest of them, by the numbers of the 46 properties
-pub record AreWinnersOf (rules : List RuleValue) (nodes : List Node) (names : List Names) (k : ℕ) (seen : List Entry) (winners : List (Option Candidate)) : Type 0 where
+pub record AreWinnersOf (rules : List RuleValue) (nodes : List Node) (names : List Names) (k : ℕ)
+    (seen : List Entry) (winners : List (Option Candidate)) : Type 0 where
   pub count : length winners ≡ 46
   pub each : (p : Property) → IsGreatest (IsBySome rules nodes names k seen p) (slice_index_or winners (number_of p) None)

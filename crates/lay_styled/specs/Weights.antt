@@ -1,7 +1,7 @@
 -- What decides among the declarations that a node may have for a property (CSS 2.2, 6.4.1 and 6.4.3), as one list of numbers:
 -- whether it is important, whether it is the node's own, labels, classes, tags, and the place in the sheet. The first number
 -- that differs decides.
-use Rattle.std.specs.Prelude.{ℕ, ◌==◌, Bool, true, false, nat_lt, List, [], ◌∷◌, if◌then◌else◌}
+use Rattle.std.specs.Prelude.{ℕ, ◌==◌, Bool, false, nat_lt, List, [], ◌∷◌, if◌then◌else◌}
 use Rattle.lay_styled.specs.declared.weight.Weight.{Weight}
 
 abbrev pub bit : Bool → ℕ

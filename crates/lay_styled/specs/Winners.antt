@@ -1,5 +1,5 @@
 -- The greatest declarations of a sheet for a node, by the numbers of their properties, and how a node takes them.
-use Rattle.std.specs.Prelude.{ℕ, ◌+◌, ◌||◌, List, [], ◌∷◌, Bool, Option, Some, None, is_none, set, slice_index_or, if◌then◌else◌}
+use Rattle.std.specs.Prelude.{ℕ, ◌+◌, ◌||◌, List, [], ◌∷◌, Option, Some, None, is_none, set, slice_index_or, if◌then◌else◌}
 use Rattle.lay_style.specs.Values.{Declaration}
 use Rattle.lay_style.specs.Declarations.{declared_value, with_declaration}
 use Rattle.lay_style.specs.PropertyNumbers.{number_of}

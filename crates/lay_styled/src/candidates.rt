@@ -1,6 +1,6 @@
 //! The greatest of the declarations that a sheet has for a node.
 
-ghost use Rattle.std.specs.Prelude.{◌≡◌, ◌+◌, ◌<◌, None, IfOk, OnOk, length, replicate, slice_index_or, set};
+ghost use Rattle.std.specs.Prelude.{◌≡◌, ◌<◌, None, IfOk, length, replicate};
 ghost use Rattle.lay_style.specs.PropertyNumbers.{number_of};
 ghost use Rattle.lay_styled.specs.Winners.{better, with_candidate, sheet_candidate, with_decls};
 

@@ -7,7 +7,7 @@ ghost use Rattle.lay_sheet.specs.declared.selector.Step.{Step as StepValue};
 ghost use Rattle.lay_cascade.specs.Rising.{IsNamed};
 ghost use Rattle.lay_cascade.specs.Specificity.{specificity_of};
 ghost use Rattle.lay_styled.specs.declared.entry.Entry.{Entry as EntryValue};
-ghost use Rattle.lay_styled.specs.Index.{listed, of_classes, IsIndexed};
+ghost use Rattle.lay_styled.specs.Index.{of_classes, IsIndexed};
 ghost use Rattle.lay_styled.specs.Cascade.{AreWinners};
 ghost use Rattle.lay_styled.specs.Seen.{AreWinnersOf};
 
@@ -48,8 +48,11 @@ fn take_entry(
     requires place { k < length cascade.named.nodes.now }
     requires no_text { is_text_at cascade.named.nodes.now k ≡ false }
     requires count { length winners.old.items ≡ 46 }
-    ensures winners { OnOk result ((seen : List EntryValue) → AreWinnersOf cascade.entry.rules.now cascade.entry.named.nodes.now cascade.entry.named.names.now k seen winners.old.items
-        → AreWinnersOf cascade.entry.rules.now cascade.entry.named.nodes.now cascade.entry.named.names.now k (seen ++ entry ∷ []) winners.new.items) }
+    ensures winners { OnOk result
+        ((seen : List EntryValue)
+        → AreWinnersOf cascade.entry.rules.now cascade.entry.named.nodes.now cascade.entry.named.names.now k seen winners.old.items
+        → AreWinnersOf cascade.entry.rules.now cascade.entry.named.nodes.now cascade.entry.named.names.now k
+        (seen ++ entry ∷ []) winners.new.items) }
     ensures count { OnOk result (length winners.new.items ≡ 46) }
 {
     if entry.rule >= cascade.rules.len() {
@@ -90,8 +93,11 @@ fn take_entries(
     requires place { k < length cascade.named.nodes.now }
     requires no_text { is_text_at cascade.named.nodes.now k ≡ false }
     requires count { length winners.old.items ≡ 46 }
-    ensures winners { OnOk result ((seen : List EntryValue) → AreWinnersOf cascade.entry.rules.now cascade.entry.named.nodes.now cascade.entry.named.names.now k seen winners.old.items
-        → AreWinnersOf cascade.entry.rules.now cascade.entry.named.nodes.now cascade.entry.named.names.now k (seen ++ entries.now) winners.new.items) }
+    ensures winners { OnOk result
+        ((seen : List EntryValue)
+        → AreWinnersOf cascade.entry.rules.now cascade.entry.named.nodes.now cascade.entry.named.names.now k seen winners.old.items
+        → AreWinnersOf cascade.entry.rules.now cascade.entry.named.nodes.now cascade.entry.named.names.now k
+        (seen ++ entries.now) winners.new.items) }
     ensures count { OnOk result (length winners.new.items ≡ 46) }
 {
     for i in 0..entries.len() {
@@ -120,7 +126,9 @@ fn take_classes(
     requires no_text { is_text_at cascade.named.nodes.now k ≡ false }
     requires index { length cascade.index.now.by_name.items ≡ 4096 }
     requires count { length winners.old.items ≡ 46 }
-    ensures winners { OnOk result ((seen : List EntryValue) → AreWinnersOf cascade.entry.rules.now cascade.entry.named.nodes.now cascade.entry.named.names.now k seen winners.old.items
+    ensures winners { OnOk result
+        ((seen : List EntryValue)
+        → AreWinnersOf cascade.entry.rules.now cascade.entry.named.nodes.now cascade.entry.named.names.now k seen winners.old.items
         → AreWinnersOf cascade.entry.rules.now cascade.entry.named.nodes.now cascade.entry.named.names.now k
         (seen ++ of_classes cascade.entry.index.now.by_name.items cascade.entry.index.now.rest classes.now) winners.new.items) }
     ensures count { OnOk result (length winners.new.items ≡ 46) }

@@ -1,6 +1,6 @@
 //! The selectors of a sheet by names.
 
-ghost use Rattle.std.specs.Prelude.{◌≡◌, ◌+◌, ◌<◌, ◌++◌, ◌∷◌, [], Some, IfOk, OnOk, length, slice_index_or, option_map};
+ghost use Rattle.std.specs.Prelude.{◌≡◌, ◌+◌, ◌<◌, Some, IfOk, OnOk, length, option_map};
 ghost use Rattle.std.specs.List.{slice_get};
 ghost use Rattle.lay_styled.specs.Index.{name_in, last_name, list_of, by_name_with, rest_with, listed, IsIndexedTo, IsIndexed};
 

@@ -122,7 +122,8 @@ fn style_node(alloc: Global, cascade: Cascade<'_>, doc: &mut Doc, k: usize) -> R
     requires place { k < length cascade.named.nodes.now }
     requires index { IsIndexed cascade.rules.now cascade.index.now.by_name.items cascade.index.now.rest }
     requires so_far { IsCascadedTo cascade.rules.now cascade.named.nodes.now cascade.named.names.now k doc.old.nodes }
-    ensures nodes { OnOk result (IsCascadedTo cascade.entry.rules.now cascade.entry.named.nodes.now cascade.entry.named.names.now (k + 1) doc.new.nodes) }
+    ensures nodes { OnOk result
+        (IsCascadedTo cascade.entry.rules.now cascade.entry.named.nodes.now cascade.entry.named.names.now (k + 1) doc.new.nodes) }
     ensures width { OnOk result (doc.new.width ≡ doc.old.width) }
     ensures height { OnOk result (doc.new.height ≡ doc.old.height) }
 {

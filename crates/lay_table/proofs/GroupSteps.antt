@@ -1,5 +1,5 @@
 -- How many rows are drawn before a row group, by what is counted of them.
-use Rattle.std.proofs.Common.{◌≡◌, ℕ, zero, suc, ◌+◌, ◌-◌, ◌<◌, ◌≤◌, ◌==◌, ◌&&◌, ◌||◌, not, nat_lt, cond, Bool, true, false, List, [], ◌∷◌, length, slice_index, take, get_or, refl, sym, ap, ◌∙◌, subst, arith, if◌then◌else◌}
+use Rattle.std.proofs.Common.{◌≡◌, ℕ, zero, suc, ◌+◌, ◌-◌, ◌<◌, ◌≤◌, ◌==◌, ◌&&◌, ◌||◌, not, nat_lt, cond, Bool, true, false, List, [], ◌∷◌, length, slice_index, take, get_or, refl, sym, ap, ◌∙◌, arith, if◌then◌else◌}
 use Rattle.std.specs.List.{count_by}
 use Rattle.std.proofs.Math.Seq.{take-length}
 use Rattle.std.proofs.lemmas.Bool.Decides.{nat_tests}
@@ -8,7 +8,7 @@ use Rattle.lay_box_tree.specs.declared.box_tree.BoxNode.{BoxNode}
 use Rattle.lay_table_parts.specs.declared.rows.TableRow.{TableRow}
 use Rattle.lay_table.specs.declared.groups.OuterGroups.{OuterGroups}
 use Rattle.lay_table.specs.GroupCounts.{AreBodyRows, AreGroupCounts, AreRowsWithin, GroupCounts, is_body_row_at, sum_before}
-use Rattle.lay_table.specs.Groups.{is_at, is_body_row, is_body_row_before, is_drawn_before, is_header_row, is_row_in, outer_groups, rows_before, rows_within}
+use Rattle.lay_table.specs.Groups.{is_at, is_body_row, is_body_row_before, is_drawn_before, is_header_row, is_row_in, outer_groups, rows_before}
 
 abbrev pub one_if : Bool → ℕ
 one_if b = if b then 1 else 0

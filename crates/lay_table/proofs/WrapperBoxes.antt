@@ -1,5 +1,5 @@
 -- The boxes of a wrapper's context are boxes of a block formatting context.
-use Rattle.std.proofs.Common.{◌≡◌, ℕ, zero, suc, ◌+◌, ◌<◌, ◌≤◌, ℤ, pos, ◌+ℤ◌, Bool, true, false, List, [], ◌∷◌, ◌++◌, length, length-append, slice_index, map, take, append_assoc, get_or, refl, sym, ap, ◌∙◌, subst, arith}
+use Rattle.std.proofs.Common.{◌≡◌, ℕ, zero, suc, ◌+◌, ◌<◌, ◌≤◌, pos, true, false, List, [], ◌∷◌, ◌++◌, length, length-append, slice_index, take, append_assoc, get_or, refl, sym, ◌∙◌, subst, arith}
 use Rattle.std.specs.List.{All}
 use Rattle.std.proofs.lemmas.Int.{ints}
 use Rattle.std.proofs.lemmas.List.Elements.{All-append}
@@ -11,7 +11,7 @@ use Rattle.lay_doc.specs.Tree.{IsTree}
 use Rattle.lay_blocks.specs.declared.flow_box.FlowBox.{FlowBox}
 use Rattle.lay_blocks.specs.BlockPositions.{given_or_auto}
 use Rattle.lay_blocks.specs.Boxes.{box_at, no_box, parent_at, parents_of}
-use Rattle.lay_blocks.specs.FlowBoxes.{AreFlowBoxes, IsFlowTree, KindFits, is_block, is_in_lines, may_hold}
+use Rattle.lay_blocks.specs.FlowBoxes.{AreFlowBoxes, IsFlowTree, KindFits, is_in_lines, may_hold}
 use Rattle.lay_blocks.specs.Weights.{weight}
 use Rattle.lay_blocks.proofs.BoxTrees.{parent_is, parents_length}
 use Rattle.lay_sizes.specs.declared.own_boxes.OwnBox.{OwnBox}

@@ -4,20 +4,15 @@ use Rattle.std.specs.Prelude.{ℕ, zero, suc, ◌+◌, ◌<◌, ◌&&◌, Bool, 
 use Rattle.lay_style.specs.declared.style_words.CaptionSide.{CaptionSide}
 use Rattle.lay_style.specs.declared.style_words.CaptionSide.TheVariants as side
 use Rattle.lay_style.specs.ComputedStyle.{style_at}
-use Rattle.lay_box_tree.specs.declared.box_tree.BoxKind.{BoxKind}
-use Rattle.lay_box_tree.specs.declared.box_tree.BoxKind.TheVariants as kind
 use Rattle.lay_box_tree.specs.declared.box_tree.BoxNode.{BoxNode}
 use Rattle.lay_box_tree.specs.BoxColumns.{box_styles}
+use Rattle.lay_box_tree.specs.Kinds.{is_caption}
 use Rattle.lay_table_parts.specs.TableBoxes.{kind_at}
 
 abbrev pub is_side : CaptionSide → CaptionSide → Bool
 is_side side.Top side.Top = true
 is_side side.Bottom side.Bottom = true
 is_side _ _ = false
-
-abbrev pub is_caption : BoxKind → Bool
-is_caption kind.Caption = true
-is_caption _ = false
 
 -- the box at k is a caption on this side of the table
 abbrev pub is_caption_on : CaptionSide → List BoxNode → ℕ → Bool

@@ -1,5 +1,5 @@
 -- What is counted of rows, so that it is known how many are drawn before a row group: columns with an entry for each box.
-use Rattle.std.specs.Prelude.{ℕ, zero, suc, ◌≡◌, ◌<◌, ◌≤◌, ◌+◌, ◌==◌, ◌&&◌, Bool, List, length, slice_index, take}
+use Rattle.std.specs.Prelude.{ℕ, zero, suc, ◌≡◌, ◌<◌, ◌+◌, ◌==◌, ◌&&◌, Bool, List, length, slice_index, take}
 use Rattle.std.specs.List.{count_by}
 use Rattle.lay_box_tree.specs.declared.box_tree.BoxNode.{BoxNode}
 use Rattle.lay_table_parts.specs.declared.rows.TableRow.{TableRow}

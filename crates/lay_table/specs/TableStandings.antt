@@ -8,9 +8,10 @@
 -- table-footer-group, table-row, table-column-group, table-column, table-cell, and table-caption elements is undefined."
 use Rattle.std.specs.Prelude.{ℕ, zero, suc, ◌≡◌, ◌+ℤ◌, ◌==◌, ℤ, List, length, map, slice_index, Option, Some, None, if◌then◌else◌}
 use Rattle.lay_units.specs.declared.length.Unit.{Unit as Length}
+use Rattle.lay_units.specs.Lengths.{no_length}
 use Rattle.lay_blocks.specs.declared.flow_places.BoxPlace.{BoxPlace}
 use Rattle.lay_blocks.specs.FlowPlaces.{FlowPlacesValue, IsFlowOf, box_place_at}
-use Rattle.lay_blocks.specs.Lengths.{length_at, no_length}
+use Rattle.lay_blocks.specs.Lengths.{length_at}
 use Rattle.lay_pieces.specs.declared.corner.Corner.{Corner}
 use Rattle.lay_pieces.specs.declared.standing.Standing.{Standing}
 use Rattle.lay_pieces.specs.Standings.{no_standing}

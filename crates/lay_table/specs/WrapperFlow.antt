@@ -4,6 +4,7 @@
 -- Positions are counted from the corner of the wrapper's border box.
 use Rattle.std.specs.Prelude.{ℕ, ◌+ℤ◌, List, ◌∷◌, ◌++◌, map, None}
 use Rattle.lay_units.specs.declared.length.Unit.{Unit as Length}
+use Rattle.lay_units.specs.Lengths.{no_length}
 use Rattle.lay_floats.specs.declared.requests.Clear.TheVariants.{None as clear_none}
 use Rattle.lay_blocks.specs.declared.flow_box.FlowBox.{FlowBox}
 use Rattle.lay_blocks.specs.declared.flow_box.FlowKind.TheVariants.{Block as block, Solid as solid}
@@ -11,7 +12,6 @@ use Rattle.lay_sizes.specs.declared.own_boxes.OwnBox.{OwnBox}
 use Rattle.lay_sizes.specs.declared.sizing.BoxSizes.{BoxSizes}
 use Rattle.lay_sizes.specs.OwnBoxes.{own_box, own_box_at}
 use Rattle.lay_sizes.specs.SizeColumns.{sizes_at}
-use Rattle.lay_sizes.specs.UsedLengths.{no_length}
 use Rattle.lay_table_rows.specs.RowNeeds.{border_height, table_sizes}
 use Rattle.lay_table_rows.specs.TableInputs.{TableInput, grid_of}
 use Rattle.lay_table_rows.specs.TableRows.{table_content}

@@ -1,9 +1,9 @@
 //! The captions of a table (CSS 2.2, 17.4.1).
 
 ghost use Rattle.std.specs.Prelude.{◌≡◌, ◌<◌, length, IfOk};
-ghost use Rattle.lay_table.specs.Captions.{ArePlaces, captions_of, captions_on, is_caption, is_caption_on, is_side};
+ghost use Rattle.lay_table.specs.Captions.{ArePlaces, captions_of, captions_on, is_caption_on, is_side};
 
-use lay_box_tree::{BoxKind, BoxNode};
+use lay_box_tree::{BoxNode, is_caption};
 use lay_style::CaptionSide;
 use lay_units::NoMemory;
 use std::alloc::Global;
@@ -67,12 +67,6 @@ fn is_caption_on(side: CaptionSide, boxes: &[BoxNode], k: usize) -> bool
     ensures { result ≡ is_caption_on side boxes.now k }
 {
     is_caption(&boxes[k].kind) && is_side(boxes[k].style.table.caption_side, side)
-}
-
-fn is_caption(kind: &BoxKind) -> bool
-    ensures { result ≡ is_caption kind.now }
-{
-    matches!(kind, BoxKind::Caption)
 }
 
 fn is_side(a: CaptionSide, b: CaptionSide) -> bool

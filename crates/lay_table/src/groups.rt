@@ -32,7 +32,8 @@ impl Model for GroupCounts {
 
     ghost Value = { Plain };
 
-    ghost view = { λ g. record { outer = g.outer; header_rows = g.header_rows; within = g.within.items; body_before = g.body_before.items } };
+    ghost view = { λ g.
+        record { outer = g.outer; header_rows = g.header_rows; within = g.within.items; body_before = g.body_before.items } };
 }
 
 /// The counts of these rows.
@@ -149,7 +150,9 @@ fn count_body(
 /// Counts one more at k, if there is such an entry.
 fn count_one(counts: &mut Vec<usize>, k: usize) -> Result<(), NoMemory>
     ensures count { OnOk result (length counts.new.items ≡ length counts.old.items) }
-    ensures each { OnOk result ((j : ℕ) → j < length counts.old.items → slice_index counts.new.items j ≡ slice_index counts.old.items j + (if k == j then 1 else 0)) }
+    ensures each { OnOk result
+        ((j : ℕ) → j < length counts.old.items
+        → slice_index counts.new.items j ≡ slice_index counts.old.items j + (if k == j then 1 else 0)) }
 {
     if k >= counts.len() {
         return Ok(());

@@ -1,17 +1,15 @@
 //! The pieces of a table.
 
-ghost use Rattle.std.specs.Prelude.{◌≡◌, ◌<◌, ◌≤◌, length, slice_index, IfOk, OnOk};
-ghost use Rattle.lay_box_tree.specs.BoxColumns.{box_ids};
+ghost use Rattle.std.specs.Prelude.{◌≡◌, ◌<◌, ◌≤◌, length, IfOk, OnOk};
 ghost use Rattle.lay_box_tree.specs.ContextBoxes.{is_inner};
 ghost use Rattle.lay_pieces.specs.NearPieces.{AreNearPieces};
 ghost use Rattle.lay_pieces.specs.PieceParts.{with_pieces};
-ghost use Rattle.lay_pieces.specs.Splicing.{border_box};
 ghost use Rattle.lay_pieces.specs.Standings.{IsStandingNear};
 ghost use Rattle.lay_sizes.specs.BoxSizes.{border_width};
 ghost use Rattle.lay_sizes.specs.SizeColumns.{sizes_at};
 ghost use Rattle.lay_table_parts.specs.TableBoxes.{kind_at};
 ghost use Rattle.lay_table.specs.PlaceBounds.{AreStandings};
-ghost use Rattle.lay_table.specs.TablePieces.{extent_by_kind, inner_width, piece_of, pieces_by, pieces_of_box, pieces_to, rows_width};
+ghost use Rattle.lay_table.specs.TablePieces.{extent_by_kind, inner_width, piece_of, pieces_of_box, pieces_to, rows_width};
 ghost use Rattle.lay_table.specs.TableStandings.{standing_of};
 
 use crate::places::TablePlaces;

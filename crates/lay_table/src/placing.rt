@@ -41,7 +41,8 @@ pub fn table_placement(alloc: Global, input: &TableInput) -> Result<Placement, N
 /// The wrapper as the formatting context around it takes it.
 fn own_box_of(input: &TableInput, places: &TablePlaces) -> Result<OwnBox, NoMemory>
     requires { PlacesFit input.now places.now }
-    ensures value { IfOk result (λ o. o ≡ own_box (sizes_at input.now.sizes 0) (box_place_at places.now.flow.boxes 0).height (first_baseline places.now)) }
+    ensures value { IfOk result
+        (λ o. o ≡ own_box (sizes_at input.now.sizes 0) (box_place_at places.now.flow.boxes 0).height (first_baseline places.now)) }
     ensures fits { IfOk result OwnBoxFits }
 {
     let baseline = first_baseline(input, places)?;

@@ -1,14 +1,16 @@
 //! Where the boxes of a table stand.
 
 ghost use Rattle.std.specs.Prelude.{ℕ, ◌≡◌, ◌<◌, ◌==◌, length, slice_index, IfOk, OnOk, if◌then◌else◌};
+ghost use Rattle.lay_units.specs.Units.{IsNear};
 ghost use Rattle.lay_blocks.specs.FlowPlaces.{IsNearPlace, box_place_at};
-ghost use Rattle.lay_pieces.specs.Corners.{IsCornerNear, IsNear};
+ghost use Rattle.lay_pieces.specs.Corners.{IsCornerNear};
 ghost use Rattle.lay_pieces.specs.Standings.{AreNearStandings, IsStandingNear, standing_at};
 ghost use Rattle.lay_table_parts.specs.TableBoxes.{is_row_group};
 ghost use Rattle.lay_table.specs.Captions.{ArePlaces, captions_of};
 ghost use Rattle.lay_table.specs.GroupCounts.{AreGroupCounts};
 ghost use Rattle.lay_table.specs.PlaceBounds.{AreStandings, PlacesFit};
-ghost use Rattle.lay_table.specs.TableStandings.{cell_places, cell_standing, corner_inside, flow_standing, group_height, group_or_none, group_standing, number_of, row_places, row_standing, standing_by};
+ghost use Rattle.lay_table.specs.TableStandings.{cell_places, cell_standing, corner_inside, flow_standing, group_height};
+ghost use Rattle.lay_table.specs.TableStandings.{group_or_none, group_standing, number_of, row_places, row_standing, standing_by};
 ghost use Rattle.lay_table.specs.WrapperFlow.{places_in_wrapper};
 
 use crate::captions::Captions;
@@ -152,7 +154,10 @@ fn put_cells(
     requires count { length standings.old.items ≡ length input.now.boxes }
     requires near { AreNearStandings standings.old.items }
     ensures count { OnOk result (length standings.new.items ≡ length standings.old.items) }
-    ensures each { OnOk result ((k : ℕ) → k < length standings.old.items → standing_at standings.new.items k ≡ standing_by (cell_standing input.now places.now) (standing_at standings.old.items k) (number_of (cell_places input.now) k)) }
+    ensures each { OnOk result
+        ((k : ℕ) → k < length standings.old.items
+        → standing_at standings.new.items k
+        ≡ standing_by (cell_standing input.now places.now) (standing_at standings.old.items k) (number_of (cell_places input.now) k)) }
     ensures near { OnOk result (AreNearStandings standings.new.items) }
 {
     for c in 0..input.grid().cells().len() {
@@ -198,7 +203,10 @@ fn put_rows(
     requires count { length standings.old.items ≡ length input.now.boxes }
     requires near { AreNearStandings standings.old.items }
     ensures count { OnOk result (length standings.new.items ≡ length standings.old.items) }
-    ensures each { OnOk result ((k : ℕ) → k < length standings.old.items → standing_at standings.new.items k ≡ standing_by (row_standing places.now) (standing_at standings.old.items k) (number_of (row_places input.now) k)) }
+    ensures each { OnOk result
+        ((k : ℕ) → k < length standings.old.items
+        → standing_at standings.new.items k
+        ≡ standing_by (row_standing places.now) (standing_at standings.old.items k) (number_of (row_places input.now) k)) }
     ensures near { OnOk result (AreNearStandings standings.new.items) }
 {
     for r in 0..input.grid().rows().len() {
@@ -258,7 +266,10 @@ fn put_in_flow(standings: &mut Vec<Standing>, places: &TablePlaces, in_flow: &[u
     requires within { ArePlaces (length standings.old.items) in_flow.now }
     requires near { AreNearStandings standings.old.items }
     ensures count { length standings.new.items ≡ length standings.old.items }
-    ensures each { (k : ℕ) → k < length standings.old.items → standing_at standings.new.items k ≡ standing_by (λ n. flow_standing (box_place_at places.now.flow.boxes n)) (standing_at standings.old.items k) (number_of in_flow.now k) }
+    ensures each { (k : ℕ) → k < length standings.old.items
+        → standing_at standings.new.items k
+        ≡ standing_by (λ n. flow_standing (box_place_at places.now.flow.boxes n)) (standing_at standings.old.items k)
+        (number_of in_flow.now k) }
     ensures near { AreNearStandings standings.new.items }
 {
     for n in 0..in_flow.len() {
@@ -288,7 +299,8 @@ fn put(standings: &mut Vec<Standing>, k: usize, standing: Standing)
     requires all_near { AreNearStandings standings.old.items }
     requires near { IsStandingNear standing }
     ensures count { length standings.new.items ≡ length standings.old.items }
-    ensures each { (j : ℕ) → j < length standings.old.items → standing_at standings.new.items j ≡ (if k == j then standing else standing_at standings.old.items j) }
+    ensures each { (j : ℕ) → j < length standings.old.items
+        → standing_at standings.new.items j ≡ (if k == j then standing else standing_at standings.old.items j) }
     ensures near { AreNearStandings standings.new.items }
 {
     standings[k] = standing;

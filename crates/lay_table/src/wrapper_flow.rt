@@ -8,7 +8,8 @@ ghost use Rattle.lay_sizes.specs.SizeBounds.{IsInset, SizeFits};
 ghost use Rattle.lay_sizes.specs.SizeColumns.{sizes_at};
 ghost use Rattle.lay_table.specs.Captions.{ArePlaces, captions_of};
 ghost use Rattle.lay_table.specs.PlaceBounds.{AllFit};
-ghost use Rattle.lay_table.specs.WrapperFlow.{box_inside, boxes_in_wrapper, caption_inside, captions_inside, places_in_wrapper, table_box, wrapper_box};
+ghost use Rattle.lay_table.specs.WrapperFlow.{box_inside, boxes_in_wrapper, caption_inside};
+ghost use Rattle.lay_table.specs.WrapperFlow.{captions_inside, places_in_wrapper, table_box, wrapper_box};
 
 use crate::captions::Captions;
 use lay_blocks::{
@@ -19,9 +20,9 @@ use lay_floats::Clear;
 use lay_flow::flow;
 use lay_sizes::{BoxSizes, OwnBox, own_box};
 use lay_table_rows::{
-    TableInput, Tracks, border_height, own_box_at, sizes_at, sum_of, table_content, table_sizes,
+    TableInput, Tracks, border_height, own_box_at, sizes_at, table_content, table_sizes,
 };
-use lay_units::{NoMemory, Unit};
+use lay_units::{NoMemory, Unit, sum_of};
 use std::alloc::Global;
 
 /// Where the boxes of the wrapper's context stand. NoMemory is also the answer for more captions than 2^23, which no

@@ -15,6 +15,7 @@ use Rattle.lay_style.specs.declared.style_words.BorderStyle.{BorderStyle as Comp
 use Rattle.lay_style.specs.declared.style_words.BorderStyle.TheVariants as computed
 use Rattle.lay_style.specs.LengthValues.{size_of}
 use Rattle.lay_box_tree.specs.declared.box_tree.BoxNode.{BoxNode}
+use Rattle.lay_box_tree.specs.Containers.{box_parent}
 use Rattle.lay_grid.specs.Places.{right_edge}
 use Rattle.lay_borders.specs.declared.candidate.BorderStyle.{BorderStyle}
 use Rattle.lay_borders.specs.declared.candidate.BorderStyle.TheVariants as style
@@ -22,7 +23,7 @@ use Rattle.lay_borders.specs.declared.candidate.Cand.{Cand}
 use Rattle.lay_borders.specs.declared.candidate.Origin.TheVariants as origin
 use Rattle.lay_table_parts.specs.declared.rows.TableRow.{TableRow}
 use Rattle.lay_table_parts.specs.declared.placed.PlacedCell.{PlacedCell}
-use Rattle.lay_table_parts.specs.TableBoxes.{is_column, is_column_group, is_row_group, kind_at, parent_at}
+use Rattle.lay_table_parts.specs.TableBoxes.{is_column, is_column_group, is_row_group, kind_at}
 use Rattle.lay_table_parts.specs.TableParts.{TableParts}
 use Rattle.lay_table_borders.specs.declared.elements.Element.{Element}
 use Rattle.lay_table_borders.specs.declared.elements.Side.{Side}
@@ -164,7 +165,7 @@ column_element p (Some c) = column_of p c (slice_get p.column_boxes c)
 
 -- what a column stands in: its box, where that is a column group, or else the parent of that
 abbrev pub around_column : List BoxNode → ℕ → ℕ
-around_column boxes k = if is_column_group (kind_at boxes k) then k else parent_at boxes k
+around_column boxes k = if is_column_group (kind_at boxes k) then k else box_parent boxes k
 
 abbrev pub column_groups : TableParts → List ℕ
 column_groups p = map (around_column p.boxes) p.column_boxes

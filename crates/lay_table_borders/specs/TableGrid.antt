@@ -4,12 +4,12 @@
 use Rattle.std.specs.Prelude.{ℕ, ◌≡◌, ◌+◌, Bool, true, false, Option, Some, None}
 use Rattle.std.specs.Prelude.{All, List, map, slice_get, if◌then◌else◌}
 use Rattle.lay_units.specs.declared.records.Sides.{Sides}
+use Rattle.lay_units.specs.Lengths.{no_length}
 use Rattle.lay_style.specs.declared.style.TableStyle.{TableStyle}
 use Rattle.lay_style.specs.declared.style_words.BorderCollapse.{BorderCollapse}
 use Rattle.lay_style.specs.declared.style_words.BorderCollapse.TheVariants as borders
 use Rattle.lay_style.specs.LengthValues.{size_of}
 use Rattle.lay_box_tree.specs.declared.box_tree.BoxNode.{BoxNode}
-use Rattle.lay_sizes.specs.UsedLengths.{no_length}
 use Rattle.lay_grid.specs.declared.cells.Cell.{Cell}
 use Rattle.lay_table_parts.specs.declared.rows.TableRow.{TableRow}
 use Rattle.lay_table_parts.specs.declared.placed.PlacedCell.{PlacedCell}

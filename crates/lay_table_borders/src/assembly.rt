@@ -1,7 +1,6 @@
 //! The structure of a table, from the boxes of its formatting context.
 
 ghost use Rattle.std.specs.Prelude.{◌≡◌, true, false, slice_get, IfOk};
-ghost use Rattle.lay_units.specs.Units.{IsUsedSize};
 ghost use Rattle.lay_style.specs.LengthValues.{size_of};
 ghost use Rattle.lay_table_parts.specs.TableParts.{ArePartsOf};
 ghost use Rattle.lay_table_borders.specs.GridBounds.{IsUsedSpacing};
@@ -12,9 +11,9 @@ use crate::bordered::{collapsed_cells, separate_cells};
 use crate::grid::{Spacing, TableGrid};
 use crate::own_borders;
 use lay_box_tree::BoxNode;
-use lay_style::{BorderCollapse, TableStyle};
+use lay_style::{BorderCollapse, TableStyle, size_of};
 use lay_table_parts::{Parts, table_parts};
-use lay_units::{NoMemory, Unit, clamp_size};
+use lay_units::{NoMemory, Unit};
 use std::alloc::Global;
 
 /// The structure of the table of these boxes, those of its formatting context. NoMemory is also the
@@ -115,12 +114,4 @@ fn spacing_by(style: &TableStyle) -> Spacing
         across: size_of(spacing.horizontal),
         down: size_of(spacing.vertical),
     }
-}
-
-/// A length of a style that can't be negative, as it is used.
-fn size_of(length: Unit) -> Unit
-    ensures value { result ≡ size_of length.0 }
-    ensures size { IsUsedSize result.0 }
-{
-    clamp_size(i128::from(length.0))
 }

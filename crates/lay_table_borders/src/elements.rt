@@ -10,9 +10,9 @@ ghost use Rattle.lay_table_borders.specs.Pass.EdgeBounds.{IsCounted};
 
 use lay_borders::{BorderStyle, Cand, Origin};
 use lay_box_tree::BoxNode;
-use lay_style::{BorderStyle as ComputedBorderStyle, Style};
+use lay_style::{BorderStyle as ComputedBorderStyle, Style, size_of};
 use lay_table_parts::PlacedCell;
-use lay_units::{NoMemory, Unit, clamp_size};
+use lay_units::{NoMemory, Unit};
 
 /// A side of a box.
 #[derive(Clone, Copy, Debug, PartialEq, Eq)]
@@ -119,14 +119,6 @@ pub fn width_on(side: Side, style: &Style) -> Unit
         Side::Bottom => widths.bottom,
         Side::Left => widths.left,
     })
-}
-
-/// A length of a style that can't be negative, as it is used.
-fn size_of(length: Unit) -> Unit
-    ensures value { result ≡ size_of length.0 }
-    ensures size { IsUsedSize result.0 }
-{
-    clamp_size(i128::from(length.0))
 }
 
 fn conflict_style(style: ComputedBorderStyle) -> BorderStyle

@@ -1,7 +1,6 @@
 //! What the rows and the columns of a table stand in (CSS 2.2, 17.2 and 17.3).
 
 ghost use Rattle.std.specs.Prelude.{◌≡◌, IfOk, map};
-ghost use Rattle.lay_table_parts.specs.TableBoxes.{kind_at, parent_at};
 ghost use Rattle.lay_table_borders.specs.MeetingBorders.{around_column, column_groups, row_groups};
 
 use lay_box_tree::BoxNode;

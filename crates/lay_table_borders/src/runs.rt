@@ -1,6 +1,6 @@
 //! Runs of equal entries.
 
-ghost use Rattle.std.specs.Prelude.{◌≡◌, ◌+◌, ◌^◌, ◌<◌, length, slice_get, IfOk, IfSome};
+ghost use Rattle.std.specs.Prelude.{◌≡◌, ◌^◌, ◌<◌, length, slice_get, IfOk, IfSome};
 ghost use Rattle.lay_table_borders.specs.MeetingBorders.{among, are_one, before, first_of_run, item as item_of};
 ghost use Rattle.lay_table_borders.specs.Pass.Runs.{AreRunStartsTo};
 

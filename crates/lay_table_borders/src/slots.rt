@@ -3,7 +3,7 @@
 ghost use Rattle.std.specs.Prelude.{◌≡◌, ◌+◌, ◌^◌, ◌<◌, ◌≤◌, length, ℕ, replicate, [], All, IfOk, OnOk};
 ghost use Rattle.lay_table_parts.specs.declared.placed.PlacedCell.{PlacedCell};
 ghost use Rattle.lay_table_parts.specs.PartBounds.{CoversRows};
-ghost use Rattle.lay_table_borders.specs.Pass.Slots.{AreSlots, Covered, CoveredRow, CoveredSlot, SlotsTo, entry_at};
+ghost use Rattle.lay_table_borders.specs.Pass.Slots.{AreSlots, Covered, CoveredRow, CoveredSlot, entry_at};
 
 use lay_table_parts::PlacedCell;
 use lay_units::NoMemory;

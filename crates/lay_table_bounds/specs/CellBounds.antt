@@ -8,12 +8,12 @@
 use Rattle.std.specs.Prelude.{ℕ, ℤ, ◌+ℤ◌, List, map, slice_index_or}
 use Rattle.std.specs.Int.{int_max}
 use Rattle.lay_units.specs.declared.records.Sides.{Sides}
-use Rattle.lay_style.specs.ComputedStyle.{style_at}
+use Rattle.lay_units.specs.Lengths.{no_length}
 use Rattle.lay_style.specs.declared.style.Style.{Style}
-use Rattle.lay_box_tree.specs.BoxColumns.{box_styles}
+use Rattle.lay_box_tree.specs.BoxColumns.{style_of_box}
 use Rattle.lay_box_tree.specs.declared.box_tree.BoxNode.{BoxNode}
 use Rattle.lay_measure.specs.Contributions.{given_or, size_or_zero}
-use Rattle.lay_measure.specs.MeasureInValue.{no_length, no_widths}
+use Rattle.lay_measure.specs.MeasureInValue.{no_widths}
 use Rattle.lay_measure.specs.declared.preferred_widths.PreferredWidths.{PreferredWidths}
 use Rattle.lay_auto_columns.specs.declared.bounds.SpanCell.{SpanCell}
 use Rattle.lay_table_borders.specs.declared.grid.TableCell.{TableCell}
@@ -29,10 +29,7 @@ cell_minimum borders s content = int_max content.minimum.0 (given_or s.sizing.wi
 abbrev pub cell_maximum : Sides → Style → PreferredWidths → ℤ
 cell_maximum borders s content = int_max (content.preferred.0 +ℤ cell_edges borders s) (cell_minimum borders s content)
 
--- the style and the preferred widths at the place of a box
-abbrev pub style_of_box : List BoxNode → ℕ → Style
-style_of_box boxes k = style_at (box_styles boxes) k
-
+-- the preferred widths at the place of a box
 abbrev pub widths_at : List PreferredWidths → ℕ → PreferredWidths
 widths_at inner k = slice_index_or inner k no_widths
 

@@ -46,7 +46,8 @@ pub record IsUnbounded (b : BlockIn) : Type 0 where
 
 -- "the greater of W, CAPMIN, and the minimum width required by all the columns"
 abbrev pub GivenWidthsAreGreatest : Type 0
-GivenWidthsAreGreatest = (b : BlockIn) (given least greatest captions width : Length) → IsUnbounded b → b.width ≡ of given → IsUsedSize given.0
+GivenWidthsAreGreatest = (b : BlockIn) (given least greatest captions width : Length) → IsUnbounded b
+    → b.width ≡ of given → IsUsedSize given.0
     → IsAutoWidth b least greatest captions width
     → width.0 ≡ int_max given.0 (int_max least.0 (captions.0 -ℤ edges_of b))
 

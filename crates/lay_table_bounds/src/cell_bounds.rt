@@ -1,10 +1,11 @@
 //! What cells ask of their columns.
 
 ghost use Rattle.std.specs.Prelude.{◌≡◌, ◌<◌, ℕ, All, IfOk, length, slice_get, Some};
+ghost use Rattle.lay_box_tree.specs.BoxColumns.{style_of_box};
 ghost use Rattle.lay_auto_columns.specs.Fit.{CellFits};
 ghost use Rattle.lay_table_borders.specs.GridBounds.{CellFits as GridCellFits, PlacesAreBelow};
 ghost use Rattle.lay_table_bounds.specs.CellBounds.{cell_edges, cell_maximum, cell_minimum};
-ghost use Rattle.lay_table_bounds.specs.CellBounds.{span_cell, span_cells, style_of_box, widths_at};
+ghost use Rattle.lay_table_bounds.specs.CellBounds.{span_cell, span_cells, widths_at};
 
 use crate::sizes::size;
 use lay_auto_columns::SpanCell;

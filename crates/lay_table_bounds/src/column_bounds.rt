@@ -1,9 +1,9 @@
 //! The columns of a table.
 
 ghost use Rattle.std.specs.Prelude.{◌≡◌, ◌<◌, ◌-ℤ◌, ◌≤ℤ◌, ◌<ℤ◌, ◌^◌, pos, All, IfOk, length};
-ghost use Rattle.lay_auto_columns.specs.AutoColumns.{AreAutoColumns, sum_min};
+ghost use Rattle.lay_units.specs.Units.{IsSize};
+ghost use Rattle.lay_auto_columns.specs.AutoColumns.{AreAutoColumns};
 ghost use Rattle.lay_auto_columns.specs.Fit.{BoundFits};
-ghost use Rattle.lay_auto_columns.specs.Sizes.{IsSize};
 ghost use Rattle.lay_table_borders.specs.GridBounds.{PlacesAreBelow};
 ghost use Rattle.lay_table_bounds.specs.ColumnBounds.{AreTableBounds, least_content, spaces};
 

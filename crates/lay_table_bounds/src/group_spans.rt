@@ -49,7 +49,9 @@ fn push_group(
 ) -> Result<(), NoMemory>
     requires few { length groups.now < 2 ^ 32 }
     requires inside { k < length groups.now }
-    ensures { OnOk result ((group : ℕ) → slice_get groups.now k ≡ Some group → spans.new.items ≡ spans.old.items ++ span_at boxes.now k before group (drop k groups.now)) }
+    ensures { OnOk result
+        ((group : ℕ) → slice_get groups.now k ≡ Some group
+        → spans.new.items ≡ spans.old.items ++ span_at boxes.now k before group (drop k groups.now)) }
 {
     let group = group_at(groups, k);
     if goes_on(before, group) {

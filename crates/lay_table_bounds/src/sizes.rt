@@ -1,7 +1,7 @@
 //! Lengths that columns can be asked for.
 
 ghost use Rattle.std.specs.Prelude.{◌≡◌, IfOk};
-ghost use Rattle.lay_auto_columns.specs.Sizes.{IsSize};
+ghost use Rattle.lay_units.specs.Units.{IsSize};
 
 use lay_units::{NoMemory, Unit};
 

@@ -2,7 +2,7 @@
 
 ghost use Rattle.std.specs.Prelude.{◌≡◌, ◌-ℤ◌, IfOk};
 ghost use Rattle.std.specs.Int.{int_max};
-ghost use Rattle.lay_auto_columns.specs.Sizes.{IsSize};
+ghost use Rattle.lay_units.specs.Units.{IsSize};
 ghost use Rattle.lay_widths.specs.Lengths.{BlockFits, edges_of};
 ghost use Rattle.lay_table_bounds.specs.AutoWidth.{IsAutoWidth};
 

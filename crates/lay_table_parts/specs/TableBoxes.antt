@@ -7,10 +7,11 @@
 use Rattle.std.specs.Prelude.{ℕ, zero, suc, ◌+◌, ◌==◌, ◌&&◌, ◌||◌, not, max, Bool, true, false, Option, Some, None}
 use Rattle.std.specs.Prelude.{List, [], ◌∷◌, ◌++◌, length, map, replicate, slice_get, slice_index, slice_index_or, if◌then◌else◌}
 use Rattle.std.specs.List.{list_any}
-use Rattle.lay_box_tree.specs.BoxColumns.{box_parents}
 use Rattle.lay_box_tree.specs.declared.box_tree.BoxKind.{BoxKind}
 use Rattle.lay_box_tree.specs.declared.box_tree.BoxKind.TheVariants as kind
 use Rattle.lay_box_tree.specs.declared.box_tree.BoxNode.{BoxNode}
+use Rattle.lay_box_tree.specs.Kinds.{is_cell}
+use Rattle.lay_box_tree.specs.Containers.{box_parent}
 use Rattle.lay_grid.specs.declared.cells.RowSpec.{RowSpec}
 use Rattle.lay_grid.specs.declared.cells.Span.{Span}
 use Rattle.lay_table_parts.specs.declared.rows.TableRow.{TableRow}
@@ -38,10 +39,6 @@ abbrev pub is_row : BoxKind → Bool
 is_row kind.Row = true
 is_row _ = false
 
-abbrev pub is_cell : BoxKind → Bool
-is_cell (kind.Cell colspan rowspan) = true
-is_cell _ = false
-
 abbrev pub is_column : BoxKind → Bool
 is_column (kind.Column span) = true
 is_column _ = false
@@ -52,9 +49,6 @@ is_column_group _ = false
 
 abbrev pub kind_at : List BoxNode → ℕ → BoxKind
 kind_at boxes k = slice_index_or (map (λ b. b.kind) boxes) k kind.Block
-
-abbrev pub parent_at : List BoxNode → ℕ → ℕ
-parent_at boxes k = slice_index (box_parents boxes) k
 
 -- the places of the boxes that pass a test, in order, where the first box stands at k
 abbrev pub places_from : (BoxNode → Bool) → ℕ → List BoxNode → List ℕ
@@ -102,7 +96,7 @@ row_places boxes = ranked_places boxes 0 ++ (ranked_places boxes 1 ++ ranked_pla
 
 -- a row, and what it stands in: its row group or the table box
 abbrev pub row_at : List BoxNode → ℕ → TableRow
-row_at boxes k = record { place = k; group = parent_at boxes k }
+row_at boxes k = record { place = k; group = box_parent boxes k }
 
 abbrev pub rows_of : List BoxNode → List TableRow
 rows_of boxes = map (row_at boxes) (row_places boxes)

@@ -9,10 +9,10 @@ ghost use Rattle.lay_table_parts.specs.Pass.GroupCounts.{AreGroupCounts};
 ghost use Rattle.lay_table_parts.specs.Pass.SpanColumns.{SpanColumns};
 
 use crate::group_numbers::{group_counts, group_number};
-use crate::kinds::{is_cell, span_of};
+use crate::kinds::span_of;
 use crate::places::PlaceList;
 use crate::rows::TableRow;
-use lay_box_tree::BoxNode;
+use lay_box_tree::{BoxNode, is_cell};
 use lay_grid::{RowSpec, Span, SpanList};
 use lay_units::NoMemory;
 use std::alloc::Global;

@@ -1,7 +1,7 @@
 //! What the kind of a box says of it in a table (CSS 2.2, 17.2).
 
 ghost use Rattle.std.specs.Prelude.{◌≡◌, ◌≤◌};
-ghost use Rattle.lay_table_parts.specs.TableBoxes.{is_cell, is_column, is_column_group, is_footer_group};
+ghost use Rattle.lay_table_parts.specs.TableBoxes.{is_column, is_column_group, is_footer_group};
 ghost use Rattle.lay_table_parts.specs.TableBoxes.{is_header_group, is_row, is_row_group, is_table};
 ghost use Rattle.lay_table_parts.specs.TableBoxes.{kind_at, span_of};
 
@@ -40,12 +40,6 @@ pub fn is_row(kind: &BoxKind) -> bool
     ensures { result ≡ is_row kind.now }
 {
     matches!(kind, BoxKind::Row)
-}
-
-pub fn is_cell(kind: &BoxKind) -> bool
-    ensures { result ≡ is_cell kind.now }
-{
-    matches!(kind, BoxKind::Cell { .. })
 }
 
 pub fn is_column(kind: &BoxKind) -> bool

@@ -1,24 +1,23 @@
 -- What cells need is within bounds, and so are the rows that come of it.
-use Rattle.std.proofs.Common.{◌≡◌, ℕ, zero, suc, ◌+◌, ◌<◌, ◌≤◌, ◌^◌, ℤ, pos, ◌+ℤ◌, ◌-ℤ◌, ◌≤ℤ◌, List, [], ◌∷◌, length, length-append, slice_get, Option, Some, None, IfSome, refl, subst, sym, ap, ◌∙◌, arith}
+use Rattle.std.proofs.Common.{◌≡◌, ℕ, zero, suc, ◌+◌, ◌<◌, ◌≤◌, ◌^◌, ℤ, pos, ◌+ℤ◌, ◌-ℤ◌, ◌≤ℤ◌, List, length, length-append, slice_get, Option, Some, None, IfSome, refl, subst, arith}
 use Rattle.std.specs.Option.{unwrap_or}
 use Rattle.std.specs.List.{All}
 use Rattle.std.proofs.lemmas.Int.{ints}
 use Rattle.std.proofs.lemmas.Option.{get_or_from_slice_get, slice_get_within}
-use Rattle.lay_units.specs.Units.{IsPosition, IsUsedSize}
+use Rattle.lay_units.specs.Units.{IsUsedSize, IsBoxSize, IsNear}
 use Rattle.lay_units.specs.declared.length.Unit.{Unit as Length}
 use Rattle.lay_units.specs.declared.records.Len.{Len}
 use Rattle.lay_units.specs.declared.records.Len.TheVariants as len
 use Rattle.lay_grid.specs.declared.heights.RowCell.{RowCell}
 use Rattle.lay_grid.specs.declared.heights.RowsIn.{RowsIn}
-use Rattle.lay_grid.specs.Heights.{AreHeights, IsEnough, IsRowBaseline}
-use Rattle.lay_grid.specs.Lengths.{ArePositions, MayBePosition}
+use Rattle.lay_grid.specs.Heights.{IsEnough}
+use Rattle.lay_grid.specs.Lengths.{MayBePosition}
 use Rattle.lay_grid.specs.RowsFit.{RowCellFits, RowsFit}
-use Rattle.lay_grid.specs.Within.{AreUpTo, NeedUpTo}
+use Rattle.lay_grid.specs.Within.{NeedUpTo}
 use Rattle.lay_grid.proofs.HeightsWithin.{heights_are_within_lem}
-use Rattle.lay_pieces.specs.Corners.{IsNear}
 use Rattle.lay_sizes.specs.declared.own_boxes.OwnBox.{OwnBox}
 use Rattle.lay_sizes.specs.declared.sizing.BoxSizes.{BoxSizes}
-use Rattle.lay_sizes.specs.OwnBoxes.{IsBaseline, IsBoxSize, OwnBoxFits}
+use Rattle.lay_sizes.specs.OwnBoxes.{IsBaseline, OwnBoxFits}
 use Rattle.lay_sizes.specs.SizeBounds.{IsInset, IsUsedSizeOrAuto, SizeFits}
 use Rattle.lay_table_borders.specs.declared.grid.TableCell.{TableCell}
 use Rattle.lay_table_borders.specs.GridBounds.{CellFits}

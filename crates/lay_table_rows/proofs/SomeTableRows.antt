@@ -2,6 +2,7 @@
 use Rattle.std.proofs.Common.{◌≡◌, ℕ, zero, suc, ◌+◌, ◌<◌, Option, Some, None, List, [], ◌∷◌, length, get_or, map, refl, subst, arith}
 use Rattle.std.proofs.lemmas.Option.{slice_get_within}
 use Rattle.lay_units.specs.declared.length.Unit.{Unit as Length}
+use Rattle.lay_units.specs.Lengths.{no_length}
 use Rattle.lay_style.specs.declared.style.Style.{Style}
 use Rattle.lay_grid.specs.declared.heights.RowCell.{RowCell}
 use Rattle.lay_grid.specs.RowBaselines.{AreRowBaselines, IsBaselineOf}
@@ -10,7 +11,7 @@ use Rattle.lay_grid.specs.Pass.Baselines.{BaselineTo}
 use Rattle.lay_grid.proofs.RowBaselines.{baseline_exists, row_baseline}
 use Rattle.lay_sizes.specs.BoxSizes.{content_block}
 use Rattle.lay_sizes.specs.SizeColumns.{no_sizes}
-use Rattle.lay_sizes.specs.UsedLengths.{no_length, used_height}
+use Rattle.lay_sizes.specs.UsedLengths.{used_height}
 use Rattle.lay_sizes.specs.declared.sizing.BoxSizes.{BoxSizes}
 use Rattle.lay_sizes.specs.declared.sizing.ContainingBlock.{ContainingBlock}
 use Rattle.lay_table_sizes.specs.CellSizes.{IsCellSized, cell_insets, content_width}

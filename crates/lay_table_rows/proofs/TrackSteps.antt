@@ -1,11 +1,12 @@
 -- One more track.
-use Rattle.std.proofs.Common.{◌≡◌, ℕ, suc, ◌+◌, ◌<◌, ◌≤◌, ℤ, List, [], ◌∷◌, ◌++◌, length, length-append, sym, ap, ◌∙◌, subst, arith, inl, inr}
+use Rattle.std.proofs.Common.{◌≡◌, ℕ, ◌+◌, ◌<◌, List, [], ◌∷◌, ◌++◌, length-append, sym, ap, ◌∙◌, subst, arith, inl, inr}
 use Rattle.std.proofs.Math.ListN.{get_or-append}
 use Rattle.std.proofs.Math.Seq.{get_or-append_seam}
 use Rattle.std.proofs.lemmas.Bool.{cases_lt}
 use Rattle.lay_units.specs.declared.length.Unit.{Unit as Length}
-use Rattle.lay_blocks.specs.Lengths.{length_at, no_length}
-use Rattle.lay_pieces.specs.Corners.{IsNear}
+use Rattle.lay_units.specs.Units.{IsNear}
+use Rattle.lay_units.specs.Lengths.{no_length}
+use Rattle.lay_blocks.specs.Lengths.{length_at}
 use Rattle.lay_table_rows.specs.Tracks.{Tracks, start_of}
 use Rattle.lay_table_rows.specs.TrackStarts.{AreStarts}
 

@@ -1,8 +1,9 @@
 -- Within which bounds what cells need of their rows is.
 use Rattle.std.specs.Prelude.{ℕ, ◌+◌, ◌≤◌, List, Option, Some, None, ⊤, All}
 use Rattle.lay_units.specs.declared.length.Unit.{Unit as Length}
+use Rattle.lay_units.specs.Units.{IsBoxSize}
 use Rattle.lay_grid.specs.declared.heights.RowCell.{RowCell}
-use Rattle.lay_sizes.specs.OwnBoxes.{IsBaseline, IsBoxSize}
+use Rattle.lay_sizes.specs.OwnBoxes.{IsBaseline}
 
 abbrev pub MayBeBaseline : Option Length → Type 0
 MayBeBaseline None = ⊤

@@ -1,13 +1,14 @@
 -- What the heights of a table's rows depend on (CSS 2.2, 17.5.3). That of a row "is the maximum of the row's computed 'height', the
--- computed 'height' of each cell in the row, and the minimum height (MIN) required by the cells." The `height` of a cell is that of its content,
--- and its border box doesn't move with its baseline. What its content needs is the border box that the cell has by its content
--- alone, and where the cell is at the baseline of its row, it stands with its own baseline there. Row groups have no height of their
--- own. A percentage is of the height of the table, where that is given; of a row it counts as auto.
+-- computed 'height' of each cell in the row, and the minimum height (MIN) required by the cells." The `height` of a cell is that
+-- of its content, and its border box doesn't move with its baseline. What its content needs is the border box that the cell has by
+-- its content alone, and where the cell is at the baseline of its row, it stands with its own baseline there. Row groups have no
+-- height of their own. A percentage is of the height of the table, where that is given; of a row it counts as auto.
 use Rattle.std.specs.Prelude.{ℕ, zero, suc, ◌+◌, pos, ◌+ℤ◌, ◌-ℤ◌, ◌*ℤ◌, List, [], ◌∷◌, ◌++◌, length, slice_index_or, Option, Some, None}
 use Rattle.std.specs.Option.{unwrap_or}
 use Rattle.lay_units.specs.declared.length.Unit.{Unit as Length}
 use Rattle.lay_units.specs.declared.records.Len.{Len}
 use Rattle.lay_units.specs.declared.records.Len.TheVariants.{Auto as auto, Of as of}
+use Rattle.lay_units.specs.Lengths.{no_length}
 use Rattle.lay_style.specs.declared.style.Style.{Style}
 use Rattle.lay_style.specs.ComputedStyle.{style_at}
 use Rattle.lay_box_tree.specs.BoxColumns.{box_styles}
@@ -18,7 +19,7 @@ use Rattle.lay_sizes.specs.declared.own_boxes.OwnBox.{OwnBox}
 use Rattle.lay_sizes.specs.declared.sizing.BoxSizes.{BoxSizes}
 use Rattle.lay_sizes.specs.OwnBoxes.{own_box_at}
 use Rattle.lay_sizes.specs.SizeColumns.{no_edges, sizes_at}
-use Rattle.lay_sizes.specs.UsedLengths.{no_length, or_zero, used_height}
+use Rattle.lay_sizes.specs.UsedLengths.{or_zero, used_height}
 use Rattle.lay_table_parts.specs.declared.rows.TableRow.{TableRow}
 use Rattle.lay_table_borders.specs.declared.grid.TableCell.{TableCell}
 use Rattle.lay_table_borders.specs.TableGrid.{TableGridValue}

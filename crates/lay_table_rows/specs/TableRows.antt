@@ -1,16 +1,16 @@
 -- The rows of a table: their used heights and their baselines (CSS 2.2, 17.5.3), beside the used sizes of the cells. The baseline of a
 -- row is the one that its cells on the baseline share. "If a row has no cell box aligned to its baseline, the baseline of that row is
 -- the bottom content edge of the lowest cell in the row." A row in which no cell begins has it at its bottom.
-use Rattle.std.specs.Prelude.{ℕ, zero, suc, ◌≡◌, ◌<◌, pos, ◌-ℤ◌, List, [], ◌∷◌, ◌++◌, length, map, slice_index_or, Option, Some, None}
+use Rattle.std.specs.Prelude.{ℕ, zero, suc, ◌≡◌, ◌<◌, ◌-ℤ◌, List, [], ◌∷◌, ◌++◌, length, map, Option, Some}
 use Rattle.std.specs.Option.{option_or, unwrap_or}
 use Rattle.lay_units.specs.Units.{clamp_size_of, half_of}
 use Rattle.lay_units.specs.declared.length.Unit.{Unit as Length}
-use Rattle.lay_blocks.specs.Lengths.{length_at, no_length}
+use Rattle.lay_units.specs.Lengths.{no_length}
+use Rattle.lay_blocks.specs.Lengths.{length_at}
 use Rattle.lay_grid.specs.declared.heights.RowCell.{RowCell}
 use Rattle.lay_grid.specs.declared.heights.RowsIn.{RowsIn}
 use Rattle.lay_grid.specs.Heights.{AreHeights}
 use Rattle.lay_grid.specs.RowBaselines.{AreRowBaselines, baseline_at}
-use Rattle.lay_sizes.specs.declared.own_boxes.OwnBox.{OwnBox}
 use Rattle.lay_sizes.specs.declared.sizing.BoxSizes.{BoxSizes}
 use Rattle.lay_sizes.specs.BoxSizes.{content_block}
 use Rattle.lay_sizes.specs.SizeColumns.{no_edges, sizes_at}
@@ -19,7 +19,8 @@ use Rattle.lay_table_sizes.specs.CellSizes.{IsCellSized}
 use Rattle.lay_table_sizes.specs.TableSizesValue.{cell_at}
 use Rattle.lay_table_rows.specs.declared.cell_align.CellAlign.{CellAlign}
 use Rattle.lay_table_rows.specs.declared.cell_align.CellAlign.TheVariants.{Baseline, Top, Middle, Bottom}
-use Rattle.lay_table_rows.specs.RowNeeds.{align_of, cell_baseline, cell_of, least_height, natural_box, needs_of, row_cell, rows_in, style_of, table_sizes}
+use Rattle.lay_table_rows.specs.RowNeeds.{align_of, cell_baseline, cell_of, least_height, natural_box}
+use Rattle.lay_table_rows.specs.RowNeeds.{needs_of, row_cell, rows_in, style_of, table_sizes}
 use Rattle.lay_table_rows.specs.TableInputs.{TableInput, grid_of}
 use Rattle.lay_table_rows.specs.Tracks.{Tracks, end_of, extent_of}
 
@@ -102,7 +103,8 @@ own_baseline i rows c = cell_baseline (natural_box i c) (sizes_at rows.cells c).
 
 abbrev pub shift_of : TableInput → TableRows → ℕ → Length
 shift_of i rows c =
-    shift_by (align_of i c) (row_baseline rows (cell_of i c).row) (own_baseline i rows c) (natural_box i c).height (cell_height i rows.tracks c)
+    shift_by (align_of i c) (row_baseline rows (cell_of i c).row) (own_baseline i rows c)
+    (natural_box i c).height (cell_height i rows.tracks c)
 
 -- The height of the content of the table box: its rows and the spacings, or without rows what the table asks for.
 abbrev pub table_content : BoxSizes → Tracks → Length

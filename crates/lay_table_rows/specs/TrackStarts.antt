@@ -1,8 +1,8 @@
 -- What is kept of the starts of tracks: those of the first n, and where the next one begins or would begin.
 use Rattle.std.specs.Prelude.{ℕ, ◌≡◌, ◌+◌, ◌≤◌, List, length}
 use Rattle.lay_units.specs.declared.length.Unit.{Unit as Length}
+use Rattle.lay_units.specs.Units.{IsNear}
 use Rattle.lay_blocks.specs.Lengths.{length_at}
-use Rattle.lay_pieces.specs.Corners.{IsNear}
 use Rattle.lay_table_rows.specs.Tracks.{Tracks, start_of}
 
 pub record AreStarts (t : Tracks) (n : ℕ) (starts : List Length) : Type 0 where

@@ -19,7 +19,7 @@ mod tracks;
 pub use cell_align::CellAlign;
 pub use cells::{cell_of, own_box_at, sizes_at, table_sizes};
 pub use laws::{cells_are_sized_once, one_table_rows, some_table_rows};
-pub use near::{near_sum, sum_of};
+pub use near::near_sum;
 pub use row_heights::{TableRows, cell_height, table_content, table_rows};
 pub use row_needs::border_height;
 pub use shifts::{row_baseline, shift_of};

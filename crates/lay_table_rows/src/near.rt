@@ -1,20 +1,10 @@
 //! Sums of lengths.
 
 ghost use Rattle.std.specs.Prelude.{◌≡◌, ◌+ℤ◌, ◌-ℤ◌, ◌*ℤ◌, pos, IfOk};
-ghost use Rattle.lay_units.specs.Units.{IsPosition};
-ghost use Rattle.lay_pieces.specs.Corners.{IsNear};
+ghost use Rattle.lay_units.specs.Units.{IsNear};
 
 use lay_pieces::near_position;
 use lay_units::{NoMemory, Unit};
-
-/// The sum of two positions, in 1/64 px, each less than 2^62 units from 0.
-pub fn sum_of(a: Unit, b: Unit) -> Unit
-    requires a { IsPosition a.0 }
-    requires b { IsPosition b.0 }
-    ensures { result ≡ record { 0 = a.0 +ℤ b.0 } }
-{
-    Unit(a.0 + b.0)
-}
 
 /// The sum of two lengths, in 1/64 px. NoMemory is the answer where it is more than 2^60 units from 0.
 pub fn near_sum(a: Unit, b: Unit) -> Result<Unit, NoMemory>

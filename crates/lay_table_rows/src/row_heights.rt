@@ -1,9 +1,8 @@
 //! The rows of a table: their heights and their baselines.
 
 ghost use Rattle.std.specs.Prelude.{◌≡◌, ◌<◌, length, map, All, IfOk};
-ghost use Rattle.lay_units.specs.Units.{IsUsedSize};
+ghost use Rattle.lay_units.specs.Units.{IsUsedSize, IsNear};
 ghost use Rattle.lay_grid.specs.RowsFit.{RowCellFits, RowsFit};
-ghost use Rattle.lay_pieces.specs.Corners.{IsNear};
 ghost use Rattle.lay_sizes.specs.SizeBounds.{SizeFits};
 ghost use Rattle.lay_sizes.specs.SizeColumns.{HaveSizeBounds};
 ghost use Rattle.lay_table_rows.specs.RowBounds.{RowsFitTable};

@@ -1,26 +1,27 @@
 //! What the heights of rows depend on (CSS 2.2, 17.5.3).
 
 ghost use Rattle.std.specs.Prelude.{◌≡◌, ◌<◌, ◌≤◌, ◌++◌, length, None, All, IfOk, OnOk};
-ghost use Rattle.lay_units.specs.Units.{IsUsedSize};
+ghost use Rattle.lay_units.specs.Units.{IsUsedSize, IsNear};
 ghost use Rattle.lay_units.specs.declared.length.Unit.{Unit as Length};
 ghost use Rattle.lay_grid.specs.RowsFit.{RowsFit};
-ghost use Rattle.lay_pieces.specs.Corners.{IsNear};
 ghost use Rattle.lay_sizes.specs.OwnBoxes.{OwnBoxFits};
 ghost use Rattle.lay_sizes.specs.SizeBounds.{IsInset, SizeFits};
 ghost use Rattle.lay_sizes.specs.SizeColumns.{HaveSizeBounds, sizes_at};
 ghost use Rattle.lay_table_rows.specs.NeedBounds.{NeedFits, NeedsFit};
-ghost use Rattle.lay_table_rows.specs.RowNeeds.{align_of, baseline_if, border_height, cell_baseline, cell_of, least_height, left_for_rows, natural_box, need_by_content, needs_of, needs_of_cell, own_height, own_heights, row_cell, row_spacing, row_style, rows_in};
+ghost use Rattle.lay_table_rows.specs.RowNeeds.{align_of, baseline_if, border_height, cell_baseline, cell_of, least_height};
+ghost use Rattle.lay_table_rows.specs.RowNeeds.{left_for_rows, natural_box, need_by_content, needs_of, needs_of_cell};
+ghost use Rattle.lay_table_rows.specs.RowNeeds.{own_height, own_heights, row_cell, row_spacing, row_style, rows_in};
 
 use crate::cell_align::CellAlign;
 use crate::cells::{align_of, cell_of, natural_box, sizes_at, style_of, table_sizes};
-use crate::near::{near_difference, near_product, sum_of};
+use crate::near::{near_difference, near_product};
 use crate::table_input::TableInput;
 use lay_grid::{RowCell, RowCells, RowsIn};
 use lay_heights::with_min_max;
 use lay_sizes::{BoxSizes, OwnBox};
 use lay_style::{LengthPercentageOrAuto, Style};
 use lay_table_borders::{TableCell, TableGrid};
-use lay_units::{Len, NoMemory, Unit, UnitList, clamp_size};
+use lay_units::{Len, NoMemory, Unit, UnitList, clamp_size, sum_of};
 use std::alloc::Global;
 
 /// What the heights of the rows depend on, where these are the used sizes of the cells. NoMemory is also the answer for more

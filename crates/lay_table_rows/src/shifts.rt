@@ -1,10 +1,8 @@
 //! Baselines of rows, and how far the contents of cells are moved down in them (CSS 2.2, 17.5.3).
 
 ghost use Rattle.std.specs.Prelude.{◌≡◌, ◌<◌, length, IfOk};
-ghost use Rattle.lay_units.specs.declared.length.Unit.{Unit as Length};
-ghost use Rattle.lay_units.specs.Units.{half_of};
+ghost use Rattle.lay_units.specs.Units.{half_of, IsNear};
 ghost use Rattle.lay_grid.specs.RowBaselines.{baseline_at};
-ghost use Rattle.lay_pieces.specs.Corners.{IsNear};
 ghost use Rattle.lay_table_rows.specs.RowBounds.{RowsFitTable};
 ghost use Rattle.lay_table_rows.specs.TableRows.{own_baseline, row_baseline, shift_by, shift_of};
 

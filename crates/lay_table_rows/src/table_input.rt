@@ -1,7 +1,7 @@
 //! What the placement of a table is given.
 
-ghost use Rattle.std.specs.Prelude.{◌≡◌, ◌<◌, length};
-ghost use Rattle.lay_pieces.specs.InnerPieces.{AreNearInnerPieces, inner_pieces_at};
+ghost use Rattle.std.specs.Prelude.{◌≡◌};
+ghost use Rattle.lay_pieces.specs.InnerPieces.{inner_pieces_at};
 ghost use Rattle.lay_pieces.specs.NearPieces.{AreNearPieces};
 ghost use Rattle.lay_table_rows.specs.TableInputs.{TableInputFits};
 
@@ -31,7 +31,8 @@ impl Model for TableInput {
 
     ghost view = { λ i. record { boxes = i.boxes; sizes = i.sizes; table = i.table; inner = i.inner; pieces = i.pieces } };
 
-    ghost invariant = { λ i. TableInputFits (record { boxes = i.boxes; sizes = i.sizes; table = i.table; inner = i.inner; pieces = i.pieces }) };
+    ghost invariant = { λ i.
+        TableInputFits (record { boxes = i.boxes; sizes = i.sizes; table = i.table; inner = i.inner; pieces = i.pieces }) };
 }
 
 impl TableInput {

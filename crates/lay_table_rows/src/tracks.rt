@@ -1,8 +1,8 @@
 //! Rows below each other, and columns beside each other.
 
 ghost use Rattle.std.specs.Prelude.{◌≡◌, ◌+◌, ◌≤◌, ◌<◌, length, IfOk};
+ghost use Rattle.lay_units.specs.Units.{IsNear};
 ghost use Rattle.lay_blocks.specs.Lengths.{length_at};
-ghost use Rattle.lay_pieces.specs.Corners.{IsNear};
 ghost use Rattle.lay_table_rows.specs.Tracks.{end_of, extent_of, start_of};
 ghost use Rattle.lay_table_rows.specs.TrackStarts.{AreStarts};
 
@@ -30,7 +30,8 @@ impl Model for Tracks {
 
     ghost view = { λ t. record { lengths = t.lengths.items; spacing = t.spacing } };
 
-    ghost invariant = { λ t. AreStarts (record { lengths = t.lengths.items; spacing = t.spacing }) (length t.lengths.items) t.starts.items };
+    ghost invariant = { λ t.
+        AreStarts (record { lengths = t.lengths.items; spacing = t.spacing }) (length t.lengths.items) t.starts.items };
 }
 
 impl Tracks {

@@ -16,6 +16,7 @@ use Rattle.lay_style.specs.declared.style_lengths.LengthPercentageOrAuto.TheVari
 use Rattle.lay_box_tree.specs.declared.box_tree.BoxKind.{BoxKind}
 use Rattle.lay_box_tree.specs.declared.box_tree.BoxKind.TheVariants as kind
 use Rattle.lay_box_tree.specs.declared.box_tree.BoxNode.{BoxNode}
+use Rattle.lay_box_tree.specs.BoxColumns.{style_of_box}
 use Rattle.lay_sizes.specs.SizeBounds.{IsUsedSizeOrAuto}
 use Rattle.lay_sizes.proofs.SizesFit.{size_is_used, used_size_is_used}
 use Rattle.lay_grid.specs.ColumnsFit.{CellFits, ColumnsFit}
@@ -30,7 +31,6 @@ use Rattle.lay_table_borders.specs.TableGrid.{TableGridValue}
 use Rattle.lay_table_borders.specs.declared.grid.TableCell.{TableCell}
 use Rattle.lay_table_sizes.specs.Bounds.{IsEdge, most_columns}
 use Rattle.lay_table_sizes.specs.ColumnWidths.{cell_edges, cell_width, columns_in, element_widths, first_cell, first_cells, given_padding, given_width, or_none, width_by_box, width_by_kind, width_by_place, with_edges}
-use Rattle.lay_table_sizes.specs.TableBoxes.{style_of_box}
 use Rattle.lay_table_sizes.proofs.ColumnSteps.{element_widths_count}
 use Rattle.lay_table_sizes.proofs.SizeSteps.{zero_is_used_size}
 

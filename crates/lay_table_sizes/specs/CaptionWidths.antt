@@ -1,17 +1,13 @@
 -- How narrow the captions of a table can be (CSS 2.2, 17.5.2.2): the greatest of what they take at least of the room in the wrapper,
 -- with their margins, borders and paddings (10.3.5, 8.1), and at least 0.
-use Rattle.std.specs.Prelude.{ℕ, ◌+◌, ℤ, pos, Bool, true, false, List, [], ◌∷◌, if◌then◌else◌}
+use Rattle.std.specs.Prelude.{ℕ, ◌+◌, ℤ, pos, List, [], ◌∷◌, if◌then◌else◌}
 use Rattle.std.specs.Int.{int_max}
-use Rattle.lay_box_tree.specs.declared.box_tree.BoxKind.{BoxKind}
 use Rattle.lay_box_tree.specs.declared.box_tree.BoxKind.TheVariants as kind
 use Rattle.lay_box_tree.specs.declared.box_tree.BoxNode.{BoxNode}
+use Rattle.lay_box_tree.specs.Kinds.{is_caption}
 use Rattle.lay_measure.specs.LineParts.{contribution}
 use Rattle.lay_measure.specs.declared.preferred_widths.PreferredWidths.{PreferredWidths}
 use Rattle.lay_table_sizes.specs.PreferredWidths.{widths_at}
-
-abbrev pub is_caption : BoxKind → Bool
-is_caption kind.Caption = true
-is_caption _ = false
 
 -- the greatest of captions that take so much together with a box whose content has these preferred widths
 abbrev pub with_box : BoxNode → PreferredWidths → ℤ → ℤ

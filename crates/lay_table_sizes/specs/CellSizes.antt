@@ -8,8 +8,9 @@ use Rattle.std.specs.List.{slice_range}
 use Rattle.lay_units.specs.Units.{clamp_size_of}
 use Rattle.lay_units.specs.declared.length.Unit.{Unit as Length}
 use Rattle.lay_units.specs.declared.records.Sides.{Sides}
+use Rattle.lay_units.specs.Lengths.{no_length}
 use Rattle.lay_style.specs.declared.style.Style.{Style}
-use Rattle.lay_sizes.specs.UsedLengths.{edge_of, no_length, used_height}
+use Rattle.lay_sizes.specs.UsedLengths.{edge_of, used_height}
 use Rattle.lay_sizes.specs.declared.sizing.BoxSizes.{BoxSizes}
 use Rattle.lay_sizes.specs.declared.sizing.ContainingBlock.{ContainingBlock}
 use Rattle.lay_grid.specs.Shares.{sum_of}

@@ -5,7 +5,8 @@
 -- yet, one of a `width` counts as `auto` and one of a padding as 0.
 --
 -- A table of 6400 units whose first cell has the `width` 50% and paddings of 64 units: its column is 3328 units wide.
-use Rattle.std.specs.Prelude.{ℕ, zero, suc, ◌+◌, ◌==◌, ℤ, pos, ◌+ℤ◌, ◌*ℤ◌, Option, Some, None, List, [], ◌∷◌, ◌++◌, slice_get, if◌then◌else◌}
+use Rattle.std.specs.Prelude.{ℕ, zero, suc, ◌+◌, ◌==◌, ℤ, pos, ◌+ℤ◌, ◌*ℤ◌, Option, Some}
+use Rattle.std.specs.Prelude.{None, List, [], ◌∷◌, ◌++◌, slice_get, if◌then◌else◌}
 use Rattle.lay_units.specs.declared.length.Unit.{Unit as Length}
 use Rattle.lay_units.specs.declared.records.Len.{Len}
 use Rattle.lay_units.specs.declared.records.Len.TheVariants.{Auto as auto, Of as of}
@@ -16,6 +17,7 @@ use Rattle.lay_style.specs.declared.style_lengths.LengthPercentageOrAuto.{Length
 use Rattle.lay_box_tree.specs.declared.box_tree.BoxKind.{BoxKind}
 use Rattle.lay_box_tree.specs.declared.box_tree.BoxKind.TheVariants as kind
 use Rattle.lay_box_tree.specs.declared.box_tree.BoxNode.{BoxNode}
+use Rattle.lay_box_tree.specs.BoxColumns.{style_of_box}
 use Rattle.lay_sizes.specs.UsedLengths.{used_size, used_width}
 use Rattle.lay_measure.specs.Contributions.{size_or_zero}
 use Rattle.lay_measure.specs.ReplacedWidths.{length_or_auto}
@@ -23,7 +25,7 @@ use Rattle.lay_grid.specs.declared.columns.ColumnsIn.{ColumnsIn}
 use Rattle.lay_grid.specs.declared.columns.FirstCell.{FirstCell}
 use Rattle.lay_table_borders.specs.TableGrid.{TableGridValue}
 use Rattle.lay_table_borders.specs.declared.grid.TableCell.{TableCell}
-use Rattle.lay_table_sizes.specs.TableBoxes.{inset, style_of_box}
+use Rattle.lay_table_sizes.specs.TableBoxes.{inset}
 
 -- a `width` and a padding beside the width of the table, which is None where it isn't known yet
 abbrev pub given_width : Option Length → LengthPercentageOrAuto → Len

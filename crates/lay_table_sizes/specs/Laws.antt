@@ -15,7 +15,9 @@ use Rattle.lay_table_sizes.specs.declared.cell_size.CellSize.{CellSize}
 use Rattle.lay_table_sizes.specs.declared.table_rule.TableRule.{TableRule}
 
 abbrev pub OneTableSizes : Type 0
-OneTableSizes = (containing : ContainingBlock) (rule : TableRule) (bounds : TableBoundsValue) (boxes : List BoxNode) (x y : List BoxSizes) (t u : TableSizesValue)
+OneTableSizes =
+    (containing : ContainingBlock) (rule : TableRule) (bounds : TableBoundsValue) (boxes : List BoxNode)
+    (x y : List BoxSizes) (t u : TableSizesValue)
     → HasTableSizes containing rule bounds boxes x t → HasTableSizes containing rule bounds boxes y u → (x ≡ y) × (t ≡ u)
 
 abbrev pub OneTableWidths : Type 0

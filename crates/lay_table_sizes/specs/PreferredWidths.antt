@@ -7,18 +7,20 @@ use Rattle.std.specs.Prelude.{◌≡◌, ℕ, ◌<◌, ◌==◌, ◌&&◌, ℤ, 
 use Rattle.std.specs.Int.{int_max}
 use Rattle.lay_units.specs.declared.length.Unit.{Unit as Length}
 use Rattle.lay_units.specs.declared.records.Sides.{Sides}
+use Rattle.lay_units.specs.Lengths.{no_length}
 use Rattle.lay_style.specs.declared.style.Style.{Style}
 use Rattle.lay_heights.specs.MinMax.{with_min_max_of}
 use Rattle.lay_box_tree.specs.declared.box_tree.BoxNode.{BoxNode}
+use Rattle.lay_box_tree.specs.BoxColumns.{style_of_box}
 use Rattle.lay_measure.specs.Contributions.{bounded_width, given_or, limit_of, size_or_zero}
-use Rattle.lay_measure.specs.MeasureInValue.{no_length, no_widths}
+use Rattle.lay_measure.specs.MeasureInValue.{no_widths}
 use Rattle.lay_measure.specs.declared.preferred_widths.PreferredWidths.{PreferredWidths}
 use Rattle.lay_grid.specs.Columns.{AreOwn}
 use Rattle.lay_grid.specs.Shares.{own_at}
 use Rattle.lay_table_borders.specs.TableGrid.{IsTableGrid, TableGridValue}
 use Rattle.lay_table_borders.specs.declared.grid.TableCell.{TableCell}
 use Rattle.lay_table_sizes.specs.ColumnWidths.{cell_edges, columns_in, with_spacings}
-use Rattle.lay_table_sizes.specs.TableBoxes.{preferred_edges, style_of_box, table_style}
+use Rattle.lay_table_sizes.specs.TableBoxes.{preferred_edges, table_style}
 
 -- the preferred widths at k
 abbrev pub widths_at : List PreferredWidths → ℕ → PreferredWidths
@@ -52,7 +54,8 @@ abbrev pub own_or : Option Length → PreferredWidths → PreferredWidths
 own_or None content = content
 own_or (Some width) content = record { minimum = width; preferred = width }
 
-pub record AreColumnWidths (boxes : List BoxNode) (inner : List PreferredWidths) (g : TableGridValue) (columns : List PreferredWidths) : Type 0 where
+pub record AreColumnWidths (boxes : List BoxNode) (inner : List PreferredWidths) (g : TableGridValue) (columns : List PreferredWidths)
+    : Type 0 where
   pub owns : List (Option Length)
   pub are_own : AreOwn (columns_in None boxes g no_length) owns
   pub count : length columns ≡ g.columns
@@ -72,7 +75,8 @@ all_beside (w ∷ ws) = beside w (all_beside ws)
 -- a width of a table's content, or its `width` where that is a greater length, between its bounds
 abbrev pub bounded_content : Style → ℤ → ℤ
 bounded_content s content =
-    with_min_max_of (int_max content (given_or s.sizing.width no_length).0) (size_or_zero s.sizing.min_width).0 (limit_of s.sizing.max_width)
+    with_min_max_of (int_max content (given_or s.sizing.width no_length).0) (size_or_zero s.sizing.min_width).0
+    (limit_of s.sizing.max_width)
 
 -- the width of the border box of a table whose columns come to so much
 abbrev pub table_part : TableGridValue → Style → Length → Length

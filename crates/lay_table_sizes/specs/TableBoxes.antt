@@ -1,22 +1,18 @@
 -- A table box and its wrapper beside their containing block (CSS 2.2, 17.4, 17.5.2 and 17.6). Margins are used on the wrapper,
 -- and `width`, `height`, their bounds, borders and paddings on the table box, whose percentages are of the containing block of
 -- the wrapper. "In the collapsing border model ... a table does not have padding" (17.6.2).
-use Rattle.std.specs.Prelude.{ℕ, ◌+ℤ◌, ℤ, List, if◌then◌else◌}
+use Rattle.std.specs.Prelude.{◌+ℤ◌, ℤ, List, if◌then◌else◌}
 use Rattle.lay_units.specs.declared.length.Unit.{Unit as Length}
 use Rattle.lay_units.specs.declared.records.BlockIn.{BlockIn}
 use Rattle.lay_units.specs.declared.records.Sides.{Sides}
-use Rattle.lay_style.specs.ComputedStyle.{style_at}
+use Rattle.lay_units.specs.Lengths.{no_length}
 use Rattle.lay_style.specs.declared.style.Style.{Style}
 use Rattle.lay_style.specs.declared.style_lengths.LengthPercentage.{LengthPercentage}
-use Rattle.lay_box_tree.specs.BoxColumns.{box_styles}
+use Rattle.lay_box_tree.specs.BoxColumns.{style_of_box}
 use Rattle.lay_box_tree.specs.declared.box_tree.BoxNode.{BoxNode}
-use Rattle.lay_sizes.specs.UsedLengths.{no_length, used_limit, used_margin, used_size, used_width}
+use Rattle.lay_sizes.specs.UsedLengths.{used_limit, used_margin, used_size, used_width}
 use Rattle.lay_measure.specs.Contributions.{size_or_zero}
 use Rattle.lay_table_borders.specs.TableGrid.{TableGridValue}
-
--- the style of the box at k
-abbrev pub style_of_box : List BoxNode → ℕ → Style
-style_of_box boxes k = style_at (box_styles boxes) k
 
 -- the wrapper stands first
 abbrev pub wrapper_style : List BoxNode → Style

@@ -10,13 +10,14 @@ use Rattle.lay_units.specs.Units.{clamp_size_of}
 use Rattle.lay_units.specs.declared.length.Unit.{Unit as Length}
 use Rattle.lay_units.specs.declared.records.BlockIn.{BlockIn}
 use Rattle.lay_units.specs.declared.records.Len.TheVariants.{Auto as auto, Of as of}
+use Rattle.lay_units.specs.Lengths.{no_length}
 use Rattle.lay_style.specs.declared.style.Style.{Style}
 use Rattle.lay_box_tree.specs.declared.box_tree.BoxNode.{BoxNode}
 use Rattle.lay_widths.specs.BlockWidths.{IsHeld, IsUsedBlock}
 use Rattle.lay_widths.specs.declared.widths.BlockOut.{BlockOut}
 use Rattle.lay_sizes.specs.BoxSizes.{border_width, widths_beside}
 use Rattle.lay_sizes.specs.SizeColumns.{no_edges, no_sizes, sizes_at}
-use Rattle.lay_sizes.specs.UsedLengths.{no_length, used_height, used_margin, used_max_height, used_min_height, used_vertical_margin}
+use Rattle.lay_sizes.specs.UsedLengths.{used_height, used_margin, used_max_height, used_min_height, used_vertical_margin}
 use Rattle.lay_sizes.specs.declared.sizing.BoxSizes.{BoxSizes}
 use Rattle.lay_sizes.specs.declared.sizing.ContainingBlock.{ContainingBlock}
 use Rattle.lay_grid.specs.Columns.{AreColumns}
@@ -108,7 +109,8 @@ AreAutoWidths containing boxes g t wanted widths =
     HasAutoWidth containing boxes g t wanted × AreAutoColumns t.columns (wanted.0 -ℤ spaces g) widths
 
 -- `wanted` is the width that the table is to have and `widths` are those of its columns, before they are held
-abbrev pub AreTableWidthsAs : (is_fixed : Bool) → Length → List BoxNode → TableGridValue → TableBoundsValue → (wanted : Length) → List Length → Type 0
+abbrev pub AreTableWidthsAs : (is_fixed : Bool) → Length → List BoxNode → TableGridValue → TableBoundsValue
+    → (wanted : Length) → List Length → Type 0
 AreTableWidthsAs true containing boxes g t wanted widths = AreFixedWidths containing boxes g wanted widths
 AreTableWidthsAs false containing boxes g t wanted widths =
     AreAutoWidths containing boxes g (bounds_of_columns g.columns t) wanted widths
@@ -118,7 +120,8 @@ AreTableWidths containing boxes g t wanted widths =
     AreTableWidthsAs (is_fixed (wrapper_style boxes)) containing boxes g t wanted widths
 
 -- the used sizes of the boxes of a table's formatting context, and its columns and cells
-pub record HasTableSizes (containing : ContainingBlock) (rule : TableRule) (bounds : TableBoundsValue) (boxes : List BoxNode) (sizes : List BoxSizes) (t : TableSizesValue) : Type 0 where
+pub record HasTableSizes (containing : ContainingBlock) (rule : TableRule) (bounds : TableBoundsValue)
+    (boxes : List BoxNode) (sizes : List BoxSizes) (t : TableSizesValue) : Type 0 where
   pub grid : IsTableGrid boxes t.grid
   pub wanted : Length
   pub widths : List Length

@@ -1,10 +1,10 @@
 //! How narrow the captions of a table can be.
 
 ghost use Rattle.std.specs.Prelude.{◌≡◌, IfOk};
-ghost use Rattle.lay_table_sizes.specs.CaptionWidths.{captions_minimum, is_caption, with_box};
+ghost use Rattle.lay_table_sizes.specs.CaptionWidths.{captions_minimum, with_box};
 
 use crate::content_widths::widths_at;
-use lay_box_tree::{BoxKind, BoxNode};
+use lay_box_tree::{BoxNode, is_caption};
 use lay_measure::{PreferredWidths, contribution, greater};
 use lay_units::{NoMemory, Unit};
 
@@ -33,10 +33,4 @@ fn with_box(node: &BoxNode, own: PreferredWidths, least: Unit) -> Result<Unit, N
     }
     let taken = contribution(node, own)?;
     Ok(greater(taken.minimum, least))
-}
-
-fn is_caption(kind: &BoxKind) -> bool
-    ensures { result ≡ is_caption kind.now }
-{
-    matches!(kind, BoxKind::Caption)
 }

@@ -1,11 +1,12 @@
 //! The sizes of cells.
 
-ghost use Rattle.std.specs.Prelude.{◌≡◌, ◌≢◌, ◌<◌, ◌≤◌, ◌+◌, ◌-◌, ◌^◌, ◌*ℤ◌, ℕ, Some, IfOk, OnOk, All, drop, length, pos, slice_get, slice_index_or, None};
+ghost use Rattle.std.specs.Prelude.{◌≡◌, ◌≢◌, ◌<◌, ◌≤◌, ◌+◌, ◌-◌, ℕ, Some, IfOk};
+ghost use Rattle.std.specs.Prelude.{length, slice_get, slice_index_or, None};
 ghost use Rattle.lay_units.specs.Units.{IsUsedSize};
 ghost use Rattle.lay_grid.specs.Shares.{sum_of};
 ghost use Rattle.lay_table_borders.specs.GridBounds.{CellFits};
 ghost use Rattle.lay_table_sizes.specs.Bounds.{ArePlaced};
-ghost use Rattle.lay_table_sizes.specs.CellSizes.{cell_size, cell_size_at, columns_width};
+ghost use Rattle.lay_table_sizes.specs.CellSizes.{cell_size, cell_size_at};
 
 use crate::cell_size::CellSize;
 use crate::spaces::spacings;
@@ -23,7 +24,8 @@ pub(crate) fn cells_of(
 ) -> Result<Vec<Option<CellSize>>, NoMemory>
     requires { length columns.now ≡ grid.now.columns }
     ensures count { IfOk result (λ v. length v.items ≡ count) }
-    ensures cells { IfOk result (λ v. (k : ℕ) → k < count → slice_index_or v.items k None ≡ cell_size_at grid.now.spacing.across columns.now grid.now.cells k) }
+    ensures cells { IfOk result
+        (λ v. (k : ℕ) → k < count → slice_index_or v.items k None ≡ cell_size_at grid.now.spacing.across columns.now grid.now.cells k) }
 {
     let mut sizes = Vec::from_elem(alloc, None, count)?;
     let last = grid.cells().len();

@@ -1,12 +1,13 @@
 //! What gives columns their widths.
 
-ghost use Rattle.std.specs.Prelude.{◌≡◌, ◌<◌, ◌≤◌, ◌+ℤ◌, IfOk, length, slice_get, pos};
+ghost use Rattle.std.specs.Prelude.{◌≡◌, ◌<◌, ◌≤◌, IfOk, length, slice_get};
 ghost use Rattle.lay_units.specs.Units.{IsUsedSize};
 ghost use Rattle.lay_grid.specs.ColumnsFit.{ColumnsFit};
 ghost use Rattle.lay_sizes.specs.SizeBounds.{IsUsedSizeOrAuto};
 ghost use Rattle.lay_table_borders.specs.UsedSides.{AreUsedSides};
-ghost use Rattle.lay_table_borders.specs.GridBounds.{CellFits};
-ghost use Rattle.lay_table_sizes.specs.ColumnWidths.{cell_edges, cell_width, columns_in, element_widths, first_cell, first_cells, given_padding, given_width, or_none, width_by_box, width_by_kind, width_by_place, with_edges};
+ghost use Rattle.lay_table_sizes.specs.ColumnWidths.{cell_edges, cell_width, columns_in, element_widths};
+ghost use Rattle.lay_table_sizes.specs.ColumnWidths.{first_cell, first_cells, given_padding, given_width};
+ghost use Rattle.lay_table_sizes.specs.ColumnWidths.{or_none, width_by_box, width_by_kind, width_by_place, with_edges};
 ghost use Rattle.lay_table_sizes.specs.Bounds.{ArePlaced, IsEdge, most_columns};
 
 use crate::table_box::{inset, style_of_box, together};

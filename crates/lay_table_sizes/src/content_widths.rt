@@ -1,7 +1,6 @@
 //! The preferred widths of columns by what is in their cells.
 
-ghost use Rattle.std.specs.Prelude.{◌≡◌, ◌≢◌, ◌<◌, ◌+ℤ◌, ℕ, IfOk, OnOk, drop, length, slice_index_or};
-ghost use Rattle.std.specs.Int.{int_max};
+ghost use Rattle.std.specs.Prelude.{◌≡◌, ◌≢◌, ◌<◌, ℕ, IfOk, length};
 ghost use Rattle.lay_table_borders.specs.UsedSides.{AreUsedSides};
 ghost use Rattle.lay_table_sizes.specs.Bounds.{ArePlaced};
 ghost use Rattle.lay_table_sizes.specs.PreferredWidths.{cell_part, cell_widths, content_widths, wider, widths_at};
@@ -25,7 +24,8 @@ pub(crate) fn content_widths(
 ) -> Result<Vec<PreferredWidths>, NoMemory>
     requires { ArePlaced (length boxes.now) grid.now.cells }
     ensures count { IfOk result (λ v. length v.items ≡ grid.now.columns) }
-    ensures each { IfOk result (λ v. (i : ℕ) → i < grid.now.columns → widths_at v.items i ≡ content_widths boxes.now inner.now grid.now.cells i) }
+    ensures each { IfOk result
+        (λ v. (i : ℕ) → i < grid.now.columns → widths_at v.items i ≡ content_widths boxes.now inner.now grid.now.cells i) }
 {
     let mut widths = Vec::from_elem(alloc, NO_WIDTHS, grid.columns() as usize)?;
     let last = grid.cells().len();

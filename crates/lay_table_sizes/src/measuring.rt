@@ -1,7 +1,6 @@
 //! The preferred widths of a table.
 
-ghost use Rattle.std.specs.Prelude.{◌≡◌, ◌<◌, ◌≤◌, ◌-ℤ◌, ◌+ℤ◌, IfOk, length};
-ghost use Rattle.std.specs.Int.{int_max};
+ghost use Rattle.std.specs.Prelude.{◌≡◌, ◌<◌, ◌≤◌, ◌-ℤ◌, IfOk, length};
 ghost use Rattle.lay_table_borders.specs.GridBounds.{PlacesAreBelow};
 ghost use Rattle.lay_table_borders.specs.TableGrid.{IsTableGrid};
 ghost use Rattle.lay_table_sizes.specs.Bounds.{most_columns};

@@ -1,12 +1,12 @@
 //! The preferred widths of a table of the fixed layout.
 
-ghost use Rattle.std.specs.Prelude.{◌≡◌, ◌<◌, ◌≤◌, ◌+ℤ◌, ℕ, IfOk, length, drop};
-ghost use Rattle.std.specs.Int.{int_max};
+ghost use Rattle.std.specs.Prelude.{◌≡◌, ◌<◌, ◌≤◌, IfOk, length};
 ghost use Rattle.lay_grid.specs.Shares.{own_at};
 ghost use Rattle.lay_table_borders.specs.GridBounds.{PlacesAreBelow};
 ghost use Rattle.lay_table_borders.specs.TableGrid.{IsTableGrid};
 ghost use Rattle.lay_table_sizes.specs.Bounds.{most_columns};
-ghost use Rattle.lay_table_sizes.specs.PreferredWidths.{AreColumnWidths, HasFixedWidths, all_beside, beside, bounded_content, own_or, table_part};
+ghost use Rattle.lay_table_sizes.specs.PreferredWidths.{AreColumnWidths, HasFixedWidths, all_beside};
+ghost use Rattle.lay_table_sizes.specs.PreferredWidths.{beside, bounded_content, own_or, table_part};
 
 use crate::column_widths::columns_in;
 use crate::content_widths::{content_widths, widths_at};

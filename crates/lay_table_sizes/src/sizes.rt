@@ -1,7 +1,6 @@
 //! The columns and cells of a table.
 
-ghost use Rattle.std.specs.Prelude.{◌≡◌, ◌<◌, All, IfOk, length};
-ghost use Rattle.lay_units.specs.Units.{IsUsedSize};
+ghost use Rattle.std.specs.Prelude.{◌≡◌, ◌<◌, IfOk};
 ghost use Rattle.lay_table_sizes.specs.TableSizesValue.{TableSizesFit, cell_at};
 
 use crate::cell_size::CellSize;

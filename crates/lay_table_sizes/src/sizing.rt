@@ -1,15 +1,14 @@
 //! The used sizes of a table.
 
-ghost use Rattle.std.specs.Prelude.{◌≡◌, ◌<◌, ◌≤◌, ℕ, true, false, All, IfOk, List, length, slice_get, Some};
-ghost use Rattle.std.specs.Int.{int_max};
+ghost use Rattle.std.specs.Prelude.{◌≡◌, ◌<◌, ◌≤◌, ℕ, false, All, IfOk, length, slice_get, Some};
 ghost use Rattle.lay_units.specs.declared.length.Unit.{Unit as Length};
 ghost use Rattle.lay_units.specs.Units.{IsPosition, IsUsedSize};
 ghost use Rattle.lay_sizes.specs.SizeBounds.{SizeFits};
 ghost use Rattle.lay_sizes.specs.SizeColumns.{HaveSizeBounds, sizes_at};
 ghost use Rattle.lay_table_borders.specs.GridBounds.{PlacesAreBelow};
 ghost use Rattle.lay_table_sizes.specs.Bounds.{most_columns};
-ghost use Rattle.lay_table_sizes.specs.TableBoxes.{table_style, wrapper_style};
-ghost use Rattle.lay_table_sizes.specs.TableSizes.{AreAutoWidths, AreFixedWidths, AreTableWidths, AreTableWidthsAs, HasTableSizes, IsWrapperSized, held, held_width, sizes_of_box, table_box, table_width};
+ghost use Rattle.lay_table_sizes.specs.TableSizes.{AreAutoWidths, AreFixedWidths, AreTableWidths, AreTableWidthsAs, HasTableSizes};
+ghost use Rattle.lay_table_sizes.specs.TableSizes.{held, held_width, sizes_of_box, table_box, table_width};
 
 use crate::cells::{cells_of, sum_of};
 use crate::column_widths::columns_in;

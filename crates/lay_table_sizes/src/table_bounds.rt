@@ -1,10 +1,10 @@
 //! How narrow and how wide a table of the automatic layout asks to be.
 
 ghost use Rattle.std.specs.Prelude.{◌≡◌, ◌≤◌, ◌-ℤ◌, ◌≤ℤ◌, All, IfOk, length};
+ghost use Rattle.lay_units.specs.Units.{IsSize};
 ghost use Rattle.lay_auto_columns.specs.AutoColumns.{AreAutoColumns};
 ghost use Rattle.lay_auto_columns.specs.Bounds.{bound_at};
 ghost use Rattle.lay_auto_columns.specs.Fit.{BoundFits};
-ghost use Rattle.lay_auto_columns.specs.Sizes.{IsSize};
 ghost use Rattle.lay_table_borders.specs.GridBounds.{PlacesAreBelow};
 ghost use Rattle.lay_table_bounds.specs.ColumnBounds.{least_content, spaces};
 ghost use Rattle.lay_table_sizes.specs.Bounds.{most_columns};

@@ -2,9 +2,10 @@
 
 ghost use Rattle.std.specs.Prelude.{◌≡◌, ◌<◌, ◌+ℤ◌, length};
 ghost use Rattle.lay_units.specs.Units.{IsPosition, IsUsedSize};
+ghost use Rattle.lay_box_tree.specs.BoxColumns.{style_of_box};
 ghost use Rattle.lay_widths.specs.Lengths.{BlockFits};
 ghost use Rattle.lay_sizes.specs.SizeBounds.{IsInset};
-ghost use Rattle.lay_table_sizes.specs.TableBoxes.{inset, preferred_edges, preferred_padding, style_of_box, table_block, table_edges, table_padding};
+ghost use Rattle.lay_table_sizes.specs.TableBoxes.{inset, preferred_edges, preferred_padding, table_block, table_edges, table_padding};
 ghost use Rattle.lay_table_sizes.specs.Bounds.{IsEdge};
 
 use lay_box_tree::BoxNode;

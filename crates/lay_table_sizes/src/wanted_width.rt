@@ -1,8 +1,7 @@
 //! The width that a table is to have.
 
-ghost use Rattle.std.specs.Prelude.{◌≡◌, ◌<◌, IfOk, length};
-ghost use Rattle.lay_auto_columns.specs.Sizes.{IsSize};
-ghost use Rattle.lay_units.specs.Units.{IsPosition, IsUsedSize};
+ghost use Rattle.std.specs.Prelude.{◌<◌, IfOk, length};
+ghost use Rattle.lay_units.specs.Units.{IsPosition, IsUsedSize, IsSize};
 ghost use Rattle.lay_table_borders.specs.GridBounds.{PlacesAreBelow};
 ghost use Rattle.lay_table_sizes.specs.WantedWidth.{HasAutoWidth, IsFixedWidth};
 

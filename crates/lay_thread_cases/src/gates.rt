@@ -1,7 +1,5 @@
 //! Gates of cases.
 
-ghost use Rattle.std.specs.Prelude.{◌≤◌, length};
-
 use lay_layout::units::NoMemory;
 use lay_outside::{Gate, MeetGate, Point};
 use std::alloc::Global;

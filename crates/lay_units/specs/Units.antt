@@ -42,6 +42,22 @@ IsUsedSize v = (pos 0 ≤ℤ v) × (v ≤ℤ limit)
 abbrev pub IsPosition : ℤ → Type 0
 IsPosition v = (neg_ℤ (pos (2 ^ 62)) <ℤ v) × (v <ℤ pos (2 ^ 62))
 
+-- a position that isn't negative
+abbrev pub IsSize : ℤ → Type 0
+IsSize v = (pos 0 ≤ℤ v) × (v <ℤ pos (2 ^ 62))
+
 -- a sum or a difference of two positions: below 2^63 in absolute value
 abbrev pub IsSum : ℤ → Type 0
 IsSum v = (neg_ℤ (pos (2 ^ 63)) <ℤ v) × (v <ℤ pos (2 ^ 63))
+
+-- the width or the height of a border box: a used size and two insets
+abbrev pub IsBoxSize : ℤ → Type 0
+IsBoxSize v = (pos 0 ≤ℤ v) × (v ≤ℤ pos 10737418240)
+
+-- at most 2^60 units from 0
+abbrev pub IsNear : ℤ → Type 0
+IsNear v = (neg_ℤ (pos 1152921504606846976) ≤ℤ v) × (v ≤ℤ pos 1152921504606846976)
+
+-- at most 2^n in absolute value
+abbrev pub IsWithinPower : ℕ → ℤ → Type 0
+IsWithinPower n v = (neg_ℤ (pos (2 ^ n)) ≤ℤ v) × (v ≤ℤ pos (2 ^ n))

@@ -1,6 +1,7 @@
 //! Lengths and percentages.
 
 ghost use Rattle.std.specs.Prelude.{◌≡◌, ◌+ℤ◌, ◌*ℤ◌};
+ghost use Rattle.lay_units.specs.Lengths.{is_nonzero};
 ghost use Rattle.lay_units.specs.Units.{clamp_of, clamp_size_of, percentage_of, half_of};
 
 /// A length or a position, in 1/64 px.
@@ -48,4 +49,11 @@ pub fn half(v: Unit) -> (Unit, Unit)
 {
     let floor = v.0.div_euclid(2);
     (Unit(floor), Unit(v.0 - floor))
+}
+
+/// Whether a number of units, or of hundredths of a percent, isn't 0.
+pub fn is_nonzero(number: i64) -> bool
+    ensures { result ≡ is_nonzero number }
+{
+    number != 0
 }

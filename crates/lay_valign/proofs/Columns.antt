@@ -5,11 +5,12 @@ use Rattle.std.specs.Prelude.{All}
 use Rattle.std.proofs.lemmas.Int.{ints}
 use Rattle.std.proofs.lemmas.Grind.{elements}
 use Rattle.std.proofs.lemmas.Bool.{cases_lt}
+use Rattle.lay_units.specs.Units.{IsWithinPower}
 use Rattle.lay_valign.specs.declared.parts.Part.{Part}
 use Rattle.lay_valign.specs.Parts.{part_at, at, begins, AreParts}
 use Rattle.lay_valign.specs.Raises.{raise_of}
 use Rattle.lay_valign.specs.Subtrees.{Subtrees, root_of, rise_of, above_of, below_of, HasRoots, HasRises, HasReaches}
-use Rattle.lay_valign.specs.Pass.Columns.{IsRise, IsWithin, RootsTo, RisesTo, StandFirst, SubtreesFit}
+use Rattle.lay_valign.specs.Pass.Columns.{IsRise, RootsTo, RisesTo, StandFirst, SubtreesFit}
 use Rattle.lay_valign.specs.Pass.Reaches.{ReachesTo}
 
 pub rise_inner : (ps : List Part) (rises : List ℤ) (k : ℕ) → 0 < k → begins (part_at ps k).shift ≡ false
@@ -97,7 +98,7 @@ has_rises ps rises to = record { as_many = to.as_many; each = to.each }
 pub stand_first : (ps : List Part) (roots : List ℕ) → AreParts ps → RootsTo ps (length ps) roots → StandFirst roots
 stand_first ps roots are to k lt = (let e = to.as_many in root_first ps roots k are (has_roots ps roots to) (omega (arith, e, lt)))
 
-pub rises_within : (ps : List Part) (rises : List ℤ) → length ps < 2 ^ 32 → RisesTo ps (length ps) rises → All (IsWithin 63) rises
+pub rises_within : (ps : List Part) (rises : List ℤ) → length ps < 2 ^ 32 → RisesTo ps (length ps) rises → All (IsWithinPower 63) rises
 rises_within ps rises few to k d lt =
     let e = to.as_many in let within : k < length ps = omega (arith, e, lt) in
     let f = to.fits k within in let low = f.0 in let high = f.1 in

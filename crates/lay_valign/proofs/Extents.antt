@@ -7,17 +7,17 @@ use Rattle.std.specs.List.{range_with_len}
 use Rattle.std.proofs.lemmas.Int.{ints, clamps, by_lt_z}
 use Rattle.std.proofs.lemmas.Bool.{cases_lt}
 use Rattle.std.proofs.lemmas.List.FromFn.{get_or-map-range_with_len, length-map-range_with_len}
-use Rattle.lay_units.specs.Units.{IsPosition}
+use Rattle.lay_units.specs.Units.{IsPosition, IsWithinPower}
 use Rattle.lay_units.specs.declared.length.Unit.{Unit}
+use Rattle.lay_units.specs.Lengths.{no_length}
 use Rattle.lay_valign.specs.declared.parts.LineEdge.{LineEdge}
 use Rattle.lay_valign.specs.declared.parts.LineEdge.TheVariants.{TopEdge, BottomEdge}
 use Rattle.lay_valign.specs.declared.parts.LineShape.{LineShape}
 use Rattle.lay_valign.specs.declared.parts.Part.{Part}
-use Rattle.lay_valign.specs.Parts.{part_at, at, no_length, is_aligned}
+use Rattle.lay_valign.specs.Parts.{part_at, at, is_aligned}
 use Rattle.lay_valign.specs.Subtrees.{Subtrees, AreSubtrees}
 use Rattle.lay_valign.specs.LineShape.{IsAligned, IsLine, IsRaised, base_by, base_of, beyond, shift_of}
 use Rattle.lay_valign.specs.PartsFit.{PartsFit, ShapeFits}
-use Rattle.lay_valign.specs.Pass.Columns.{IsWithin}
 use Rattle.lay_valign.specs.Pass.Reaches.{IsRaisedTo}
 
 true_not_false : {A : Type 0} → true ≡ false → A
@@ -59,7 +59,7 @@ raised_all edge ps value floor n v le to = record {
 }
 
 pub raised_within : (edge : LineEdge) (ps : List Part) (s : Subtrees) (other floor v : ℤ)
-    → length s.aboves ≡ length ps → length s.belows ≡ length ps → All (IsWithin 64) s.aboves → All (IsWithin 64) s.belows
+    → length s.aboves ≡ length ps → length s.belows ≡ length ps → All (IsWithinPower 64) s.aboves → All (IsWithinPower 64) s.belows
     → IsRaised (IsAligned edge ps) (beyond s other) floor v → v ≤ℤ int_max floor (pos 36893488147419103232 -ℤ other)
 raised_within edge ps s other floor v la lb fa fb is = elim is.least [
   | inl e ↦ omega (arith, ints, clamps, e)

@@ -6,12 +6,13 @@ use Rattle.std.proofs.lemmas.Int.{ints, clamps}
 use Rattle.std.proofs.lemmas.List.{get_or_default}
 use Rattle.lay_units.specs.Units.{clamp_of}
 use Rattle.lay_units.specs.declared.length.Unit.{Unit}
+use Rattle.lay_units.specs.Lengths.{no_length}
 use Rattle.lay_valign.specs.declared.parts.LineEdge.{LineEdge}
 use Rattle.lay_valign.specs.declared.parts.LineEdge.TheVariants.{TopEdge, BottomEdge}
 use Rattle.lay_valign.specs.declared.parts.Part.{Part}
 use Rattle.lay_valign.specs.declared.parts.Shift.{Shift}
 use Rattle.lay_valign.specs.declared.parts.Shift.TheVariants.{By, Middle, TextTop, TextBottom, Top, Bottom}
-use Rattle.lay_valign.specs.Parts.{part_at, at, no_length, no_part, begins, AreParts}
+use Rattle.lay_valign.specs.Parts.{part_at, at, no_part, begins, AreParts}
 use Rattle.lay_valign.specs.Raises.{raise_by, raise_of}
 use Rattle.lay_valign.specs.Subtrees.{Subtrees, AreSubtrees, HasRises, IsGreatest, InSubtree, above_of, below_of, rise_of}
 use Rattle.lay_valign.specs.LineShape.{IsAligned, IsLine, IsRaised, beyond, base_by, base_of, shift_of}

@@ -4,13 +4,14 @@ use Rattle.std.proofs.Common.{true, if◌then◌else◌, rules}
 use Rattle.std.proofs.lemmas.Int.{ints}
 use Rattle.std.proofs.lemmas.List.{ext_get_or}
 use Rattle.lay_units.specs.declared.length.Unit.{Unit}
+use Rattle.lay_units.specs.Lengths.{no_length}
 use Rattle.lay_valign.specs.declared.parts.LineEdge.{LineEdge}
 use Rattle.lay_valign.specs.declared.parts.LineEdge.TheVariants.{TopEdge, BottomEdge}
 use Rattle.lay_valign.specs.declared.parts.LineShape.{LineShape}
 use Rattle.lay_valign.specs.declared.parts.Part.{Part}
 use Rattle.lay_valign.specs.declared.parts.Shift.{Shift}
 use Rattle.lay_valign.specs.declared.parts.Shift.TheVariants.{By, Middle, TextTop, TextBottom, Top, Bottom}
-use Rattle.lay_valign.specs.Parts.{part_at, at, shift_at, no_length, begins, is_aligned, AreParts}
+use Rattle.lay_valign.specs.Parts.{part_at, at, shift_at, begins, is_aligned, AreParts}
 use Rattle.lay_valign.specs.Raises.{raise_of}
 use Rattle.lay_valign.specs.Subtrees.{Subtrees, AreSubtrees, HasRoots, HasRises, HasReaches, IsGreatest, above_of, below_of}
 use Rattle.lay_valign.specs.LineShape.{IsAligned, IsLine, IsRaised, beyond, base_by, base_of, shift_of}

@@ -7,8 +7,9 @@ use Rattle.std.proofs.lemmas.Int.{ints, clamps, by_lt_z}
 use Rattle.std.proofs.lemmas.Grind.{elements}
 use Rattle.std.proofs.lemmas.List.Elements.{All-push, All-set}
 use Rattle.std.proofs.lemmas.Bool.{cases_lt, cases_eq}
+use Rattle.lay_units.specs.Units.{IsWithinPower}
 use Rattle.lay_valign.specs.Parts.{at}
-use Rattle.lay_valign.specs.Pass.Columns.{IsWithin, StandFirst}
+use Rattle.lay_valign.specs.Pass.Columns.{StandFirst}
 use Rattle.lay_valign.specs.Pass.Reaches.{IsGreatestTo, ReachesTo, widened}
 
 set_same : (xs : List ℤ) (p : ℕ) (v : ℤ) → p < length xs → at (set xs p v) p ≡ v
@@ -54,7 +55,7 @@ kept roots value n q v other is = record {
 }
 
 pub reaches_more : (roots : List ℕ) (value : ℕ → ℤ) (out : List ℤ) (n : ℕ) → StandFirst roots → n < length roots → ReachesTo roots value n out
-    → IsWithin 64 (value n)
+    → IsWithinPower 64 (value n)
     → ReachesTo roots value (n + 1) (widened out (get_or roots n 0) (value n))
 reaches_more roots value out n first within to fits = record {
   as_many = length_set _ _ _ ∙ grind (arith, elements, to.as_many);
@@ -103,14 +104,14 @@ reaches_more roots value out n first within to fits = record {
           subst (λ (z : ℤ). IsGreatestTo roots value (n + 1) q z) (sym e) (kept roots value n q (at out q) other (to.each q low root)))
     ]
 
-    wide_fits : All (IsWithin 64) wide
-    wide_fits = All-push (IsWithin 64) out v to.fits fits
+    wide_fits : All (IsWithinPower 64) wide
+    wide_fits = All-push (IsWithinPower 64) out v to.fits fits
 
-    more_fits : IsWithin 64 (int_max (at wide r) v)
+    more_fits : IsWithinPower 64 (int_max (at wide r) v)
     more_fits =
         let a = wide_fits r (pos 0) (grind (arith, elements, to.as_many, below)) in
         let p = a.0 in let q = a.1 in let f = fits.0 in let g = fits.1 in
         (omega (arith, ints, clamps, p, q, f, g), omega (arith, ints, clamps, p, q, f, g))
 
-    all_fit : All (IsWithin 64) (set wide r (int_max (at wide r) v))
-    all_fit = All-set (IsWithin 64) wide r (int_max (at wide r) v) more_fits wide_fits
+    all_fit : All (IsWithinPower 64) (set wide r (int_max (at wide r) v))
+    all_fit = All-set (IsWithinPower 64) wide r (int_max (at wide r) v) more_fits wide_fits

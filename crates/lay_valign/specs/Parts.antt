@@ -2,14 +2,12 @@
 -- strut; each other has a parent that stands before it. Lists are read past their ends as zeros.
 use Rattle.std.specs.Prelude.{ℕ, ◌<◌, ℤ, pos, List, length, slice_index_or, Bool, true, false}
 use Rattle.lay_units.specs.declared.length.Unit.{Unit}
+use Rattle.lay_units.specs.Lengths.{no_length}
 use Rattle.lay_valign.specs.declared.parts.Shift.{Shift}
 use Rattle.lay_valign.specs.declared.parts.Shift.TheVariants.{By, Top, Bottom}
 use Rattle.lay_valign.specs.declared.parts.LineEdge.{LineEdge}
 use Rattle.lay_valign.specs.declared.parts.LineEdge.TheVariants.{TopEdge, BottomEdge}
 use Rattle.lay_valign.specs.declared.parts.Part.{Part}
-
-abbrev pub no_length : Unit
-no_length = record { 0 = pos 0 }
 
 abbrev pub no_part : Part
 no_part = record { above = no_length; below = no_length; shift = By no_length; parent = 0 }

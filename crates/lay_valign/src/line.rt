@@ -1,13 +1,12 @@
 //! The shape of a line (CSS 2.2, 10.8.1).
 
-ghost use Rattle.std.specs.Prelude.{◌≡◌, pos, ◌^◌, ◌<◌, ◌≤ℤ◌, ◌-ℤ◌, length, IfOk};
+ghost use Rattle.std.specs.Prelude.{◌≡◌, pos, ◌<◌, ◌≤ℤ◌, ◌-ℤ◌, length, IfOk};
 ghost use Rattle.std.specs.Int.{int_max};
-ghost use Rattle.lay_units.specs.Units.{IsPosition};
-ghost use Rattle.lay_valign.specs.Parts.{at, shift_at};
+ghost use Rattle.lay_units.specs.Units.{IsPosition, IsWithinPower};
 ghost use Rattle.lay_valign.specs.LineShape.{IsAligned, IsLine, IsRaised, IsShape, base_by};
 ghost use Rattle.lay_valign.specs.LineShape.{base_of, beyond, shift_of};
 ghost use Rattle.lay_valign.specs.PartsFit.{PartsFit};
-ghost use Rattle.lay_valign.specs.Pass.Columns.{IsWithin, SubtreesFit};
+ghost use Rattle.lay_valign.specs.Pass.Columns.{SubtreesFit};
 ghost use Rattle.lay_valign.specs.Pass.Shifts.{AreShiftsTo};
 
 use crate::parts::{LineEdge, LineShape, Part, Shift, part_of};
@@ -51,7 +50,7 @@ fn extent(parts: &[Part], subtrees: &Subtrees) -> (Unit, Unit)
 /// other edge, which is so far from the baseline, lie within it.
 fn extended(parts: &[Part], subtrees: &Subtrees, edge: LineEdge, least: i128, other: i128) -> i128
     requires subtrees { SubtreesFit parts.now subtrees.now }
-    requires other { IsWithin 67 other }
+    requires other { IsWithinPower 67 other }
     ensures value { IsRaised (IsAligned edge parts.now) (beyond subtrees.now other) least result }
     ensures most { result ≤ℤ int_max least (pos 36893488147419103232 -ℤ other) }
 {
@@ -103,7 +102,7 @@ fn base(parts: &[Part], subtrees: &Subtrees, above: Unit, below: Unit, root: usi
     requires below { IsPosition below.0 }
     requires place { root < length parts.now }
     ensures value { result ≡ base_of parts.now subtrees.now above.0 below.0 root }
-    ensures within { IsWithin 65 result }
+    ensures within { IsWithinPower 65 result }
 {
     if root == 0 {
         return 0;
@@ -119,12 +118,12 @@ fn base(parts: &[Part], subtrees: &Subtrees, above: Unit, below: Unit, root: usi
 }
 
 fn base_by(shift: Shift, above: i128, below: i128, line_above: Unit, line_below: Unit) -> i128
-    requires above { IsWithin 64 above }
-    requires below { IsWithin 64 below }
+    requires above { IsWithinPower 64 above }
+    requires below { IsWithinPower 64 below }
     requires line_above { IsPosition line_above.0 }
     requires line_below { IsPosition line_below.0 }
     ensures value { result ≡ base_by shift above below line_above.0 line_below.0 }
-    ensures within { IsWithin 65 result }
+    ensures within { IsWithinPower 65 result }
 {
     match shift {
         Shift::Top => difference(i128::from(line_above.0), above),

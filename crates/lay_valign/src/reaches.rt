@@ -1,10 +1,10 @@
 //! How far aligned subtrees reach (CSS 2.2, 10.8.1).
 
 ghost use Rattle.std.specs.Prelude.{◌≡◌, ◌<◌, ◌≤◌, ◌+ℤ◌, ◌-ℤ◌, length, IfOk, OnOk, All};
-ghost use Rattle.lay_units.specs.Units.{IsPosition};
+ghost use Rattle.lay_units.specs.Units.{IsPosition, IsWithinPower};
 ghost use Rattle.lay_valign.specs.Subtrees.{above_of, below_of};
 ghost use Rattle.lay_valign.specs.PartsFit.{PartsFit};
-ghost use Rattle.lay_valign.specs.Pass.Columns.{IsWithin, StandFirst};
+ghost use Rattle.lay_valign.specs.Pass.Columns.{StandFirst};
 ghost use Rattle.lay_valign.specs.Pass.Reaches.{ReachesTo, widened};
 
 use crate::parts::{Part, part_of};
@@ -22,7 +22,7 @@ pub fn aboves_of(
     requires roots { length roots.now ≡ length parts.now }
     requires first { StandFirst roots.now }
     requires as_many { length rises.now ≡ length parts.now }
-    requires rises { All (IsWithin 63) rises.now }
+    requires rises { All (IsWithinPower 63) rises.now }
     ensures { IfOk result (λ aboves. ReachesTo roots.now (above_of parts.now rises.now) (length parts.now) aboves.items) }
 {
     let mut aboves = Vec::new(alloc);
@@ -47,7 +47,7 @@ pub fn belows_of(
     requires roots { length roots.now ≡ length parts.now }
     requires first { StandFirst roots.now }
     requires as_many { length rises.now ≡ length parts.now }
-    requires rises { All (IsWithin 63) rises.now }
+    requires rises { All (IsWithinPower 63) rises.now }
     ensures { IfOk result (λ belows. ReachesTo roots.now (below_of parts.now rises.now) (length parts.now) belows.items) }
 {
     let mut belows = Vec::new(alloc);
@@ -71,19 +71,19 @@ fn widen(reaches: &mut Vec<i128>, root: usize, reach: i128) -> Result<(), NoMemo
 }
 
 fn sum(rise: i128, above: Unit) -> i128
-    requires rise { IsWithin 63 rise }
+    requires rise { IsWithinPower 63 rise }
     requires above { IsPosition above.0 }
     ensures value { result ≡ rise +ℤ above.0 }
-    ensures within { IsWithin 64 result }
+    ensures within { IsWithinPower 64 result }
 {
     rise + i128::from(above.0)
 }
 
 fn difference(below: Unit, rise: i128) -> i128
     requires below { IsPosition below.0 }
-    requires rise { IsWithin 63 rise }
+    requires rise { IsWithinPower 63 rise }
     ensures value { result ≡ below.0 -ℤ rise }
-    ensures within { IsWithin 64 result }
+    ensures within { IsWithinPower 64 result }
 {
     i128::from(below.0) - rise
 }

@@ -1,11 +1,11 @@
 //! How far parts are raised (CSS 2.2, 10.8.1).
 
 ghost use Rattle.std.specs.Prelude.{◌≡◌, ◌<◌, ◌+ℤ◌, ◌-ℤ◌, length, IfOk};
-ghost use Rattle.lay_units.specs.Units.{IsPosition, half_of};
+ghost use Rattle.lay_units.specs.Units.{IsPosition, half_of, IsWithinPower};
 ghost use Rattle.lay_valign.specs.Raises.{raise_by, raise_of};
 ghost use Rattle.lay_valign.specs.Subtrees.{rise_of};
 ghost use Rattle.lay_valign.specs.PartsFit.{PartFits, PartsFit};
-ghost use Rattle.lay_valign.specs.Pass.Columns.{IsRise, IsWithin, RisesTo};
+ghost use Rattle.lay_valign.specs.Pass.Columns.{IsRise, RisesTo};
 
 use crate::parts::{Part, Shift, part_of};
 use crate::sums::sum;
@@ -46,7 +46,7 @@ fn rise(parts: &[Part], rises: &[i128], k: usize) -> i128
 fn raise(part: Part) -> i128
     requires { PartFits part }
     ensures value { result ≡ raise_of part }
-    ensures within { IsWithin 31 result }
+    ensures within { IsWithinPower 31 result }
 {
     i128::from(clamp(raise_by(part)).0)
 }
@@ -55,7 +55,7 @@ fn raise(part: Part) -> i128
 fn raise_by(part: Part) -> i128
     requires { PartFits part }
     ensures value { result ≡ raise_by part.shift part.above.0 part.below.0 }
-    ensures within { IsWithin 63 result }
+    ensures within { IsWithinPower 63 result }
 {
     match part.shift {
         Shift::By(length) => i128::from(length.0),
@@ -70,7 +70,7 @@ fn middle_gap(x_height: Unit, part: Part) -> i128
     requires x_height { IsPosition x_height.0 }
     requires part { PartFits part }
     ensures value { result ≡ x_height.0 +ℤ (part.below.0 -ℤ part.above.0) }
-    ensures within { IsWithin 64 result }
+    ensures within { IsWithinPower 64 result }
 {
     i128::from(x_height.0) + difference(part.below, part.above)
 }
@@ -79,15 +79,15 @@ fn difference(a: Unit, b: Unit) -> i128
     requires a { IsPosition a.0 }
     requires b { IsPosition b.0 }
     ensures value { result ≡ a.0 -ℤ b.0 }
-    ensures within { IsWithin 63 result }
+    ensures within { IsWithinPower 63 result }
 {
     i128::from(a.0) - i128::from(b.0)
 }
 
 fn floor_half(v: i128) -> i128
-    requires { IsWithin 64 v }
+    requires { IsWithinPower 64 v }
     ensures value { result ≡ half_of v }
-    ensures within { IsWithin 63 result }
+    ensures within { IsWithinPower 63 result }
 {
     v.div_euclid(2)
 }

@@ -1,6 +1,6 @@
 //! The roots of aligned subtrees (CSS 2.2, 10.8.1).
 
-ghost use Rattle.std.specs.Prelude.{◌≡◌, [], ◌∷◌, ◌++◌, ◌+◌, ◌<◌, length, IfOk, OnOk};
+ghost use Rattle.std.specs.Prelude.{◌≡◌, ◌<◌, length, IfOk};
 ghost use Rattle.lay_valign.specs.Subtrees.{root_of};
 ghost use Rattle.lay_valign.specs.PartsFit.{PartsFit};
 ghost use Rattle.lay_valign.specs.Pass.Columns.{RootsTo};

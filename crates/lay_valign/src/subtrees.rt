@@ -1,9 +1,10 @@
 //! The aligned subtrees of a line (CSS 2.2, 10.8.1).
 
 ghost use Rattle.std.specs.Prelude.{◌≡◌, ◌<◌, ◌+ℤ◌, length, slice_index, IfOk, All};
+ghost use Rattle.lay_units.specs.Units.{IsWithinPower};
 ghost use Rattle.lay_valign.specs.Parts.{at};
 ghost use Rattle.lay_valign.specs.PartsFit.{PartsFit};
-ghost use Rattle.lay_valign.specs.Pass.Columns.{IsWithin, SubtreesFit};
+ghost use Rattle.lay_valign.specs.Pass.Columns.{SubtreesFit};
 
 use crate::parts::Part;
 use crate::reaches::{aboves_of, belows_of};
@@ -63,18 +64,18 @@ impl Subtrees {
 
     pub fn above(&self, root: usize) -> i128
         requires place { root < length self.now.aboves }
-        requires fits { All (IsWithin 64) self.now.aboves }
+        requires fits { All (IsWithinPower 64) self.now.aboves }
         ensures value { result ≡ at self.now.aboves root }
-        ensures within { IsWithin 64 result }
+        ensures within { IsWithinPower 64 result }
     {
         self.aboves[root]
     }
 
     pub fn below(&self, root: usize) -> i128
         requires place { root < length self.now.belows }
-        requires fits { All (IsWithin 64) self.now.belows }
+        requires fits { All (IsWithinPower 64) self.now.belows }
         ensures value { result ≡ at self.now.belows root }
-        ensures within { IsWithin 64 result }
+        ensures within { IsWithinPower 64 result }
     {
         self.belows[root]
     }
@@ -82,10 +83,10 @@ impl Subtrees {
     pub fn height(&self, root: usize) -> i128
         requires above { root < length self.now.aboves }
         requires below { root < length self.now.belows }
-        requires aboves { All (IsWithin 64) self.now.aboves }
-        requires belows { All (IsWithin 64) self.now.belows }
+        requires aboves { All (IsWithinPower 64) self.now.aboves }
+        requires belows { All (IsWithinPower 64) self.now.belows }
         ensures value { result ≡ at self.now.aboves root +ℤ at self.now.belows root }
-        ensures within { IsWithin 65 result }
+        ensures within { IsWithinPower 65 result }
     {
         self.aboves[root] + self.belows[root]
     }

@@ -3,7 +3,8 @@
 -- 12pt, so 1cm is 9600 / 254 px. A length is rounded down to 1/64 px once, and held within 2^31 of them;
 -- an em or a number is rounded down to thousandths; a percentage is rounded down to hundredths, and held
 -- within 2^30 of them. `-0.01px` is -0.64 units, and so -1.
-use Rattle.std.specs.Prelude.{ℕ, ◌*◌, ◌^◌, ◌==◌, ℤ, pos, neg_ℤ, List, [], ◌∷◌, codes, length, filter, find, Option, Some, None, if◌then◌else◌}
+use Rattle.std.specs.Prelude.{ℕ, ◌*◌, ◌^◌, ◌==◌, ℤ, pos, neg_ℤ, List, [], ◌∷◌, codes}
+use Rattle.std.specs.Prelude.{length, filter, find, Option, Some, None, if◌then◌else◌}
 use Rattle.std.specs.Int.{int_min, int_max}
 use Rattle.std.specs.Str.{str_eq_ignore_ascii_case}
 use Rattle.lay_units.specs.Units.{clamp_of}

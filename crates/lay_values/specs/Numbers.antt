@@ -1,7 +1,8 @@
 -- Numbers as CSS 2.2 writes them (4.3.1).
 -- A number is an optional sign, then digits, or digits that may be absent, a point and digits: at most 9
 -- digits stand before the point and at most 18 after it. `-.5` is one, and `5.`, `+-5` and `1e2` aren't.
-use Rattle.std.specs.Prelude.{ℕ, ◌+◌, ◌-◌, ◌*◌, ◌^◌, ◌<◌, ◌≤◌, ◌==◌, ◌&&◌, ℤ, pos, neg_ℤ, List, [], ◌∷◌, ◌++◌, length, Bool, true, false, nat_le, Option, Some, None, option_map, if◌then◌else◌}
+use Rattle.std.specs.Prelude.{ℕ, ◌+◌, ◌-◌, ◌*◌, ◌^◌, ◌<◌, ◌≤◌, ◌==◌, ◌&&◌, ℤ, pos, neg_ℤ, List, [], ◌∷◌, ◌++◌}
+use Rattle.std.specs.Prelude.{length, Bool, true, false, nat_le, Option, Some, None, option_map, if◌then◌else◌}
 use Rattle.std.specs.List.{list_all}
 use Rattle.lay_units.specs.Units.{floor_div}
 use Rattle.lay_values.specs.declared.numbers.Decimal.{Decimal}

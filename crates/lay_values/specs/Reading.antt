@@ -3,7 +3,8 @@
 -- White space at both ends is dropped. A text that begins with a letter is a keyword; any other is a number
 -- with what stands behind it, or, for `border-spacing`, one or two of them parted by white space. The value
 -- must then be one of the property's. So each text has at most one meaning for a property.
-use Rattle.std.specs.Prelude.{ℕ, ◌-◌, ◌==◌, ◌||◌, List, [], ◌∷◌, length, take, drop, Bool, false, not, Option, Some, None, option_map, option_and_then, ok_or, Result, Err, if◌then◌else◌}
+use Rattle.std.specs.Prelude.{ℕ, ◌-◌, ◌==◌, ◌||◌, List, [], ◌∷◌, length, take, drop, Bool, false, not, Option}
+use Rattle.std.specs.Prelude.{Some, None, option_map, option_and_then, ok_or, Result, Err, if◌then◌else◌}
 use Rattle.std.specs.List.{prefix_len, suffix_len}
 use Rattle.std.specs.Char.{is_ascii_alphabetic, is_ascii_whitespace}
 use Rattle.lay_style.specs.declared.property.Property.{Property}
@@ -36,7 +37,8 @@ is_of_number b = is_digit b || (b == 43) || (b == 45) || (b == 46)
 
 -- a number, and then a unit, `%` or nothing
 abbrev pub measure_of : Property → List ℕ → Option Given
-measure_of p text = option_and_then (λ d. option_and_then (value_with p d) (suffix_of (behind is_of_number text))) (number_of (leading is_of_number text))
+measure_of p text =
+    option_and_then (λ d. option_and_then (value_with p d) (suffix_of (behind is_of_number text))) (number_of (leading is_of_number text))
 
 abbrev pub one_length_of : Given → Option OneLength
 one_length_of (Length u) = Some (one_length u)

@@ -2,7 +2,8 @@
 
 ghost use Rattle.std.specs.Prelude.{◌≡◌, ◌<◌, ◌≤◌, ◌*◌, ◌^◌};
 ghost use Rattle.lay_values.specs.Numbers.{IsShort};
-ghost use Rattle.lay_values.specs.Lengths.{suffix_name, of_length, suffix_of, length_value, thousandths, hundredths, bare_value, value_with};
+ghost use Rattle.lay_values.specs.Lengths.{suffix_name, of_length, suffix_of, length_value};
+ghost use Rattle.lay_values.specs.Lengths.{thousandths, hundredths, bare_value, value_with};
 
 use crate::numbers::{Decimal, scaled};
 use crate::words::is_spelled;

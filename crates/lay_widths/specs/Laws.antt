@@ -13,7 +13,8 @@ abbrev pub OneBlockWidth : Type 0
 OneBlockWidth = (b : BlockIn) (x y : BlockOut) → IsUsedBlock b x → IsUsedBlock b y → x ≡ y
 
 abbrev pub OneFloatWidth : Type 0
-OneFloatWidth = (b : BlockIn) (preferred_minimum preferred : Unit) (x y : BlockOut) → IsUsedFloat b preferred_minimum preferred x → IsUsedFloat b preferred_minimum preferred y → x ≡ y
+OneFloatWidth = (b : BlockIn) (preferred_minimum preferred : Unit) (x y : BlockOut)
+    → IsUsedFloat b preferred_minimum preferred x → IsUsedFloat b preferred_minimum preferred y → x ≡ y
 
 abbrev pub OneReplacedSize : Type 0
 OneReplacedSize = (r : ReplacedIn) (x y : ReplacedSize) → IsReplacedSize r x → IsReplacedSize r y → x ≡ y

@@ -1,6 +1,6 @@
 -- Lengths of a block across its containing block, and which lengths are given to the calls.
-use Rattle.std.specs.Prelude.{ℕ, ◌^◌, ℤ, pos, neg_ℤ, ◌+ℤ◌, ◌≤ℤ◌, ◌<ℤ◌, IfSome, ⊤}
-use Rattle.lay_units.specs.Units.{IsPosition}
+use Rattle.std.specs.Prelude.{ℕ, ◌^◌, ℤ, pos, neg_ℤ, ◌+ℤ◌, ◌<ℤ◌, IfSome, ⊤}
+use Rattle.lay_units.specs.Units.{IsPosition, IsSize}
 use Rattle.lay_units.specs.declared.records.Len.{Len}
 use Rattle.lay_units.specs.declared.records.Len.TheVariants.{Auto as auto, Of as of}
 use Rattle.lay_units.specs.declared.records.BlockIn.{BlockIn}
@@ -24,10 +24,6 @@ across b used =
 abbrev pub together : BlockIn → ℤ → ℤ
 together b width =
     or_zero b.margin_left +ℤ b.border_left.0 +ℤ b.padding_left.0 +ℤ width +ℤ b.padding_right.0 +ℤ b.border_right.0 +ℤ or_zero b.margin_right
-
--- a position that isn't negative
-abbrev pub IsSize : ℤ → Type 0
-IsSize v = (pos 0 ≤ℤ v) × (v <ℤ pos (2 ^ 62))
 
 -- auto, or a position
 abbrev pub LenFits : Len → Type 0

@@ -17,7 +17,8 @@ AtLeast width Rules min before after =
     (width before <ℤ min.0 → Rules (of min) after) × (min.0 ≤ℤ width before → after ≡ before)
 
 -- what the rules give for the computed width, bounded by the maximum first and by the minimum then
-pub record IsBounded {U : Type 0} (width : U → ℤ) (Rules : Len → U → Type 0) (computed : Len) (min : Unit) (max : Option Unit) (used : U) : Type 0 where
+pub record IsBounded {U : Type 0} (width : U → ℤ) (Rules : Len → U → Type 0) (computed : Len) (min : Unit) (max : Option Unit) (used : U)
+    : Type 0 where
   pub tentative : U
   pub narrowed : U
   pub first : Rules computed tentative

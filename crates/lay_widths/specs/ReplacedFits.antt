@@ -1,6 +1,7 @@
 -- Which lengths a replaced element is given: sizes and bounds from 0, natural sizes from 1.
 use Rattle.std.specs.Prelude.{pos, ◌≤ℤ◌, IfSome, ⊤}
-use Rattle.lay_widths.specs.Lengths.{IsSize, LenIsSize}
+use Rattle.lay_units.specs.Units.{IsSize}
+use Rattle.lay_widths.specs.Lengths.{LenIsSize}
 use Rattle.lay_widths.specs.declared.replaced.ReplacedIn.{ReplacedIn}
 use Rattle.lay_widths.specs.declared.replaced.Violation.{Violation}
 use Rattle.lay_widths.specs.declared.replaced.Violation.TheVariants.{Above as above, Below as below, Within as within}

@@ -2,7 +2,7 @@
 -- natural sizes, whose ratio is its natural ratio: a size that is auto beside a given one follows from that by the
 -- ratio, and where both are auto the natural sizes count, within the bounds by the table of 10.4. Quotients are
 -- rounded down. In 300 by 150 units with a max-width of 200 and nothing else, the table gives 200 by 100.
-use Rattle.std.specs.Prelude.{◌≡◌, ℤ, ◌*ℤ◌, int_le, int_lt, Bool, Option, Some, None, option_map, if◌then◌else◌}
+use Rattle.std.specs.Prelude.{◌≡◌, ℤ, pos, ◌*ℤ◌, int_le, int_lt, Bool, Option, Some, None, option_map, if◌then◌else◌}
 use Rattle.std.specs.Int.{int_min, int_max, int_div_euclid}
 use Rattle.lay_units.specs.Units.{clamp_size_of}
 use Rattle.lay_units.specs.declared.length.Unit.{Unit}
@@ -14,6 +14,10 @@ use Rattle.lay_widths.specs.declared.replaced.ReplacedSize.{ReplacedSize}
 use Rattle.lay_widths.specs.declared.replaced.Sizes.{Sizes}
 use Rattle.lay_widths.specs.declared.replaced.Violation.{Violation}
 use Rattle.lay_widths.specs.declared.replaced.Violation.TheVariants.{Above as above, Below as below, Within as within}
+
+-- a natural size, which is from 1 unit on
+abbrev pub natural_length : Unit → Unit
+natural_length u = record { 0 = int_max (pos 1) (clamp_size_of u.0) }
 
 -- the sizes that go with each other by the natural ratio
 abbrev pub height_beside : ReplacedIn → ℤ → ℤ

@@ -1,9 +1,9 @@
 //! Blocks in flow (CSS 2.2, 10.3.3 and 10.4).
 
-ghost use Rattle.std.specs.Prelude.{◌≡◌, ℤ, pos, ◌+ℤ◌, ◌-ℤ◌, ◌≤ℤ◌, ◌<ℤ◌};
+ghost use Rattle.std.specs.Prelude.{◌≡◌};
 ghost use Rattle.lay_units.specs.Units.{IsPosition};
-ghost use Rattle.lay_widths.specs.Lengths.{BlockFits, IsBelow, LenFits, or_zero, edges_of, across, together};
-ghost use Rattle.lay_widths.specs.BlockWidths.{IsHeld, IsUsedBlock, SolvesBlock, AutoWidth, GivenWidth, width_in};
+ghost use Rattle.lay_widths.specs.Lengths.{BlockFits, IsBelow, LenFits, across};
+ghost use Rattle.lay_widths.specs.BlockWidths.{IsUsedBlock, SolvesBlock, AutoWidth, GivenWidth, width_in};
 
 use crate::min_max::{WidthRules, bounded};
 use crate::room::{edges, room_beside};

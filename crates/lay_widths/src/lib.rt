@@ -20,7 +20,7 @@ pub use block::solve_block;
 pub use float::{shrink_to_fit, solve_float};
 pub use laws::{one_block_width, one_float_width, one_replaced_size};
 pub use min_max::{WidthRules, bounded};
-pub use replaced::{ReplacedIn, ReplacedSize, replaced_size};
+pub use replaced::{ReplacedIn, ReplacedSize, natural_length, replaced_size};
 pub use room::{edges, room_beside};
 pub use wide::{difference, floor_half, length_or_zero, sum};
 pub use widths::{BlockOut, UsedWidths};

@@ -1,8 +1,9 @@
 //! Replaced elements (CSS 2.2, 10.3.2, 10.6.2, and the table of 10.4).
 
-ghost use Rattle.std.specs.Prelude.{◌≡◌, ◌*ℤ◌, IfSome};
+ghost use Rattle.std.specs.Prelude.{◌≡◌, pos, ◌*ℤ◌, ◌≤ℤ◌, IfSome};
+ghost use Rattle.lay_units.specs.Units.{IsSize};
 ghost use Rattle.lay_heights.specs.MinMax.{at_least_min, at_most_max as at_most_max_of, with_min_max_of};
-ghost use Rattle.lay_widths.specs.Lengths.{IsSize, LenIsSize};
+ghost use Rattle.lay_widths.specs.Lengths.{LenIsSize};
 ghost use Rattle.lay_widths.specs.ReplacedFits.{ReplacedFits, ViolationFits};
 ghost use Rattle.lay_widths.specs.ReplacedSizes.{
   IsReplacedSize,
@@ -15,6 +16,7 @@ ghost use Rattle.lay_widths.specs.ReplacedSizes.{
   grown_to_width as grown_to_width_of,
   height_beside,
   is_less_of,
+  natural_length,
   shrunk_to_height as shrunk_to_height_of,
   shrunk_to_width as shrunk_to_width_of,
   sizes_of,
@@ -64,6 +66,15 @@ pub enum Violation {
     /// It is less than its minimum, which this is.
     Below(i128),
     Within,
+}
+
+/// A natural size, which is from 1 unit on.
+pub fn natural_length(length: Unit) -> Unit
+    ensures value { result ≡ natural_length length }
+    ensures size { IsSize result.0 }
+    ensures positive { pos 1 ≤ℤ result.0 }
+{
+    Unit(clamp_size(i128::from(length.0)).0.max(1))
 }
 
 /// The used size of a replaced element. The lengths given are below 2^62 units of 1/64 px.

@@ -1,23 +1,22 @@
 -- The two pens go over text by its width.
-use Rattle.std.proofs.Common.{◌≡◌, ℕ, ◌+◌, ℤ, ◌+ℤ◌, Bool, true, false, ◌==◌, List, [], ◌∷◌, ◌++◌, None, refl, sym, ap, ◌∙◌, arith}
+use Rattle.std.proofs.Common.{◌≡◌, ℕ, ◌+◌, ℤ, ◌+ℤ◌, ◌==◌, List, [], ◌∷◌, ◌++◌, None, refl, sym, ap, ◌∙◌, arith}
 use Rattle.std.proofs.lemmas.Int.{ints}
 use Rattle.lay_units.specs.declared.records.ClusterWidth.{ClusterWidth}
 use Rattle.lay_space.specs.declared.item.Mode.{Mode}
 use Rattle.lay_space.specs.declared.tokens.ClusterKind.{ClusterKind}
-use Rattle.lay_space.specs.Tokens.{kind_of, next_place}
+use Rattle.lay_space.specs.Tokens.{next_place}
 use Rattle.lay_items.specs.GatheredWidths.{gathered}
 use Rattle.lay_line_content.specs.declared.content.Part.{Part}
 use Rattle.lay_line_content.specs.declared.frame.Frame.{Frame}
 use Rattle.lay_line_content.specs.declared.pen.Pen.{Pen as LinePen}
 use Rattle.lay_line_content.specs.Pens.{over, over_all as over_parts, went as went_on}
 use Rattle.lay_content.specs.TextParts.{cluster_parts, parts_between, text_parts}
-use Rattle.lay_measure.specs.declared.line_parts.LinePart.{LinePart}
 use Rattle.lay_measure.specs.declared.pen.Breaking.{Breaking}
 use Rattle.lay_measure.specs.declared.pen.Pen.{Pen}
 use Rattle.lay_measure.specs.LineParts.{cluster_part, part_between, text_parts as measured_parts}
 use Rattle.lay_measure.specs.LineWidths.{over as over_part, over_all, went}
 use Rattle.lay_word_laws.specs.Laws.{WordsAreTheirClusters, WordsMeasureAsTheirClusters}
-use Rattle.lay_word_laws.proofs.Plain.{IsPlain, plain_kind}
+use Rattle.lay_word_laws.proofs.Plain.{plain_kind}
 use Rattle.lay_word_laws.proofs.Words.{GoesByWidth, gathered_goes, go}
 
 sum_same : (a b c : ℤ) → (a +ℤ b) +ℤ c ≡ a +ℤ (b +ℤ c)

@@ -1,11 +1,10 @@
 -- Bytes that are nothing but text to a line: no space, linefeed, tab or zero width space. Two such stretches that meet at a character are
 -- one such stretch.
-use Rattle.std.proofs.Common.{◌≡◌, ◌⊎◌, inl, inr, ℕ, ◌+◌, ◌<◌, ◌≤◌, Bool, true, false, ◌&&◌, ◌||◌, ◌==◌, nat_lt, if◌then◌else◌, List, length, slice_index, refl, sym, ap, ◌∙◌, subst, arith, eqb, ltb, eq-eqb, ne_eqb, eqb-true, lt-ltb, le-ltb}
+use Rattle.std.proofs.Common.{◌≡◌, ◌⊎◌, inl, inr, ℕ, ◌+◌, ◌<◌, ◌≤◌, Bool, true, false, ◌&&◌, ◌||◌, ◌==◌, nat_lt, if◌then◌else◌, List, length, slice_index, refl, sym, ap, ◌∙◌, subst, arith, eq-eqb, ne_eqb, eqb-true, le-ltb}
 use Rattle.std.proofs.lemmas.Bool.{cases_eq, cases_lt}
 use Rattle.lay_space.specs.declared.item.Mode.{Mode}
-use Rattle.lay_space.specs.declared.item.Mode.TheVariants.{Pre}
 use Rattle.lay_space.specs.declared.tokens.ClusterKind.{ClusterKind}
-use Rattle.lay_space.specs.declared.tokens.ClusterKind.TheVariants.{CollapsibleSpace, PreservedSpace, Linefeed, Tab, ZeroWidthSpace, Other}
+use Rattle.lay_space.specs.declared.tokens.ClusterKind.TheVariants.{PreservedSpace, Linefeed, Tab, ZeroWidthSpace, Other}
 use Rattle.lay_space.specs.Modes.{collapses, joins_lines}
 use Rattle.lay_space.specs.Segments.{is_boundary}
 use Rattle.lay_space.specs.Tokens.{is_byte, is_linefeed, is_zero_width_space, kind_of, space_kind}

@@ -1,10 +1,9 @@
 -- Whatever goes over a text cluster by cluster, and over text by its width alone, comes as far over the gathered text.
-use Rattle.std.proofs.Common.{◌≡◌, ℕ, ◌≤◌, ℤ, ◌+ℤ◌, Bool, true, false, ◌&&◌, if◌then◌else◌, List, [], ◌∷◌, ◌++◌, length, Option, Some, None, option_to_list, refl, sym, ap, ◌∙◌, subst, arith}
+use Rattle.std.proofs.Common.{◌≡◌, ℕ, ◌≤◌, ℤ, ◌+ℤ◌, Bool, true, false, if◌then◌else◌, List, [], ◌∷◌, ◌++◌, length, Option, Some, None, option_to_list, refl, sym, ap, ◌∙◌, arith}
 use Rattle.lay_units.specs.declared.records.ClusterWidth.{ClusterWidth}
-use Rattle.lay_space.specs.Segments.{is_boundary}
 use Rattle.lay_space.specs.SegmentLaws.{StandOnBoundaries}
 use Rattle.lay_space.specs.Tokens.{next_place}
-use Rattle.lay_items.specs.GatheredWidths.{gathered_after, goes_on, is_small, stands_alone, with_cluster}
+use Rattle.lay_items.specs.GatheredWidths.{gathered_after, goes_on, stands_alone, with_cluster}
 use Rattle.lay_word_laws.proofs.Plain.{IsPlain, cut_within, joined, plain_alone}
 
 -- over clusters, one after another

@@ -18,7 +18,8 @@ use Rattle.lay_measure.specs.LineWidths.{over_all}
 abbrev pub WordsAreTheirClusters : Type 0
 WordsAreTheirClusters =
     (fr : Frame) (p : LinePen) (node : ℕ) (m : Mode) (text : List ℕ) (widths : List ClusterWidth) → StandOnBoundaries text widths
-    → over_parts fr p (text_parts (record { node = node; mode = m }) text (gathered text widths)) ≡ over_parts fr p (text_parts (record { node = node; mode = m }) text widths)
+    → over_parts fr p (text_parts (record { node = node; mode = m }) text (gathered text widths))
+    ≡ over_parts fr p (text_parts (record { node = node; mode = m }) text widths)
 
 abbrev pub WordsMeasureAsTheirClusters : Type 0
 WordsMeasureAsTheirClusters =

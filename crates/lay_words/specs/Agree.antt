@@ -22,7 +22,8 @@ Reads None f sub = f ≡ [] → ⊥
 Reads (Some p) f sub = (f ≡ []) × ((rows : List Row) × (sub ≡ Some (p.0, rows)) × Gives rows p.1)
 
 abbrev pub ClapAgrees : Type 0
-ClapAgrees = (words : List Text) → list_any is_odd words ≡ false → Reads (parsed words) (fault_of our_app words) (subcommand_of our_app words)
+ClapAgrees = (words : List Text) → list_any is_odd words ≡ false
+    → Reads (parsed words) (fault_of our_app words) (subcommand_of our_app words)
 
 -- the number that was found for an option
 abbrev pub number_found : Text → Option ℕ → ℕ → ℕ → List Row → Option ℕ
@@ -32,7 +33,9 @@ abbrev pub run_found : List Row → Option Form
 run_found rows = run_with (number_found (codes "workers") (Some 4) 1 16 rows)
 
 abbrev pub gen_found : List Row → Option Form
-gen_found rows = gen_with (number_found (codes "size") None 1 1000 rows) (number_found (codes "seed") None 0 2147483647 rows) (number_found (codes "workers") (Some 4) 1 16 rows)
+gen_found rows =
+    gen_with (number_found (codes "size") None 1 1000 rows) (number_found (codes "seed") None 0 2147483647 rows)
+    (number_found (codes "workers") (Some 4) 1 16 rows)
 
 abbrev pub hit_found : List Row → Option Form
 hit_found rows = hit_with (number_found (codes "x") None 0 1000000 rows) (number_found (codes "y") None 0 1000000 rows)

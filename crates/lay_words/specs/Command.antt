@@ -16,13 +16,18 @@ plain name = let a = new_app name in record a { top = record a.top { disable_hel
 abbrev pub strict : App
 strict =
     let top = new_app (codes "lay") in
-    record top { top = record top.top { no_binary_name = true; disable_help_flag = true; disable_help_subcommand = true; subcommand_required = true } }
+    record top {
+      top =
+          record top.top { no_binary_name = true; disable_help_flag = true; disable_help_subcommand = true; subcommand_required = true };
+    }
 
 abbrev pub run_app : App
 run_app = with_rule (plain (codes "run")) (option_given (codes "workers"))
 
 abbrev pub gen_app : App
-gen_app = with_rule (with_rule (with_rule (plain (codes "gen")) (option_given (codes "size"))) (option_given (codes "seed"))) (option_given (codes "workers"))
+gen_app =
+    with_rule (with_rule (with_rule (plain (codes "gen")) (option_given (codes "size"))) (option_given (codes "seed")))
+    (option_given (codes "workers"))
 
 abbrev pub hit_app : App
 hit_app = with_rule (with_rule (plain (codes "hit")) (option_given (codes "x"))) (option_given (codes "y"))

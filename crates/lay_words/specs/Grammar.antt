@@ -6,7 +6,8 @@
 --     check
 -- Options come in any order, each at most once, as two words or as one with `=`. A value is 1 to 10 decimal digits.
 -- A word that is empty, that is `-` or `--`, or that begins with a single hyphen is in none of them.
-use Rattle.std.specs.Prelude.{ℕ, ◌+◌, ◌*◌, ◌-◌, ◌==◌, ◌≡◌, ◌≤◌, ◌&&◌, Bool, true, not, List, [], ◌∷◌, ◌++◌, length, codes, Option, Some, None, if◌then◌else◌, nat_le, nat_lt, flat_map}
+use Rattle.std.specs.Prelude.{ℕ, ◌+◌, ◌*◌, ◌-◌, ◌==◌, ◌≡◌, ◌≤◌, ◌&&◌, Bool, true, not, List, [], ◌∷◌, ◌++◌}
+use Rattle.std.specs.Prelude.{length, codes, Option, Some, None, if◌then◌else◌, nat_le, nat_lt, flat_map}
 use Rattle.std.specs.List.{list_all, list_any}
 use Rattle.std.specs.Str.{bytes_eq}
 use Rattle.std.specs.Char.{is_ascii_digit}
@@ -127,8 +128,11 @@ parsed (w ∷ ws) =
 abbrev pub form_named : Text → (Text → List Text) → Option Form
 form_named n values =
     if bytes_eq n (codes "run") then run_with (number_of (Some 4) 1 16 (values (codes "workers")))
-    else (if bytes_eq n (codes "gen") then gen_with (number_of None 1 1000 (values (codes "size"))) (number_of None 0 2147483647 (values (codes "seed"))) (number_of (Some 4) 1 16 (values (codes "workers")))
-    else (if bytes_eq n (codes "hit") then hit_with (number_of None 0 1000000 (values (codes "x"))) (number_of None 0 1000000 (values (codes "y")))
+    else (if bytes_eq n (codes "gen")
+    then gen_with (number_of None 1 1000 (values (codes "size"))) (number_of None 0 2147483647 (values (codes "seed")))
+    (number_of (Some 4) 1 16 (values (codes "workers")))
+    else (if bytes_eq n (codes "hit")
+    then hit_with (number_of None 0 1000000 (values (codes "x"))) (number_of None 0 1000000 (values (codes "y")))
     else (if bytes_eq n (codes "check") then Some Check
     else Some Scratch)))
 

@@ -1,6 +1,6 @@
 //! The number of an option.
 
-ghost use Rattle.std.specs.Prelude.{◌≡◌, ◌≤◌, ◌<◌, ◌^◌, IfSome, map, length};
+ghost use Rattle.std.specs.Prelude.{◌≡◌, ◌≤◌, ◌<◌, map, length};
 ghost use Rattle.lay_words.specs.Grammar.{all_digits, value_from, number_in, number_of};
 
 fn all_digits(text: &[u8]) -> bool

@@ -1,9 +1,9 @@
 //! Reading the words.
 
-ghost use Rattle.std.specs.Prelude.{◌≡◌, IfOk, codes, map, string_bytes, Some, None};
+ghost use Rattle.std.specs.Prelude.{◌≡◌, IfOk, map, string_bytes, Some, None};
 ghost use Rattle.clap.specs.Words.{found_of, rows_of, subcommand_rows_of};
 ghost use Rattle.lay_words.specs.Grammar.{form_of, gen_with, hit_with, run_with, number_of};
-ghost use Rattle.lay_words.specs.Agree.{form_in, gen_found, hit_found, number_found, run_found, values_at};
+ghost use Rattle.lay_words.specs.Agree.{form_in, gen_found, hit_found, number_found, run_found};
 
 use crate::command::command;
 use crate::form::Form;

@@ -1,16 +1,17 @@
 -- How large the numbers of a pass become, by the weight w of the boxes so far. Between a mark and the next lie at most a height
 -- and what a run's margins collapse to, or a float, which together are less than 2^36 units; lines reach at most 2^36 units
 -- further for each weight of theirs; and the first float lies within 2^51 units.
-use Rattle.std.specs.Prelude.{ℕ, ◌≡◌, ◌+◌, ◌*◌, ◌<◌, ◌≤◌, ℤ, pos, neg_ℤ, ◌+ℤ◌, ◌≤ℤ◌, ◌==◌, ◌&&◌, nat_lt, Bool, true, false, List, length, map, is_some, Option, Some, None}
+use Rattle.std.specs.Prelude.{ℕ, ◌≡◌, ◌+◌, ◌*◌, ◌<◌, ◌≤◌, ℤ, pos, neg_ℤ, ◌≤ℤ◌, ◌==◌, ◌&&◌, nat_lt}
+use Rattle.std.specs.Prelude.{Bool, true, false, List, length, map, is_some, Option, Some, None}
 use Rattle.lay_blocks.specs.declared.flow_box.FlowBox.{FlowBox}
 use Rattle.lay_blocks.specs.Boxes.{parent_at}
-use Rattle.lay_units.specs.Units.{limit}
+use Rattle.lay_units.specs.Units.{IsBoxSize, IsNear}
 use Rattle.lay_units.specs.declared.length.Unit.{Unit as Length}
+use Rattle.lay_units.specs.Lengths.{no_length}
 use Rattle.lay_flow.specs.declared.pass.Pass.{Pass}
 use Rattle.lay_flow.specs.declared.pass.RunStart.{RunStart}
 use Rattle.lay_flow.specs.declared.pass.RunStart.TheVariants.{At as starts_at, HangsFrom as hangs_from}
-use Rattle.lay_blocks.specs.Lengths.{length_at, no_length}
-use Rattle.lay_blocks.specs.BlockSizes.{IsBoxSize, IsNear}
+use Rattle.lay_blocks.specs.Lengths.{length_at}
 use Rattle.lay_blocks.specs.Children.{flag_at}
 use Rattle.lay_blocks.specs.MarginRuns.{block_at, parts_tops}
 use Rattle.lay_blocks.specs.BlockPositions.{is_solid}
@@ -28,19 +29,18 @@ IsStartNear w v = (neg_ℤ (reach w) ≤ℤ v) × (v ≤ℤ reach w)
 
 -- a clear edge of the box behind them
 abbrev pub IsEdgeNear : ℕ → ℤ → Type 0
-IsEdgeNear w v = (neg_ℤ (pos (2251799813685248 + 68719476736 * w + 2147483648)) ≤ℤ v) × (v ≤ℤ pos (2251799813685248 + 68719476736 * w + 2147483648))
+IsEdgeNear w v =
+    (neg_ℤ (pos (2251799813685248 + 68719476736 * w + 2147483648)) ≤ℤ v) × (v ≤ℤ pos (2251799813685248 + 68719476736 * w + 2147483648))
 
 -- a start of a run whose first top margin is that of the box behind them
 abbrev pub IsRunNear : ℕ → ℤ → Type 0
-IsRunNear w v = (neg_ℤ (pos (2251799813685248 + 68719476736 * w + 4294967296)) ≤ℤ v) × (v ≤ℤ pos (2251799813685248 + 68719476736 * w + 4294967296))
+IsRunNear w v =
+    (neg_ℤ (pos (2251799813685248 + 68719476736 * w + 4294967296)) ≤ℤ v) × (v ≤ℤ pos (2251799813685248 + 68719476736 * w + 4294967296))
 
 -- a mark of the box behind them
 abbrev pub IsMarkNear : ℕ → ℤ → Type 0
-IsMarkNear w v = (neg_ℤ (pos (2251799813685248 + 68719476736 * w + 6442450944)) ≤ℤ v) × (v ≤ℤ pos (2251799813685248 + 68719476736 * w + 6442450944))
-
--- what margins collapse to
-abbrev pub IsCollapseNear : ℤ → Type 0
-IsCollapseNear v = (neg_ℤ limit ≤ℤ v) × (v ≤ℤ limit)
+IsMarkNear w v =
+    (neg_ℤ (pos (2251799813685248 + 68719476736 * w + 6442450944)) ≤ℤ v) × (v ≤ℤ pos (2251799813685248 + 68719476736 * w + 6442450944))
 
 pub record StateFits (boxes : List FlowBox) (now : PassState) (p m : ℕ) : Type 0 where
   pub parent : p < m

@@ -32,5 +32,6 @@ IsAboveFloats floats clear hypothetical = (bottom : Option Length) × IsClearEdg
 -- from the box at k on
 abbrev pub IsEdgeWithout : List FlowBox → Pass → ℕ → ℤ → Type 0
 IsEdgeWithout boxes flow k edge =
-    (w : BlockLayout) → MayBe boxes (length flow.placing.places.items) flow.placing.extents.items w.extents → IsCandidate boxes w (clearances_of (state_of flow)) k → ((j : ℕ) → k ≤ j → flag_at w.runs.clears j ≡ false)
+    (w : BlockLayout) → MayBe boxes (length flow.placing.places.items) flow.placing.extents.items w.extents
+    → IsCandidate boxes w (clearances_of (state_of flow)) k → ((j : ℕ) → k ≤ j → flag_at w.runs.clears j ≡ false)
     → edge ≡ length_at w.places.marks k

@@ -1,6 +1,7 @@
 -- The columns that a pass leaves, an entry for each box, and their bounds: marks, heights, places, lines, and the corners that
 -- lines give to the floats that they met.
-use Rattle.std.specs.Prelude.{ℕ, ◌≡◌, ◌<◌, pos, false, List, ◌∷◌, ◌++◌, length, map}
+use Rattle.std.specs.Prelude.{ℕ, ◌≡◌, ◌<◌, pos, false, List, length, map}
+use Rattle.lay_units.specs.Units.{IsBoxSize, IsNear}
 use Rattle.lay_floats.specs.declared.requests.Place.{Place}
 use Rattle.lay_floats.specs.Within.{IsWithin}
 use Rattle.lay_flow.specs.declared.flow_columns.FlowColumns.{FlowColumns}
@@ -11,7 +12,6 @@ use Rattle.lay_blocks.specs.Lengths.{length_at}
 use Rattle.lay_blocks.specs.MarginRuns.{block_at}
 use Rattle.lay_blocks.specs.BlockPositions.{is_solid}
 use Rattle.lay_blocks.specs.BlockFloats.{Spot}
-use Rattle.lay_blocks.specs.BlockSizes.{IsBoxSize, IsNear}
 use Rattle.lay_blocks.specs.ContextFlow.{AreContextPlaces}
 use Rattle.lay_blocks.specs.FlowPlaces.{AreNearRows, border_box, box_place_at, own_place, corner_at, AreCorners}
 
@@ -44,4 +44,5 @@ pub record AreNearColumns (boxes : List FlowBox) (out : FlowColumns) : Type 0 wh
 pub record AreBorderBoxes (boxes : List FlowBox) (columns : FlowColumns) (out : List BoxPlace) : Type 0 where
   pub count : length out ≡ length boxes
   pub each : (k : ℕ) → k < length boxes → box_place_at out k
-      ≡ border_box (box_at boxes k).kind (record { 0 = length_at columns.tops.items k }) (record { 0 = length_at columns.heights.items k }) (own_place (box_at boxes k).kind (corner_at columns.places.items k) (corner_at columns.corners.items k))
+      ≡ border_box (box_at boxes k).kind (record { 0 = length_at columns.tops.items k }) (record { 0 = length_at columns.heights.items k })
+      (own_place (box_at boxes k).kind (corner_at columns.places.items k) (corner_at columns.corners.items k))

@@ -35,7 +35,8 @@ pub record ArePlacedOn (boxes : List FlowBox) (marks : List Length) (now : Placi
 
 -- from each way in which the boxes may be placed that have an entry it goes on to more
 abbrev pub GoesOn : List FlowBox → List Length → PlacingState → PlacingState → Type 0
-GoesOn boxes marks old new = (places : List Spot) → AreSpots old places → PlacesTo boxes marks (placing_of old places) (length old.places.items) → ArePlacedOn boxes marks new places
+GoesOn boxes marks old new = (places : List Spot) → AreSpots old places
+    → PlacesTo boxes marks (placing_of old places) (length old.places.items) → ArePlacedOn boxes marks new places
 
 -- the pass is at the place (p, m)
 pub record IsKnown (boxes : List FlowBox) (flow : Pass) (p m : ℕ) : Type 0 where

@@ -43,7 +43,8 @@ ArePlacesKept old new = (j : ℕ) → j < length old → spot_at new j ≡ spot_
 abbrev pub AreDecided : List FlowBox → Clearances → Placing → ℕ → Type 0
 AreDecided boxes decided placing m =
     (k : ℕ) → 0 < k → k < m → (shape_at boxes k).float ≡ None
-    → (y : BlockLayout) (places : List Spot) → MayBe boxes (length placing.places) placing.extents y.extents → IsCandidate boxes y decided m → ArePlacesKept placing.places places
+    → (y : BlockLayout) (places : List Spot) → MayBe boxes (length placing.places) placing.extents y.extents
+    → IsCandidate boxes y decided m → ArePlacesKept placing.places places
     → HasClearance boxes y places k
 
 -- the columns of clearance, as far as the boxes before m are decided
@@ -59,7 +60,8 @@ pub record AreClears (boxes : List FlowBox) (decided : Clearances) (m : ℕ) : T
 pub record Knows (boxes : List FlowBox) (now : PassState) (placing : Placing) (at : MarginPlace) : Type 0 where
   pub fits : StateFits boxes now at.inner at.next
   pub near : IsStartNear (weight boxes at.next) now.start
-  pub is_at : (y : BlockLayout) → MayBe boxes (length placing.places) placing.extents y.extents → IsCandidate boxes y (clearances_of now) at.next → IsAt boxes y now at
+  pub is_at : (y : BlockLayout) → MayBe boxes (length placing.places) placing.extents y.extents
+      → IsCandidate boxes y (clearances_of now) at.next → IsAt boxes y now at
   pub no_extents : HaveNoExtent boxes placing.extents
   pub placed : PlacesTo boxes now.marks placing (length placing.places)
   pub early : length placing.places ≤ now.first
@@ -70,7 +72,8 @@ pub record Knows (boxes : List FlowBox) (now : PassState) (placing : Placing) (a
 pub record IsReady (boxes : List FlowBox) (now : PassState) (placing : Placing) (k : ℕ) : Type 0 where
   pub fits : StateFits boxes now (parent_at boxes k) k
   pub near : IsEdgeNear (weight boxes k) now.start
-  pub is_before : (y : BlockLayout) → MayBe boxes (length placing.places) placing.extents y.extents → IsCandidate boxes y (clearances_of now) (k + 1) → IsBefore boxes y now k
+  pub is_before : (y : BlockLayout) → MayBe boxes (length placing.places) placing.extents y.extents
+      → IsCandidate boxes y (clearances_of now) (k + 1) → IsBefore boxes y now k
   pub no_extents : HaveNoExtent boxes placing.extents
   pub placed : PlacesTo boxes now.marks placing (length placing.places)
   pub early : length placing.places ≤ now.first

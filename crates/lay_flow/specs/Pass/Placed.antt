@@ -11,7 +11,8 @@ use Rattle.lay_floats.specs.Within.{BoxWithin, IsWithin}
 use Rattle.lay_blocks.specs.Lengths.{length_at}
 use Rattle.lay_blocks.specs.MarginRuns.{block_at}
 use Rattle.lay_blocks.specs.BlockPositions.{is_lines, is_solid}
-use Rattle.lay_blocks.specs.BlockFloats.{AreLinesAt, Spot, spot_at, shape_at, place_at, no_place, lines_at, no_lines, floats_before, float_request, solid_request, ceiling}
+use Rattle.lay_blocks.specs.BlockFloats.{AreLinesAt, Spot, spot_at, shape_at, place_at, no_place, lines_at}
+use Rattle.lay_blocks.specs.BlockFloats.{no_lines, floats_before, float_request, solid_request, ceiling}
 use Rattle.lay_blocks.specs.Weights.{weight}
 use Rattle.lay_flow.specs.Pass.Bounds.{reach}
 
@@ -37,13 +38,17 @@ pub record PlacesTo (boxes : List FlowBox) (marks : List Length) (now : Placing)
   pub near : (k : ℕ) → k < n → IsPlaceNear (weight boxes n) (spot_at now.places k)
   pub root : 0 < n → place_at now.places 0 ≡ no_place
   pub float : (k : ℕ) (side : Side) → 0 < k → k < n → (shape_at boxes k).float ≡ Some side
-      → IsFloatPlace (floats_before boxes now.places k) (float_request (shape_at boxes k) side (ceiling boxes marks k)) (place_at now.places k).x.0 (place_at now.places k).y.0
+      → IsFloatPlace (floats_before boxes now.places k) (float_request (shape_at boxes k) side (ceiling boxes marks k))
+      (place_at now.places k).x.0 (place_at now.places k).y.0
   pub solid : (k : ℕ) → 0 < k → k < n → is_solid (block_at boxes k).inside ≡ true
-      → IsSolidPlace (floats_before boxes now.places k) (solid_request (shape_at boxes k) (length_at marks k)) (place_at now.places k).x.0 (place_at now.places k).y.0
+      → IsSolidPlace (floats_before boxes now.places k) (solid_request (shape_at boxes k) (length_at marks k))
+      (place_at now.places k).x.0 (place_at now.places k).y.0
   pub extent : (k : ℕ) → 0 < k → k < n → is_solid (block_at boxes k).inside ≡ true
       → length_at now.extents k ≡ (place_at now.places k).y.0 -ℤ length_at marks k +ℤ (shape_at boxes k).height.0
-  pub low : (k : ℕ) → 0 < k → k < n → is_solid (block_at boxes k).inside ≡ true → IsWithin (reach (weight boxes n)) (length_at marks k +ℤ length_at now.extents k)
-  pub other : (k : ℕ) → 0 < k → k < n → (shape_at boxes k).float ≡ None → is_solid (block_at boxes k).inside ≡ false → place_at now.places k ≡ no_place
+  pub low : (k : ℕ) → 0 < k → k < n → is_solid (block_at boxes k).inside ≡ true
+      → IsWithin (reach (weight boxes n)) (length_at marks k +ℤ length_at now.extents k)
+  pub other : (k : ℕ) → 0 < k → k < n → (shape_at boxes k).float ≡ None → is_solid (block_at boxes k).inside ≡ false
+      → place_at now.places k ≡ no_place
   pub lines : (k : ℕ) → k < n → is_lines (block_at boxes k).inside ≡ true → AreLinesAt boxes marks now.places k
   pub lines_extent : (k : ℕ) → k < n → is_lines (block_at boxes k).inside ≡ true
       → length_at now.extents k ≡ (lines_at now.places k).end.0 -ℤ (length_at marks k +ℤ (block_at boxes k).edge_top.0)

@@ -55,8 +55,10 @@ pub record IsDone (y : BlockLayout) (now : Columns) (j : ℕ) : Type 0 where
 
 -- the boxes before the first that waits have their marks, as far as is known
 pub record Marked (boxes : List FlowBox) (y : BlockLayout) (now : Columns) : Type 0 where
-  pub stands : (j : ℕ) → j < now.first → flag_at now.through j ≡ false → flag_at y.runs.through j ≡ false → length_at now.marks j ≡ length_at y.places.marks j
-  pub inherits : (j : ℕ) → j < now.first → flag_at now.through j ≡ true → has_top (parent_at boxes j) (run_at y.runs.before_tops j) ≡ true → length_at now.marks j ≡ length_at now.marks (parent_at boxes j)
+  pub stands : (j : ℕ) → j < now.first → flag_at now.through j ≡ false → flag_at y.runs.through j ≡ false
+      → length_at now.marks j ≡ length_at y.places.marks j
+  pub inherits : (j : ℕ) → j < now.first → flag_at now.through j ≡ true
+      → has_top (parent_at boxes j) (run_at y.runs.before_tops j) ≡ true → length_at now.marks j ≡ length_at now.marks (parent_at boxes j)
 
 -- the columns are those of the layout y, as far as they are known at a place: boxes were opened up to there, and those of them
 -- that stand after the innermost open one or whose subtree ended were closed
@@ -65,7 +67,8 @@ pub record IsSoFar (boxes : List FlowBox) (y : BlockLayout) (now : Columns) (at 
   pub closed : (j : ℕ) → at.inner < j → j < at.next → IsDone y now j
   pub gone : (j i : ℕ) → j < i → i < at.next → parent_at boxes i < j → IsDone y now j
   pub marked : Marked boxes y now
-  pub kept : (j : ℕ) → j < at.next → flag_at now.through j ≡ true → has_top (parent_at boxes j) (run_at y.runs.before_tops j) ≡ false → length_at now.marks j ≡ length_at y.places.marks j
+  pub kept : (j : ℕ) → j < at.next → flag_at now.through j ≡ true → has_top (parent_at boxes j) (run_at y.runs.before_tops j) ≡ false
+      → length_at now.marks j ≡ length_at y.places.marks j
   pub fresh : (j : ℕ) → at.next ≤ j → flag_at now.through j ≡ false
   pub open_yet : (j : ℕ) → j ≤ at.inner → IsAround boxes j at.next → flag_at now.through j ≡ false
 
@@ -118,5 +121,7 @@ pub record Settled (boxes : List FlowBox) (run : RunEnd) (old new : List Length)
   pub before : (j : ℕ) → j < run.first → length_at new j ≡ length_at old j
   pub after : (j : ℕ) → run.next ≤ j → length_at new j ≡ length_at old j
   pub stands : (j : ℕ) → run.first ≤ j → j < run.next → flag_at run.through j ≡ false → length_at new j ≡ run.mark
-  pub keeps : (j : ℕ) → run.first ≤ j → j < run.next → flag_at run.through j ≡ true → parent_at boxes j < run.first → length_at new j ≡ length_at old j
-  pub inherits : (j : ℕ) → run.first ≤ j → j < run.next → flag_at run.through j ≡ true → run.first ≤ parent_at boxes j → length_at new j ≡ length_at new (parent_at boxes j)
+  pub keeps : (j : ℕ) → run.first ≤ j → j < run.next → flag_at run.through j ≡ true → parent_at boxes j < run.first
+      → length_at new j ≡ length_at old j
+  pub inherits : (j : ℕ) → run.first ≤ j → j < run.next → flag_at run.through j ≡ true
+      → run.first ≤ parent_at boxes j → length_at new j ≡ length_at new (parent_at boxes j)

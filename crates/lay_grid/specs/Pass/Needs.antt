@@ -4,7 +4,7 @@ use Rattle.std.specs.Prelude.{List, [], ◌∷◌, ◌++◌, length}
 use Rattle.std.specs.Prelude.{Option, Some, slice_get, slice_index_or}
 use Rattle.std.specs.List.{Contains}
 use Rattle.lay_units.specs.declared.length.Unit.{Unit}
-use Rattle.lay_grid.specs.Lengths.{IsWithin}
+use Rattle.lay_units.specs.Units.{IsWithinPower}
 use Rattle.lay_grid.specs.declared.heights.RowCell.{RowCell}
 use Rattle.lay_grid.specs.declared.needs.Need.{Need}
 use Rattle.lay_grid.specs.Heights.{IsEnough}
@@ -15,7 +15,7 @@ pub record IsNeed (cells : List RowCell) (cell : RowCell) (need : Need) : Type 0
   pub span : need.span ≡ cell.span
   pub enough : IsEnough cells cell cell.baseline need.room
   pub least : (room : ℤ) → IsEnough cells cell cell.baseline room → need.room ≤ℤ room
-  pub within : IsWithin 64 need.room
+  pub within : IsWithinPower 64 need.room
 
 -- how much room that is where the row of the cell has this baseline, or none
 abbrev pub room_of_baselines : ℤ → Option Unit → Option Unit → ℤ

@@ -1,8 +1,9 @@
 -- For each box the cells in it, of which only those of rows are asked.
 use Rattle.std.specs.Prelude.{ℕ, ◌≡◌, ◌≢◌, ◌<◌, List, [], ◌∷◌, ◌++◌, length, drop, slice_index_or}
 use Rattle.lay_box_tree.specs.declared.box_tree.BoxNode.{BoxNode}
+use Rattle.lay_box_tree.specs.Containers.{box_parent}
 use Rattle.lay_table_parts.specs.declared.rows.TableRow.{TableRow}
-use Rattle.lay_table_parts.specs.TableBoxes.{cells_of_row, is_cell_of, parent_at, places_from}
+use Rattle.lay_table_parts.specs.TableBoxes.{cells_of_row, is_cell_of, places_from}
 
 abbrev pub places_at : List (List ℕ) → ℕ → List ℕ
 places_at lists k = slice_index_or lists k []
@@ -26,4 +27,4 @@ pub record Adds (at place : ℕ) (before after : List (List ℕ)) : Type 0 where
 -- the row is one of the boxes and knows its parent
 pub record IsRowOf (boxes : List BoxNode) (row : TableRow) : Type 0 where
   pub within : row.place < length boxes
-  pub group : row.group ≡ parent_at boxes row.place
+  pub group : row.group ≡ box_parent boxes row.place

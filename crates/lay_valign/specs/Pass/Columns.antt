@@ -1,13 +1,10 @@
 -- The roots and the rises of the first n parts, and bounds of sums of lengths.
-use Rattle.std.specs.Prelude.{ℕ, ◌≡◌, ◌*◌, ◌^◌, ◌<◌, ◌≤◌, ℤ, pos, neg_ℤ, ◌≤ℤ◌, List, length}
+use Rattle.std.specs.Prelude.{ℕ, ◌≡◌, ◌*◌, ◌<◌, ◌≤◌, ℤ, pos, neg_ℤ, ◌≤ℤ◌, List, length}
 use Rattle.std.specs.Prelude.{slice_index, All}
+use Rattle.lay_units.specs.Units.{IsWithinPower}
 use Rattle.lay_valign.specs.declared.parts.Part.{Part}
 use Rattle.lay_valign.specs.Parts.{at}
 use Rattle.lay_valign.specs.Subtrees.{Subtrees, AreSubtrees, root_of, rise_of}
-
--- at most 2^n in absolute value
-abbrev pub IsWithin : ℕ → ℤ → Type 0
-IsWithin n v = (neg_ℤ (pos (2 ^ n)) ≤ℤ v) × (v ≤ℤ pos (2 ^ n))
 
 -- the rise of a part with so many before it
 abbrev pub IsRise : ℕ → ℤ → Type 0
@@ -31,8 +28,8 @@ StandFirst roots = (k : ℕ) → k < length roots → slice_index roots k ≤ k
 pub record SubtreesFit (parts : List Part) (s : Subtrees) : Type 0 where
   pub are_subtrees : AreSubtrees parts s
   pub first : StandFirst s.roots
-  pub rises : All (IsWithin 63) s.rises
+  pub rises : All (IsWithinPower 63) s.rises
   pub as_many_aboves : length s.aboves ≡ length parts
   pub as_many_belows : length s.belows ≡ length parts
-  pub aboves : All (IsWithin 64) s.aboves
-  pub belows : All (IsWithin 64) s.belows
+  pub aboves : All (IsWithinPower 64) s.aboves
+  pub belows : All (IsWithinPower 64) s.belows

@@ -2,11 +2,11 @@
 use Rattle.std.specs.Prelude.{ℕ, ◌≡◌, ◌<◌, ℤ, ◌≤ℤ◌, ◌⊎◌, List, [], ◌∷◌, ◌++◌, length, slice_index}
 use Rattle.std.specs.Prelude.{slice_set, All}
 use Rattle.std.specs.Int.{int_max}
+use Rattle.lay_units.specs.Units.{IsWithinPower}
 use Rattle.lay_valign.specs.declared.parts.LineEdge.{LineEdge}
 use Rattle.lay_valign.specs.declared.parts.Part.{Part}
 use Rattle.lay_valign.specs.Parts.{at}
 use Rattle.lay_valign.specs.LineShape.{IsAligned}
-use Rattle.lay_valign.specs.Pass.Columns.{IsWithin}
 
 -- v is the greatest value of the first n places whose root is this one
 pub record IsGreatestTo (roots : List ℕ) (value : ℕ → ℤ) (n root : ℕ) (v : ℤ) : Type 0 where
@@ -17,7 +17,7 @@ pub record ReachesTo (roots : List ℕ) (value : ℕ → ℤ) (n : ℕ) (reaches
   pub as_many : length reaches ≡ n
   pub each : (root : ℕ) → root < n → slice_index roots root ≡ root
       → IsGreatestTo roots value n root (at reaches root)
-  pub fits : All (IsWithin 64) reaches
+  pub fits : All (IsWithinPower 64) reaches
 
 -- one more value stands at the end, and that of its root is no less
 abbrev pub widened : List ℤ → ℕ → ℤ → List ℤ

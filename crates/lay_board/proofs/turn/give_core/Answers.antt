@@ -1,4 +1,4 @@
-use Rattle.std.proofs.Common.{◌≡◌, ◌∙◌, ap, arith, Some, None, [], ◌∷◌}
+use Rattle.std.proofs.Common.{◌∙◌, ap, arith, Some, None, []}
 use mathlib.Core.Option.{none}
 use Rattle.atomic_table.specs.Table.{step}
 use Rattle.lay_board.specs.Rules.{SeatView}

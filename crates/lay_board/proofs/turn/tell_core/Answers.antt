@@ -1,4 +1,4 @@
-use Rattle.std.proofs.Common.{◌≡◌, ◌∙◌, sym, ap, arith, refl, Some, None, [], ◌∷◌, length}
+use Rattle.std.proofs.Common.{◌∙◌, sym, ap, arith, refl, Some, None, [], length}
 use mathlib.Core.Option.{none}
 use Rattle.atomic_table.specs.Table.{step}
 use Rattle.lay_board.specs.Rules.{SeatView, grown, held_by, pass_view}

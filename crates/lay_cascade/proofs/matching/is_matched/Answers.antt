@@ -1,7 +1,6 @@
-use Rattle.std.proofs.Common.{◌≡◌, ◌∙◌, ◌<◌, ◌≤◌, ◌+◌, ◌-◌, [], Some, length, sym, ap, subst, rules, arith}
+use Rattle.std.proofs.Common.{◌≡◌, ◌∙◌, ◌<◌, ◌+◌, ◌-◌, Some, length, sym, ap, subst, rules, arith}
 use Rattle.std.specs.Prelude.{slice_index_or, ◌==◌}
 use Rattle.std.proofs.lemmas.Grind.{common_steps}
-use Rattle.lay_sheet.specs.declared.selector.Step.{Step}
 use Rattle.lay_cascade.specs.Rising.{AreWithin, AreBefore, with_fitting}
 use Rattle.lay_cascade.proofs.Leading.{IsLed, led_last, led_more, led_nowhere, led_first, first_step, some_left, none_left}
 use Rattle.lay_cascade.proofs.matching.is_matched.Goals as goal

@@ -1,4 +1,4 @@
-use Rattle.std.proofs.Common.{◌∙◌, refl, sym}
+use Rattle.std.proofs.Common.{◌∙◌, sym}
 use Rattle.lay_core.proofs.CleanCells.{told_clean}
 use Rattle.lay_document_cells.specs.Settling.{none}
 use Rattle.lay_core.proofs.publishing.settled.Goals as goal

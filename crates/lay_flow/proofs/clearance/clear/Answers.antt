@@ -1,4 +1,4 @@
-use Rattle.std.proofs.Common.{ℕ, refl, sym, ◌∙◌, subst}
+use Rattle.std.proofs.Common.{ℕ, refl, sym, subst}
 use Rattle.lay_flow.proofs.ClearSteps.{knows_placed, ready_unasked}
 use Rattle.lay_flow.proofs.PlacedOn.{known_placed, known_placed_on, places_count, placed_to}
 use Rattle.lay_blocks.specs.Boxes.{parent_at}

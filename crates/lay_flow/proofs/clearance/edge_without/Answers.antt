@@ -1,7 +1,7 @@
 use Rattle.std.proofs.Common.{ap, subst, sym, ℤ}
+use Rattle.lay_units.specs.Units.{IsNear}
 use Rattle.lay_flow.specs.Pass.Known.{placing_of}
 use Rattle.lay_flow.specs.Pass.Bounds.{IsEdgeNear, state_of, position_of, is_hanging}
-use Rattle.lay_blocks.specs.BlockSizes.{IsNear}
 use Rattle.lay_flow.specs.Pass.Clears.{IsEdgeWithout}
 use Rattle.lay_blocks.specs.Weights.{weight}
 use Rattle.lay_flow.proofs.PlacedOn.{edge_of}

@@ -1,11 +1,12 @@
 use Rattle.std.proofs.Common.{◌≡◌, false, ℕ, ◌+ℤ◌, pos, arith, subst, sym, List, ap, ◌∙◌, length}
 use Rattle.lay_units.specs.declared.length.Unit.{Unit as Length}
+use Rattle.lay_units.specs.Units.{IsNear}
 use Rattle.lay_floats.specs.declared.requests.Clear.TheVariants.{Both as clear_both}
 use Rattle.lay_heights.specs.AutoHeights.{root_height_of}
 use Rattle.lay_blocks.specs.declared.block.Block.{Block}
 use Rattle.lay_blocks.specs.Lengths.{length_at}
 use Rattle.lay_blocks.specs.BlockPositions.{border_height, is_solid, held_end}
-use Rattle.lay_blocks.specs.BlockSizes.{IsNear, IsLineDepth}
+use Rattle.lay_blocks.specs.BlockSizes.{IsLineDepth}
 use Rattle.lay_blocks.specs.Weights.{weight}
 use Rattle.lay_flow.specs.Pass.Bounds.{state_of, IsMarkNear}
 use Rattle.lay_flow.specs.Pass.Knows.{AreExtentsKept}

@@ -3,9 +3,9 @@ use Rattle.lay_blocks.specs.BlockPositions.{is_solid}
 use Rattle.lay_blocks.specs.MarginRuns.{block_at}
 use Rattle.std.proofs.Common.{◌≡◌, false, arith, subst, sym, List, ap}
 use Rattle.lay_units.specs.declared.length.Unit.{Unit as Length}
+use Rattle.lay_units.specs.Units.{IsNear}
 use Rattle.lay_blocks.specs.Lengths.{length_at}
 use Rattle.lay_flow.specs.Pass.Known.{placing_of}
-use Rattle.lay_blocks.specs.BlockSizes.{IsNear}
 use Rattle.lay_flow.specs.Pass.Bounds.{state_of}
 use Rattle.lay_blocks.proofs.WeightFacts.{light_at}
 use Rattle.lay_blocks.specs.Weights.{weight}

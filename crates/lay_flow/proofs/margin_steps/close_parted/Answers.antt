@@ -1,9 +1,9 @@
 use Rattle.std.proofs.Common.{◌≡◌, ◌<◌, ℕ, false, arith, subst, sym, List, ap, ◌∙◌, length, refl}
-use Rattle.lay_units.specs.Units.{IsPosition}
+use Rattle.lay_units.specs.Units.{IsPosition, IsBoxSize, IsNear}
 use Rattle.lay_units.specs.declared.length.Unit.{Unit as Length}
 use Rattle.lay_blocks.specs.declared.block.Block.{Block}
 use Rattle.lay_blocks.specs.Lengths.{length_at}
-use Rattle.lay_blocks.specs.BlockSizes.{IsBoxSize, IsNear, IsLineDepth}
+use Rattle.lay_blocks.specs.BlockSizes.{IsLineDepth}
 use Rattle.lay_blocks.specs.BlockPositions.{is_solid}
 use Rattle.lay_blocks.specs.MarginRuns.{block_at}
 use Rattle.lay_flow.specs.Pass.Bounds.{state_of, IsMarkNear}

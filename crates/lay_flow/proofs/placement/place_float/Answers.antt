@@ -1,4 +1,4 @@
-use Rattle.std.proofs.Common.{◌≡◌, ◌+◌, arith, refl, sym, ap, ◌∙◌, subst, false}
+use Rattle.std.proofs.Common.{◌≡◌, arith, refl, sym, ap, ◌∙◌, subst, false}
 use Rattle.lay_floats.specs.declared.requests.FloatReq.{FloatReq}
 use Rattle.lay_floats.specs.Fits.{BoxFits, RequestFits}
 use Rattle.lay_floats.specs.FloatPlace.{IsFloatPlace, placed_at}

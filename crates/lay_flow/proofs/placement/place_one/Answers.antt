@@ -1,4 +1,4 @@
-use Rattle.std.proofs.Common.{rules, ◌+◌, ap}
+use Rattle.std.proofs.Common.{rules, ap}
 use Rattle.lay_floats.specs.declared.requests.Place.{Place}
 use Rattle.lay_blocks.specs.BlockFloats.{Spot, no_lines}
 use Rattle.lay_flow.specs.Pass.Known.{placing_of}

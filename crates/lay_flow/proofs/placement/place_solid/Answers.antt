@@ -3,10 +3,10 @@ use Rattle.lay_floats.specs.declared.requests.SolidReq.{SolidReq}
 use Rattle.lay_floats.specs.Fits.{SolidFits}
 use Rattle.lay_floats.specs.SolidPlace.{IsSolidPlace}
 use Rattle.lay_units.specs.declared.length.Unit.{Unit as Length}
+use Rattle.lay_units.specs.Units.{IsNear}
 use Rattle.lay_blocks.specs.Lengths.{length_at}
 use Rattle.lay_blocks.specs.BlockFloats.{Spot, no_lines, solid_request, shape_at}
 use Rattle.lay_blocks.specs.Weights.{weight}
-use Rattle.lay_blocks.specs.BlockSizes.{IsNear}
 use Rattle.lay_flow.specs.Pass.Known.{placing_of}
 use Rattle.lay_blocks.proofs.BlockKinds.{solid_placed}
 use Rattle.lay_blocks.proofs.FlowBoxFacts.{positive_solid, shape_fits, solid_flows}

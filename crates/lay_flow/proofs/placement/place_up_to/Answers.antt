@@ -1,4 +1,4 @@
-use Rattle.std.proofs.Common.{◌≡◌, arith, ◌∙◌}
+use Rattle.std.proofs.Common.{arith, ◌∙◌}
 use Rattle.lay_flow.proofs.PlacedOn.{goes_further, placed_count, placed_further}
 use Rattle.lay_flow.proofs.placement.place_up_to.Goals as goal
 

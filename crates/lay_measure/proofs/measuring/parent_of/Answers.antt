@@ -1,5 +1,6 @@
 use Rattle.std.proofs.Common.{◌≡◌, arith, get_or, ap}
-use Rattle.lay_measure.proofs.ChildrenBefore.{length-parents, parent_at}
+use Rattle.lay_box_tree.proofs.BoxForests.{length-parents}
+use Rattle.lay_measure.proofs.ChildrenBefore.{parent_at}
 use Rattle.lay_measure.proofs.measuring.parent_of.Goals as goal
 
 pub returns-clause-before : goal.returns-clause-before

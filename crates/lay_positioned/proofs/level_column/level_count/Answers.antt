@@ -1,4 +1,4 @@
-use Rattle.std.proofs.Common.{◌<◌, arith}
+use Rattle.std.proofs.Common.{arith}
 use Rattle.lay_positioned.proofs.LevelSteps.{all_below}
 use Rattle.lay_positioned.proofs.level_column.level_count.Goals as goal
 use Rattle.lay_positioned.proofs.level_column.level_count.Goals.{then-levels-k, else-levels-k}

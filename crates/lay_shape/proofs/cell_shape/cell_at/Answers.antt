@@ -1,4 +1,4 @@
-use Rattle.std.proofs.Common.{◌≡◌, List, slice_index_or, subst}
+use Rattle.std.proofs.Common.{List, slice_index_or, subst}
 use Rattle.std.proofs.lemmas.Option.{slice_get-get_or}
 use Rattle.lay_layout.specs.cells.Shapes.{IsIn}
 use Rattle.lay_layout.specs.context.declared.task.Phase.TheVariants.{Measure}

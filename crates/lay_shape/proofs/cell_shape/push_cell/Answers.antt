@@ -3,10 +3,9 @@ use Rattle.lay_layout.specs.units.Limits.{most_nodes}
 use Rattle.lay_layout.specs.cells.Shapes.{Entry, IsEachOnce, IsIn}
 use Rattle.lay_shape.specs.declared.cell_key.CellKey.{CellKey}
 use Rattle.lay_shape.specs.declared.context_phase.ContextPhase.{ContextPhase}
-use Rattle.lay_shape.specs.Building.{entries_to}
 use Rattle.lay_shape.specs.Dependencies.{needs_of}
 use Rattle.lay_shape.specs.Keys.{key_of}
-use Rattle.lay_shape.specs.Shapes.{cells_of, entry_of}
+use Rattle.lay_shape.specs.Shapes.{entry_of}
 use Rattle.lay_shape.proofs.BuildSteps.{entries_more, next_entry}
 use Rattle.lay_shape.proofs.cell_shape.push_cell.Goals as goal
 

@@ -1,8 +1,8 @@
-use Rattle.std.proofs.Common.{rules, ◌≡◌, ◌<◌, ◌++◌, ◌∷◌, [], ap, arith, length, refl, slice_index, slice_index_or, slice_set, ◌∙◌}
+use Rattle.std.proofs.Common.{rules, ◌≡◌, ◌++◌, ◌∷◌, [], ap, arith, length, refl, slice_index_or, ◌∙◌}
 use Rattle.std.proofs.lemmas.List.FromFn.{length-map-range_with_len}
 use Rattle.lay_shape.specs.Building.{levels_of}
 use Rattle.lay_shape.specs.Levels.{level_of}
-use Rattle.lay_shape.proofs.BuildSteps.{level_listed, level_small, none_by_level}
+use Rattle.lay_shape.proofs.BuildSteps.{level_listed, level_small}
 use Rattle.lay_shape.proofs.levels.by_level.Goals as goal
 
 pub level_at-level-requires : goal.level_at-level-requires

@@ -1,4 +1,4 @@
-use Rattle.std.proofs.Common.{◌≡◌, ◌∙◌, ◌++◌, [], refl, sym, true, false, length, rules, arith}
+use Rattle.std.proofs.Common.{◌≡◌, ◌∙◌, ◌++◌, [], refl, sym, true, false, rules, arith}
 use Rattle.std.proofs.lemmas.Grind.{common_steps}
 use Rattle.lay_sheet.specs.Declarations.{declaration_of}
 use Rattle.lay_sheet.specs.Pieces.{block_to}

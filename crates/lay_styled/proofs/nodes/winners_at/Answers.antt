@@ -1,7 +1,6 @@
-use Rattle.std.proofs.Common.{◌≡◌, ◌<◌, ◌++◌, List, [], Some, length, subst, sym, arith, rules}
+use Rattle.std.proofs.Common.{◌≡◌, ◌<◌, ◌++◌, [], Some, length, subst, arith, rules}
 use Rattle.std.proofs.lemmas.Grind.{common_steps}
-use Rattle.lay_styled.specs.declared.entry.Entry.{Entry}
-use Rattle.lay_styled.specs.Index.{listed, of_classes, looked_up}
+use Rattle.lay_styled.specs.Index.{listed, of_classes}
 use Rattle.lay_styled.specs.Seen.{AreWinnersOf}
 use Rattle.lay_styled.proofs.Taking.{none_yet}
 use Rattle.lay_styled.proofs.Looking.{looked_up_is, all_looked_up}

@@ -1,5 +1,4 @@
 use Rattle.std.proofs.Common.{◌≤◌, length, ap, arith, rules}
-use Rattle.std.proofs.lemmas.Grind.{common_steps}
 use Rattle.lay_styled.proofs.Looking.{indexed_next, indexed_rule}
 use Rattle.lay_styled.proofs.selector_index.add_rule.Goals as goal
 

@@ -1,7 +1,6 @@
 use Rattle.std.proofs.Common.{◌≡◌, ◌∙◌, true, false, ap, arith, rules}
 use Rattle.std.specs.Prelude.{◌||◌, not}
 use Rattle.std.proofs.lemmas.Grind.{common_steps}
-use Rattle.lay_doc.specs.Document.{Document}
 use Rattle.lay_doc.specs.Changes.{changed_at}
 use Rattle.lay_styled.specs.Taken.{declares_at, takes_one}
 use Rattle.lay_styled.proofs.Restyling.{takes_set, takes_none, same_nodes}

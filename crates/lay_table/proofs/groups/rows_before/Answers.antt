@@ -1,7 +1,7 @@
-use Rattle.std.proofs.Common.{◌≡◌, ◌+◌, ◌-◌, length, slice_index, true, false, sym, ap, ◌∙◌, arith}
+use Rattle.std.proofs.Common.{◌≡◌, ◌-◌, true, false, sym, ap, ◌∙◌, arith}
 use Rattle.lay_table.specs.declared.groups.OuterGroups.{OuterGroups}
 use Rattle.lay_table.specs.Groups.{is_at}
-use Rattle.lay_table.proofs.GroupSteps.{counted_body, counted_footer, counted_header, few_before, few_within}
+use Rattle.lay_table.proofs.GroupSteps.{counted_body, counted_footer, counted_header, few_before}
 use Rattle.lay_table.proofs.groups.rows_before.Goals as goal
 
 pub returns-then-is_at-clause-value : goal.returns-then-is_at-clause-value

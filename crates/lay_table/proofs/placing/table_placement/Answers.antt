@@ -1,8 +1,7 @@
 use Rattle.std.proofs.Common.{rules, ◌≡◌, ◌∙◌, refl, length}
 use Rattle.lay_table.specs.PlaceBounds.{AreStandings}
 use Rattle.lay_table.specs.TablePieces.{pieces_to}
-use Rattle.lay_table.specs.TablePlacements.{placement_of, standings_to}
-use Rattle.lay_table.specs.TableStandings.{HasTablePlaces, TablePlaces}
+use Rattle.lay_table.specs.TableStandings.{HasTablePlaces}
 use Rattle.lay_table.proofs.StandingSteps.{are_all}
 use Rattle.lay_table.proofs.placing.table_placement.Goals as goal
 

@@ -1,5 +1,4 @@
-use Rattle.std.proofs.Common.{◌≡◌, ℕ, ◌+◌, ◌<◌, [], ◌∷◌, ◌++◌, length, length-append, arith}
-use Rattle.lay_pieces.specs.declared.standing.Standing.{Standing}
+use Rattle.std.proofs.Common.{◌≡◌, ◌+◌, [], ◌∷◌, ◌++◌, length, length-append, arith}
 use Rattle.lay_pieces.specs.Standings.{IsStandingNear, no_standing}
 use Rattle.lay_table_rows.proofs.ColumnSteps.{one_more}
 use Rattle.lay_table.specs.TableStandings.{group_or_none}

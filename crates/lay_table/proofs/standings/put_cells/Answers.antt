@@ -1,7 +1,6 @@
-use Rattle.std.proofs.Common.{◌≡◌, ◌+◌, ◌<◌, ℕ, length, ap, sym, ◌∙◌, subst, arith}
-use Rattle.lay_pieces.specs.Standings.{standing_at}
+use Rattle.std.proofs.Common.{◌≡◌, length, ◌∙◌, arith}
 use Rattle.lay_table_borders.specs.declared.grid.TableCell.{TableCell}
-use Rattle.lay_table.specs.TableStandings.{cell_places, cell_standing, number_in, standing_by}
+use Rattle.lay_table.specs.TableStandings.{cell_places, cell_standing}
 use Rattle.lay_table.proofs.ColumnSteps.{length_mapped}
 use Rattle.lay_table.proofs.StandingSteps.{one_more}
 use Rattle.lay_table.proofs.standings.put_cells.Goals as goal

@@ -1,4 +1,4 @@
-use Rattle.std.proofs.Common.{rules, ◌≡◌, ◌≤◌, length, ap, ◌∙◌}
+use Rattle.std.proofs.Common.{rules, ◌≤◌, length, ap, ◌∙◌}
 use Rattle.lay_blocks.specs.FlowPlaces.{IsFlowOf}
 use Rattle.lay_blocks.specs.Weights.{weight}
 use Rattle.lay_table.proofs.WrapperBoxes.{are_wrapper_boxes, as_many_boxes}

@@ -1,7 +1,5 @@
-use Rattle.std.proofs.Common.{rules, ◌≡◌, length, sym, ap, ◌∙◌, subst, ℕ, List}
-use Rattle.lay_grid.specs.declared.heights.RowCell.{RowCell}
+use Rattle.std.proofs.Common.{rules, ◌≡◌, length, ◌∙◌, subst}
 use Rattle.lay_grid.specs.declared.heights.RowsIn.{RowsIn}
-use Rattle.lay_grid.specs.RowBaselines.{AreRowBaselines}
 use Rattle.lay_table_rows.specs.RowNeeds.{needs_of, rows_in}
 use Rattle.lay_table_rows.specs.TableRows.{AreTracks, bottoms_of}
 use Rattle.lay_table_rows.proofs.row_heights.table_rows.Goals as goal

@@ -1,4 +1,4 @@
-use Rattle.std.proofs.Common.{rules, ◌≡◌, ◌<◌, ◌^◌, length, ap, sym, subst, ◌∙◌, ℕ, arith}
+use Rattle.std.proofs.Common.{rules, ◌<◌, ◌^◌, length, ap, sym, subst, ◌∙◌, ℕ, arith}
 use Rattle.std.specs.List.{All}
 use Rattle.lay_units.specs.Units.{IsUsedSize}
 use Rattle.lay_units.specs.declared.length.Unit.{Unit as Length}

@@ -1,10 +1,10 @@
 use Rattle.std.specs.Int.{w128}
 use Rattle.std.proofs.Common.{◌≡◌, ◌+◌, ◌+ℤ◌, ap, sym, subst, ◌∙◌, arith, get_or, pos, to_z, of_z}
 use Rattle.std.proofs.lemmas.Int.{ints}
+use Rattle.lay_units.specs.Units.{IsWithinPower}
 use Rattle.lay_valign.specs.declared.parts.Part.{Part}
 use Rattle.lay_valign.specs.Parts.{at}
 use Rattle.lay_valign.specs.Subtrees.{above_of}
-use Rattle.lay_valign.specs.Pass.Columns.{IsWithin}
 use Rattle.lay_valign.specs.Pass.Reaches.{ReachesTo, widened}
 use Rattle.lay_valign.proofs.Widened.{reaches_more}
 use Rattle.lay_valign.proofs.reaches.aboves_of.Goals as goal
@@ -22,5 +22,5 @@ loop-k-preserved c =
     let new : c.widen.new.reaches.items ≡ widened c.loop-k.aboves.items (get_or c.args.roots.now c.loop-k.k 0) (value c.loop-k.k) =
     c.in_ok-widen.ensures ∙ ap (widened c.loop-k.aboves.items (get_or c.args.roots.now c.loop-k.k 0)) (w ∙ e) in
     let more = reaches_more c.args.roots.now value c.loop-k.aboves.items c.loop-k.k c.requires.first (omega (arith, few, lt)) c.loop-k.invariant
-    (subst (IsWithin 64) e c.sum.ensures.within) in
+    (subst (IsWithinPower 64) e c.sum.ensures.within) in
     subst (ReachesTo c.args.roots.now value (c.loop-k.k + 1)) (sym new) more

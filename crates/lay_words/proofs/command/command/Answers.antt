@@ -1,7 +1,7 @@
 use Rattle.std.proofs.Common.{rules, ap, ap₂, ◌≡◌, ◌∙◌, codes}
 use Rattle.std.proofs.lemmas.Result.{IfOk-weaker}
 use Rattle.clap.specs.Words.{App, app_of, with_subcommand}
-use Rattle.lay_words.specs.Command.{gen_app, hit_app, plain, run_app, strict, with_options}
+use Rattle.lay_words.specs.Command.{gen_app, plain, run_app, strict, with_options}
 use Rattle.lay_words.proofs.command.command.Goals as goal
 
 pub returns : goal.returns

@@ -1,9 +1,10 @@
 use Rattle.std.proofs.Common.{◌≡◌, ◌+◌, ◌∷◌, ◌++◌, [], true, drop, reverse, arith, sym, ap, ◌∙◌, subst, rules}
 use Rattle.lay_box_tree.specs.Roles.{role_of}
+use Rattle.lay_box_tree.proofs.BoxForests.{length-parents}
 use Rattle.lay_space.specs.declared.item.Item.TheVariants as item
 use Rattle.lay_items.specs.InlineItems.{items_below}
 use Rattle.lay_items.specs.OpenBoxes.{Fall, all_items, innermost, is_inline}
-use Rattle.lay_items.proofs.OpenInlines.{over, parent_at, past_skipped, past_inline, past_leaf, fall_up, fall_low, length-parents}
+use Rattle.lay_items.proofs.OpenInlines.{over, parent_at, past_skipped, past_inline, past_leaf, fall_up, fall_low}
 use Rattle.lay_items.proofs.open_boxes.OpenBoxes.put.Goals as goal
 
 pub close_to-requires-clause-over : goal.close_to-requires-clause-over

@@ -1,8 +1,8 @@
 use Rattle.std.proofs.Common.{rules, ◌≡◌, true, false, get_or, ◌+◌, slice_range, ap, ◌∙◌, pos}
 use Rattle.std.specs.Int.{int_max}
 use Rattle.lay_units.specs.declared.length.Unit.{Unit as Length}
+use Rattle.lay_units.specs.Lengths.{no_length}
 use Rattle.lay_measure.specs.LineWidths.{ends_line, line_width}
-use Rattle.lay_measure.specs.MeasureInValue.{no_length}
 use Rattle.lay_measure.specs.WidestLine.{widest_with}
 use Rattle.lay_measure.specs.declared.line_parts.LinePart.{LinePart}
 use Rattle.lay_measure.specs.declared.line_parts.LinePart.TheVariants as part

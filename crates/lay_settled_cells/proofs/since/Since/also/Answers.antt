@@ -1,4 +1,4 @@
-use Rattle.std.proofs.Common.{◌≡◌, ◌+◌, ◌∙◌, ℕ, suc, take, Bool, true, false, List, Some, slice_get, slice_set, arith, ap, sym}
+use Rattle.std.proofs.Common.{◌≡◌, ◌+◌, ◌∙◌, ℕ, suc, take, Bool, true, false, List, Some, slice_set, arith, ap}
 use Rattle.std.proofs.lemmas.Option.{slice_get-get_or}
 use Rattle.lay_settled_cells.specs.Since.{either}
 use Rattle.lay_settled_cells.proofs.EitherFlags.{either_none, either_set, either_skip}

@@ -1,4 +1,4 @@
-use Rattle.std.proofs.Common.{◌≡◌, ◌∙◌, ap, sym}
+use Rattle.std.proofs.Common.{◌∙◌, ap, sym}
 use Rattle.lay_layout.proofs.lay_cells.Lists.{some_inj}
 use Rattle.lay_cell_steps.specs.shape.declared.context_phase.ContextPhase.{ContextPhase}
 use Rattle.lay_settled_cells.proofs.NeedPlaces.{need_listed, need_within}
