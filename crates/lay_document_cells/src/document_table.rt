@@ -96,8 +96,10 @@ impl DocumentTable {
     ) -> Result<Option<StyledNodes>, NoMemory>
         requires styles { HasStyles (parents_of doc.now.nodes) (declarations_of doc.now.nodes) self.now.styles }
         requires later { later.now ≡ after_all doc.now edits.now }
-        ensures styles { IfOk result (λ o. IfSome o (λ s. HasStyles (parents_of later.now.nodes) (declarations_of later.now.nodes) (arc_value s.styles))) }
-        ensures made { IfOk result (λ o. IfSome o (λ s. AreMadeAnew doc.now.nodes later.now.nodes self.now.styles (arc_value s.styles) s.made.items)) }
+        ensures styles { IfOk result
+            (λ o. IfSome o (λ s. HasStyles (parents_of later.now.nodes) (declarations_of later.now.nodes) (arc_value s.styles))) }
+        ensures made { IfOk result
+            (λ o. IfSome o (λ s. AreMadeAnew doc.now.nodes later.now.nodes self.now.styles (arc_value s.styles) s.made.items)) }
     {
         let Some(changed) = changed_nodes(alloc, doc, edits)? else {
             return Ok(None);

@@ -14,7 +14,8 @@ IsNoPlace places k = (j : ℕ) → j < length places → slice_index places j �
 pub record AreNearTo (nodes : List Node) (styles : List Style) (places near : List ℕ) (n : ℕ) : Type 0 where
   pub count : length near ≡ n
   pub own : (i : ℕ) → i < length places → slice_index places i < n → slice_index near (slice_index places i) ≡ i
-  pub around : (k i : ℕ) → k < n → IsNoPlace places k → i < length places → IsAround nodes styles k (slice_index places i) → slice_index near k ≡ i
+  pub around : (k i : ℕ) → k < n → IsNoPlace places k → i < length places → IsAround nodes styles k (slice_index places i)
+      → slice_index near k ≡ i
 
 -- so many places stand before k
 pub record ArePassed (places : List ℕ) (next k : ℕ) : Type 0 where
@@ -44,4 +45,5 @@ pub record MarksNearest (nodes : List Node) (near : List ℕ) (k : ℕ) (before 
 pub record AreReached (nodes : List Node) (styles : List Style) (places : List ℕ) (made reached : List Bool) : Type 0 where
   pub count : length reached ≡ length places
   pub own : (i : ℕ) → i < length places → is_made reached i ≡ false → is_made made (slice_index places i) ≡ false
-  pub around : (i k : ℕ) → i < length places → is_made reached i ≡ false → k < length nodes → IsAround nodes styles k (slice_index places i) → is_made made k ≡ false
+  pub around : (i k : ℕ) → i < length places → is_made reached i ≡ false → k < length nodes
+      → IsAround nodes styles k (slice_index places i) → is_made made k ≡ false

@@ -14,7 +14,8 @@ pub record SameBoxes (ns ms : List Node) (ss ts : List Style) : Type 0 where
   pub parents : parents_of ms ≡ parents_of ns
   pub box : (k : ℕ) → box_at ms ts k ≡ box_at ns ss k
 
-pub record AreRebuilt (ns ms : List Node) (ss ts : List Style) (contexts : List Context) (places : List ℕ) (reached : List Bool) : Type 0 where
+pub record AreRebuilt (ns ms : List Node) (ss ts : List Style) (contexts : List Context) (places : List ℕ) (reached : List Bool)
+    : Type 0 where
   pub places_are : ArePlacesOf contexts places
   pub flags : length reached ≡ length contexts
   pub ids : ids_of ms ≡ ids_of ns

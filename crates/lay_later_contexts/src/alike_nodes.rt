@@ -43,7 +43,8 @@ fn stays_alike(of: &DocPair<'_>, made: &[bool], k: usize) -> bool
     requires flags { k < length made.now }
     requires here { k < length of.now.doc.now.nodes }
     requires there { k < length of.now.later.now.nodes }
-    ensures { IsTrue result → is_made made.now k ≡ true → IsAlikeNode of.now.doc.now.nodes of.now.later.now.nodes of.now.was.now of.now.styles.now k }
+    ensures { IsTrue result → is_made made.now k ≡ true
+        → IsAlikeNode of.now.doc.now.nodes of.now.later.now.nodes of.now.was.now of.now.styles.now k }
 {
     !made[k] || is_alike_node(of, k)
 }
@@ -54,7 +55,8 @@ pub(crate) fn are_alike_nodes(of: &DocPair<'_>, made: &[bool]) -> bool
     requires later_styles { length of.now.styles.now ≡ length of.now.later.now.nodes }
     requires count { length made.now ≡ length of.now.doc.now.nodes }
     requires as_many { length of.now.later.now.nodes ≡ length of.now.doc.now.nodes }
-    ensures { IsTrue result → AreAlikeTo of.now.doc.now.nodes of.now.later.now.nodes of.now.was.now of.now.styles.now made.now (length of.now.doc.now.nodes) }
+    ensures { IsTrue result
+        → AreAlikeTo of.now.doc.now.nodes of.now.later.now.nodes of.now.was.now of.now.styles.now made.now (length of.now.doc.now.nodes) }
 {
     for k in 0..made.len() {
         if !stays_alike(of, made, k) {

@@ -36,7 +36,8 @@ pub(crate) fn built(
     requires styles { length of.now.was.now ≡ length of.now.doc.now.nodes }
     requires later_styles { length of.now.styles.now ≡ length of.now.later.now.nodes }
     requires before { AreContextsOf of.now.doc.now.nodes of.now.was.now before.now }
-    requires rebuilt { AreRebuilt of.now.doc.now.nodes of.now.later.now.nodes of.now.was.now of.now.styles.now before.now places.now reached.items }
+    requires rebuilt { AreRebuilt of.now.doc.now.nodes of.now.later.now.nodes of.now.was.now of.now.styles.now before.now places.now
+        reached.items }
     ensures are { IfOk result (λ o. IfSome o (λ l. AreContextsOf of.now.later.now.nodes of.now.styles.now l.contexts)) }
     ensures made { IfOk result (λ o. IfSome o (λ l. IfSome l.made (λ v. AreRestyled before.now l.contexts v.items))) }
 {
@@ -56,7 +57,8 @@ pub(crate) fn built(
     }))
 }
 
-/// The boxes of a context after an edit, whose element is at this place: made anew, or shared. None where more than styles and texts differ.
+/// The boxes of a context after an edit, whose element is at this place: made anew, or shared.
+/// None where more than styles and texts differ.
 fn boxes_after(
     alloc: Global,
     of: &DocPair<'_>,

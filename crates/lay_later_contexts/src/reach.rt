@@ -55,7 +55,8 @@ pub(crate) fn reach_of(of: &EditedDoc<'_>, places: &[usize], node: NodeId) -> Re
 fn number_around(of: &EditedDoc<'_>, places: &[usize], place: usize) -> Option<usize>
     requires places { AreContextPlaces of.now.doc.now.nodes of.now.was.now places.now }
     requires within { place < length of.now.doc.now.nodes }
-    ensures { (i : ℕ) → i < length places.now → IsAround of.now.doc.now.nodes of.now.was.now place (slice_index places.now i) → result ≡ Some i }
+    ensures { (i : ℕ) → i < length places.now → IsAround of.now.doc.now.nodes of.now.was.now place (slice_index places.now i)
+        → result ≡ Some i }
 {
     let _ = of.doc.nodes();
     let mut at = place;

@@ -101,9 +101,13 @@ fn push_styled(
     requires here { length styles.old.items < length nodes.now }
     requires count { length was.now ≡ length nodes.now }
     requires known { StylesTo (parents_of nodes.now) (declarations_of nodes.now) styles.old.items (length styles.old.items) }
-    requires kept { is_made ≡ false → IsStyleOf (parents_of nodes.now) (declarations_of nodes.now) styles.old.items (style_at was.now (length styles.old.items)) (length styles.old.items) }
-    ensures styles { OnOk result (StylesTo (parents_of nodes.now) (declarations_of nodes.now) styles.new.items (length styles.old.items + 1)) }
-    ensures kept { OnOk result (is_made ≡ false → style_at styles.new.items (length styles.old.items) ≡ style_at was.now (length styles.old.items)) }
+    requires kept { is_made ≡ false
+        → IsStyleOf (parents_of nodes.now) (declarations_of nodes.now) styles.old.items
+        (style_at was.now (length styles.old.items)) (length styles.old.items) }
+    ensures styles { OnOk result
+        (StylesTo (parents_of nodes.now) (declarations_of nodes.now) styles.new.items (length styles.old.items + 1)) }
+    ensures kept { OnOk result
+        (is_made ≡ false → style_at styles.new.items (length styles.old.items) ≡ style_at was.now (length styles.old.items)) }
 {
     let k = styles.len();
     if is_made {

@@ -5,7 +5,8 @@ ghost use Rattle.std.specs.Char.{to_ascii_lowercase};
 ghost use Rattle.std.specs.Result.{result_ok};
 ghost use Rattle.lay_values.specs.Reading.{without_end, read_declaration};
 ghost use Rattle.lay_sheet.specs.Lists.{with_found};
-ghost use Rattle.lay_sheet.specs.Declarations.{before_exclamation, before_important, text_of, named_by, named, weighed, declared, declaration_of, AreDeclarations};
+ghost use Rattle.lay_sheet.specs.Declarations.{before_exclamation, before_important, text_of, named_by};
+ghost use Rattle.lay_sheet.specs.Declarations.{named, weighed, declared, declaration_of, AreDeclarations};
 ghost use Rattle.lay_sheet.specs.Pieces.{block_to, behind_block};
 
 use crate::pieces::{behind_first, split_before, split_part, trimmed};

@@ -2,7 +2,8 @@
 
 ghost use Rattle.std.specs.Prelude.{◌≡◌, ◌≤◌, ◌<◌, ℕ, false, [], ◌++◌, IfOk, OnOk, length, slice_index};
 ghost use Rattle.lay_sheet.specs.Lists.{with_found};
-ghost use Rattle.lay_sheet.specs.PlainText.{is_mark, may_open, begins_with, opens_comment, ends_comment, place_behind, seen_of, plain_from, plain_text};
+ghost use Rattle.lay_sheet.specs.PlainText.{is_mark, may_open, begins_with, opens_comment, ends_comment};
+ghost use Rattle.lay_sheet.specs.PlainText.{place_behind, seen_of, plain_from, plain_text};
 
 use lay_units::NoMemory;
 use memchr::{memchr, memchr3};

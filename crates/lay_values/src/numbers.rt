@@ -3,7 +3,8 @@
 ghost use Rattle.std.specs.Prelude.{◌≡◌, ◌+◌, ◌-◌, ◌*◌, ◌^◌, ◌<◌, ◌≤◌, pos, [], ◌∷◌, ◌++◌, length, IfSome, true};
 ghost use Rattle.std.specs.List.{list_all};
 ghost use Rattle.lay_units.specs.Units.{floor_div};
-ghost use Rattle.lay_values.specs.Numbers.{is_digit, leading, behind, value_after, decimal_of, unsigned_of, number_of, negated, IsShort, signed, scaled};
+ghost use Rattle.lay_values.specs.Numbers.{is_digit, leading, behind, value_after, decimal_of};
+ghost use Rattle.lay_values.specs.Numbers.{unsigned_of, number_of, negated, IsShort, signed, scaled};
 
 /// A decimal number: `mantissa` over ten to the power `places`, below zero where `negative`.
 #[derive(Clone, Copy)]

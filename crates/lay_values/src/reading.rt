@@ -6,7 +6,8 @@ ghost use Rattle.std.specs.Char.{to_ascii_lowercase};
 ghost use Rattle.std.specs.Result.{result_ok};
 ghost use Rattle.lay_style.specs.declared.property.Property.TheVariants.{BorderSpacing};
 ghost use Rattle.lay_values.specs.Numbers.{IsShort, leading, behind, number_of};
-ghost use Rattle.lay_values.specs.Reading.{without_front, trimmed, is_of_number, measure_of, one_length_of, spacing_of, spacings_of, is_of_word, numeric_of, begins_with_letter, value_of, declared_value, read_declaration};
+ghost use Rattle.lay_values.specs.Reading.{without_front, trimmed, is_of_number, measure_of, one_length_of, spacing_of, spacings_of};
+ghost use Rattle.lay_values.specs.Reading.{is_of_word, numeric_of, begins_with_letter, value_of, declared_value, read_declaration};
 
 use crate::lengths::{suffix_of, value_with};
 use crate::names::{property_named, property_of};
