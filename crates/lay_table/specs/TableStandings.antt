@@ -15,7 +15,7 @@ use Rattle.lay_blocks.specs.Lengths.{length_at}
 use Rattle.lay_pieces.specs.declared.corner.Corner.{Corner}
 use Rattle.lay_pieces.specs.declared.standing.Standing.{Standing}
 use Rattle.lay_pieces.specs.Standings.{no_standing}
-use Rattle.lay_table_parts.specs.TableBoxes.{is_row_group, kind_at}
+use Rattle.lay_table_borders.specs.TableBoxes.{is_row_group, kind_at}
 use Rattle.lay_table_borders.specs.TableGrid.{TableGridValue}
 use Rattle.lay_table.specs.RowNeeds.{cell_of, table_sizes}
 use Rattle.lay_table.specs.TableInputs.{TableInput, grid_of}

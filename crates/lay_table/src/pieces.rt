@@ -7,7 +7,7 @@ ghost use Rattle.lay_pieces.specs.PieceParts.{with_pieces};
 ghost use Rattle.lay_pieces.specs.Standings.{IsStandingNear};
 ghost use Rattle.lay_sizes.specs.BoxSizes.{border_width};
 ghost use Rattle.lay_sizes.specs.SizeColumns.{sizes_at};
-ghost use Rattle.lay_table_parts.specs.TableBoxes.{kind_at};
+ghost use Rattle.lay_table_borders.specs.TableBoxes.{kind_at};
 ghost use Rattle.lay_table.specs.PlaceBounds.{AreStandings};
 ghost use Rattle.lay_table.specs.TablePieces.{extent_by_kind, inner_width, piece_of, pieces_of_box, pieces_to, rows_width};
 ghost use Rattle.lay_table.specs.TableStandings.{standing_of};

@@ -5,7 +5,7 @@ ghost use Rattle.lay_units.specs.Units.{IsNear};
 ghost use Rattle.lay_blocks.specs.FlowPlaces.{IsNearPlace, box_place_at};
 ghost use Rattle.lay_pieces.specs.Corners.{IsCornerNear};
 ghost use Rattle.lay_pieces.specs.Standings.{AreNearStandings, IsStandingNear, standing_at};
-ghost use Rattle.lay_table_parts.specs.TableBoxes.{is_row_group};
+ghost use Rattle.lay_table_borders.specs.TableBoxes.{is_row_group};
 ghost use Rattle.lay_table.specs.Captions.{ArePlaces, captions_of};
 ghost use Rattle.lay_table.specs.GroupCounts.{AreGroupCounts};
 ghost use Rattle.lay_table.specs.PlaceBounds.{AreStandings, PlacesFit};

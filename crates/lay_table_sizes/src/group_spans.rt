@@ -7,8 +7,7 @@ ghost use Rattle.lay_table_sizes.specs.GroupWidths.{goes_on, group_spans, run_of
 use crate::given_widths::group_width_at;
 use lay_auto_columns::GroupSpan;
 use lay_box_tree::BoxNode;
-use lay_table_borders::TableGrid;
-use lay_table_parts::is_column_group_at;
+use lay_table_borders::{TableGrid, is_column_group_at};
 use lay_units::{NoMemory, Unit};
 use std::alloc::Global;
 
