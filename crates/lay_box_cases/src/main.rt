@@ -7,6 +7,7 @@
 //! TEXT and ANSWER are.
 #![tactic(auto)]
 
+mod auto_columns;
 mod borders;
 mod boxes;
 mod cells;
@@ -17,6 +18,7 @@ mod grids;
 mod heights;
 mod margins;
 mod parts;
+mod spans;
 mod trees;
 mod widths;
 
@@ -108,6 +110,7 @@ fn answer(alloc: Global, call: &str, text: &str) -> Result<String> {
         "floats" => floats::answers(alloc, text),
         "slots" => grids::slots_of(alloc, text),
         "columns-fixed" => grids::columns(alloc, text),
+        "columns-auto" => auto_columns::answer(alloc, text),
         "rows" => grids::heights(alloc, text),
         "winner" => borders::winning(alloc, text),
         "resolve" => borders::resolved(alloc, text),

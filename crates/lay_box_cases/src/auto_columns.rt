@@ -1,11 +1,12 @@
-//! Tables whose columns are laid out.
+//! The bounds and the widths of the columns of tables in the automatic layout.
 
 ghost use Rattle.std.specs.Prelude.{◌≡◌, ◌≤◌, length, All, IfOk};
 ghost use Rattle.lay_units.specs.Units.{IsSize};
 ghost use Rattle.lay_auto_columns.specs.AutoColumns.{sum_min};
 ghost use Rattle.lay_auto_columns.specs.Fit.{BoundFits, CellFits, SpanFits};
 
-use crate::numbers::{ample, size, sizes_or_none, spanned};
+use crate::cells::ample;
+use crate::spans::{size, sizes_or_none, spanned};
 use anyhow::{Result, bail};
 use lay_auto_columns::{
     Bound, BoundList, BoundsIn, GroupSpan, GroupSpans, SpanCell, SpanCells, column_bounds,

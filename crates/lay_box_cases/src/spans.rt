@@ -1,11 +1,11 @@
-//! Lengths of a row, from 0 to 65,535 units.
+//! Spans of columns, and lengths from 0 to 65,535 units.
 
 ghost use Rattle.std.specs.Prelude.{◌+◌, ◌≤◌, length, All, IfOk};
 ghost use Rattle.lay_units.specs.Units.{IsSize};
 ghost use Rattle.lay_auto_columns.specs.Sizes.{MayBeSize};
 
 use anyhow::{Result, bail};
-use lay_units::{NoMemory, Unit};
+use lay_units::Unit;
 use std::alloc::Global;
 
 /// The length that a word is.
@@ -66,13 +66,5 @@ fn number(word: &str) -> Result<u8> {
     match word.parse::<u8>() {
         Ok(number) => Ok(number),
         Err(_) => bail!("no number: {word}"),
-    }
-}
-
-/// What is given where there is memory.
-pub(crate) fn ample<T: Drop>(given: Result<T, NoMemory>) -> Result<T> {
-    match given {
-        Ok(given) => Ok(given),
-        Err(_) => bail!("out of memory"),
     }
 }

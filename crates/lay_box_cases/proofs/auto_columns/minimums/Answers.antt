@@ -3,7 +3,7 @@ use Rattle.std.proofs.lemmas.Int.{ints}
 use Rattle.std.proofs.lemmas.List.{drop_more}
 use Rattle.lay_auto_columns.specs.declared.bounds.Bound.{Bound}
 use Rattle.lay_auto_columns.specs.AutoColumns.{sum_min}
-use Rattle.lay_auto_columns_cases.proofs.tables.minimums.Goals as goal
+use Rattle.lay_box_cases.proofs.auto_columns.minimums.Goals as goal
 
 abbrev none : Bound
 none = record { min = record { 0 = pos 0 }; max = record { 0 = pos 0 } }
