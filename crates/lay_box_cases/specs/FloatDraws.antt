@@ -1,6 +1,6 @@
 -- Draws: a linear congruential generator of 31 bits, of whose numbers a draw is the upper half.
 use Rattle.std.specs.Prelude.{ℕ, ◌+◌, ◌*◌, ◌/◌, ◌%◌, ◌==◌}
-use Rattle.lay_float_cases.specs.declared.draws.Drawn.{Drawn}
+use Rattle.lay_box_cases.specs.declared.float_draws.Drawn.{Drawn}
 
 -- the number after this one
 abbrev pub next : ℕ → ℕ

@@ -3,7 +3,7 @@ use Rattle.std.specs.Prelude.{◌*◌, pos, if◌then◌else◌}
 use Rattle.lay_floats.specs.declared.requests.FloatReq.{FloatReq}
 use Rattle.lay_floats.specs.declared.requests.Clear.TheVariants.{None}
 use Rattle.lay_floats.specs.declared.requests.Side.TheVariants.{Left, Right}
-use Rattle.lay_float_cases.specs.declared.draws.Drawn.{Drawn}
+use Rattle.lay_box_cases.specs.declared.float_draws.Drawn.{Drawn}
 
 abbrev pub request_of : Drawn → FloatReq
 request_of f = record {
