@@ -1,5 +1,4 @@
 pub use Rattle.lay_abspos.specs as abspos
-pub use Rattle.lay_anonymous_boxes.specs as anonymous_boxes
 pub use Rattle.lay_blocks.specs as blocks
 pub use Rattle.lay_box_tree.specs as box_tree
 pub use Rattle.lay_boxgen.specs as boxgen

@@ -6,7 +6,6 @@
 #![tactic(auto)]
 
 pub use lay_abspos as abspos;
-pub use lay_anonymous_boxes as anonymous_boxes;
 pub use lay_blocks as blocks;
 pub use lay_box_tree as box_tree;
 pub use lay_boxgen as boxgen;
