@@ -16,7 +16,8 @@ one_call zero left e = let is = some_one 1 left e in omega (arith, is)
 one_call (suc zero) left e = let is = some_one 1 left e in omega (arith, is)
 one_call (suc (suc i)) left e = absurd (none_some left e)
 
-module _ (engine : EngineOf) (origin : Origin) (calls : List ℕ) (passes : List PassOf) (are_new : AreNew engine.table origin calls passes) where
+module _ (engine : EngineOf) (origin : Origin) (calls : List ℕ) (passes : List PassOf)
+    (are_new : AreNew engine.table origin calls passes) where
   pub of_table : All (λ p. p.table ≡ engine.table) passes
   of_table i d within =
       let made = are_new.each i (slice_index_or passes i d) (slice_get-get_or passes i d within) in
@@ -25,4 +26,5 @@ module _ (engine : EngineOf) (origin : Origin) (calls : List ℕ) (passes : List
   pub may_call : calls ≡ 1 ∷ 1 ∷ [] → All (λ p. 0 < p.knows.left) passes
   may_call ones i d within =
       let made = are_new.each i (slice_index_or passes i d) (slice_get-get_or passes i d within) in
-      subst (λ n. 0 < n) (sym (ap (λ (p : PassOf). p.knows.left) made.2)) (one_call i made.0 (subst (λ l. slice_get l i ≡ Some made.0) ones made.1))
+      let above = one_call i made.0 (subst (λ l. slice_get l i ≡ Some made.0) ones made.1) in
+      subst (λ n. 0 < n) (sym (ap (λ (p : PassOf). p.knows.left) made.2)) above
