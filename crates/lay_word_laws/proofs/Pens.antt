@@ -29,7 +29,7 @@ line_step fr node m text p w to = over_parts fr p (parts_between (record { node 
 abbrev line_wide : LinePen → ℤ → LinePen
 line_wide p a = went_on (p.at.0 +ℤ a)
 
-over_both : (fr : Frame) (p : LinePen) (xs ys : List Part) → over_parts fr p (xs ++ ys) ≡ over_parts fr (over_parts fr p xs) ys
+pub over_both : (fr : Frame) (p : LinePen) (xs ys : List Part) → over_parts fr p (xs ++ ys) ≡ over_parts fr (over_parts fr p xs) ys
 over_both fr p [] ys = refl
 over_both fr p (x ∷ xs) ys = over_both fr (over fr p x) xs ys
 
