@@ -1,1 +1,3 @@
 pub mod Small
+pub mod FloatDraws
+pub mod FloatRequests

@@ -7,16 +7,22 @@
 //! TEXT and ANSWER are.
 #![tactic(auto)]
 
+mod auto_columns;
 mod borders;
 mod boxes;
 mod cells;
 mod documents;
+mod drawn_floats;
+mod float_draws;
+mod float_page;
 mod floats;
 mod formatting;
 mod grids;
 mod heights;
 mod margins;
 mod parts;
+mod plain_floats;
+mod spans;
 mod trees;
 mod widths;
 
@@ -106,8 +112,11 @@ fn answer(alloc: Global, call: &str, text: &str) -> Result<String> {
         "collapsed-margins" => margins::collapsed(alloc, text),
         "margin-runs" => margins::runs_of(alloc, text),
         "floats" => floats::answers(alloc, text),
+        "drawn-floats" => drawn_floats::compared(alloc, text),
+        "drawn-sums" => drawn_floats::summed(alloc, text),
         "slots" => grids::slots_of(alloc, text),
         "columns-fixed" => grids::columns(alloc, text),
+        "columns-auto" => auto_columns::answer(alloc, text),
         "rows" => grids::heights(alloc, text),
         "winner" => borders::winning(alloc, text),
         "resolve" => borders::resolved(alloc, text),

@@ -5,7 +5,7 @@ use Rattle.std.proofs.lemmas.Grind.{elements}
 use Rattle.lay_style.specs.declared.style.Style.{Style}
 use Rattle.lay_doc.specs.declared.node.Node.{Node}
 use Rattle.lay_doc.specs.Document.{parents_of}
-use Rattle.lay_anonymous_boxes.specs.declared.facts.Facts.{Facts}
+use Rattle.lay_boxgen.specs.declared.facts.Facts.{Facts}
 use Rattle.lay_boxgen.specs.Contexts.{AreFlagsOf, GeneratesBox, IsContextAt, below, box_at, has_box, is_marked, keeps}
 use Rattle.lay_boxgen.specs.GeneratedBoxes.{AreGenerated, IsGenerated}
 use Rattle.lay_boxgen.proofs.Above.{from_root, kept_by, parent_generates, root_has}

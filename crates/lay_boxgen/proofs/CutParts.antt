@@ -2,12 +2,12 @@
 use Rattle.std.proofs.Common.{◌≡◌, List, [], ◌∷◌, refl, ap, sym, ◌∙◌, Option, None, Some, option_map, slice_get}
 use Rattle.lay_style.specs.declared.style.Style.{Style}
 use Rattle.lay_doc.specs.declared.node.Node.{Node}
-use Rattle.lay_anonymous_boxes.specs.Boxes.{Tree, tree, trees_of, facts_of}
+use Rattle.lay_boxgen.specs.Boxes.{Tree, tree, trees_of, facts_of}
 use Rattle.lay_boxgen.specs.CutTrees.{cut_own, generated_cut}
-use Rattle.lay_anonymous_boxes.specs.Generation.{generated}
+use Rattle.lay_boxgen.specs.Generation.{generated}
 use Rattle.lay_boxgen.specs.Listing.{all_listed, listed_part}
 use Rattle.lay_boxgen.specs.Parts.{put, all_put, put_list, nothing, own_tree, generated_of}
-use Rattle.lay_anonymous_boxes.specs.declared.facts.Facts.{Facts}
+use Rattle.lay_boxgen.specs.declared.facts.Facts.{Facts}
 use Rattle.lay_boxgen.proofs.Inside.{parts_agree}
 use Rattle.lay_boxgen.proofs.Putting.{put-trees_of}
 

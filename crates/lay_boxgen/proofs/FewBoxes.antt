@@ -9,18 +9,18 @@ use Rattle.lay_style.specs.declared.style.Style.{Style}
 use Rattle.lay_style.specs.Places.{place_of}
 use Rattle.lay_doc.specs.declared.node.Node.{Node}
 use Rattle.lay_doc.specs.Document.{Document, IsDocument, parents_of, depths_of, ids_of}
-use Rattle.lay_anonymous_boxes.specs.Boxes.{Tree, Trees, tree, no_trees, also, trees_of}
+use Rattle.lay_boxgen.specs.Boxes.{Tree, Trees, tree, no_trees, also, trees_of}
 use Rattle.lay_boxgen.specs.BoxBounds.{BoxesAreFew}
-use Rattle.lay_anonymous_boxes.specs.Forms.{is_inline, is_absolute}
+use Rattle.lay_boxgen.specs.Forms.{is_inline, is_absolute}
 use Rattle.lay_boxgen.specs.Listing.{listed, all_listed, listed_part, boxes_at, boxes_of}
 use Rattle.lay_boxgen.specs.NodeBoxes.{node_box}
 use Rattle.lay_boxgen.specs.NodeTrees.{as_own, anchor_facts, as_child, and_child, children_of, others_than_children, box_with, node_trees, first_tree, tree_at}
 use Rattle.lay_boxgen.specs.Parts.{is_closed, put, all_put, put_list, nothing, generated_of, whole, part}
 use Rattle.lay_box_tree.specs.declared.box_tree.BoxNode.{BoxNode}
-use Rattle.lay_anonymous_boxes.specs.declared.facts.Facts.{Facts}
+use Rattle.lay_boxgen.specs.declared.facts.Facts.{Facts}
 use Rattle.lay_boxgen.specs.declared.node_trees.NodeTree.{NodeTree}
-use Rattle.lay_anonymous_boxes.proofs.BoxMeasures.{total, totals, sum_with, sum_is}
-use Rattle.lay_anonymous_boxes.proofs.BoxStages.{each, count, in_inline, under_inline, generated_total}
+use Rattle.lay_boxgen.proofs.BoxMeasures.{total, totals, sum_with, sum_is}
+use Rattle.lay_boxgen.proofs.BoxStages.{each, count, in_inline, under_inline, generated_total}
 
 -- Inline boxes stand in each other so deep at most.
 abbrev one_level : Facts → ℕ

@@ -3,18 +3,18 @@ use Rattle.std.proofs.Common.{◌≡◌, Bool, true, false, ◌&&◌, ℕ, List,
 use Rattle.std.specs.List.{list_any}
 use Rattle.lay_style.specs.declared.style.Style.{Style}
 use Rattle.lay_doc.specs.declared.node.Node.{Node}
-use Rattle.lay_anonymous_boxes.specs.Boxes.{Tree, Trees, tree, trees_of, facts_of, all_remade, in_box}
-use Rattle.lay_anonymous_boxes.specs.BrokenInlines.{is_block_box, part_over, parts_from, broken}
-use Rattle.lay_anonymous_boxes.specs.Forms.{is_inline}
-use Rattle.lay_anonymous_boxes.specs.Generation.{generated}
-use Rattle.lay_anonymous_boxes.specs.InlineRuns.{run_wrapped}
-use Rattle.lay_anonymous_boxes.specs.Irrelevant.{relevant}
-use Rattle.lay_anonymous_boxes.specs.MissingChildren.{child_wrapped}
-use Rattle.lay_anonymous_boxes.specs.MissingParents.{parented}
-use Rattle.lay_anonymous_boxes.specs.TableWrappers.{in_wrapper}
+use Rattle.lay_boxgen.specs.Boxes.{Tree, Trees, tree, trees_of, facts_of, all_remade, in_box}
+use Rattle.lay_boxgen.specs.BrokenInlines.{is_block_box, part_over, parts_from, broken}
+use Rattle.lay_boxgen.specs.Forms.{is_inline}
+use Rattle.lay_boxgen.specs.Generation.{generated}
+use Rattle.lay_boxgen.specs.InlineRuns.{run_wrapped}
+use Rattle.lay_boxgen.specs.Irrelevant.{relevant}
+use Rattle.lay_boxgen.specs.MissingChildren.{child_wrapped}
+use Rattle.lay_boxgen.specs.MissingParents.{parented}
+use Rattle.lay_boxgen.specs.TableWrappers.{in_wrapper}
 use Rattle.lay_boxgen.specs.NodeTrees.{as_own, tree_at}
 use Rattle.lay_boxgen.specs.Parts.{put_list, nothing, generated_of, part}
-use Rattle.lay_anonymous_boxes.specs.declared.facts.Facts.{Facts}
+use Rattle.lay_boxgen.specs.declared.facts.Facts.{Facts}
 
 abbrev StartsWith : Facts → List Tree → Type 0
 StartsWith f [] = ⊥

@@ -5,16 +5,16 @@ use Rattle.lay_style.specs.ComputedStyle.{style_at}
 use Rattle.lay_style.specs.InitialStyle.{initial_style}
 use Rattle.lay_doc.specs.declared.node.Node.{Node}
 use Rattle.lay_doc.specs.Document.{ids_of, parents_of}
-use Rattle.lay_anonymous_boxes.specs.Boxes.{Tree, Trees, tree, no_trees, also, trees_of, all_remade, remade, in_box}
+use Rattle.lay_boxgen.specs.Boxes.{Tree, Trees, tree, no_trees, also, trees_of, all_remade, remade, in_box}
 use Rattle.lay_boxgen.specs.Contexts.{box_at, box_of_node, is_marked, keeps, keeps_form, GeneratesBox, below}
-use Rattle.lay_anonymous_boxes.specs.Forms.{is_absolute, is_column, is_column_group}
+use Rattle.lay_boxgen.specs.Forms.{is_absolute, is_column, is_column_group}
 use Rattle.lay_boxgen.specs.InnerBoxes.{AllBoxes, AllOf, NamesContext, IsInnerContext, InnerBoxesAreContexts}
-use Rattle.lay_anonymous_boxes.specs.Irrelevant.{relevant}
+use Rattle.lay_boxgen.specs.Irrelevant.{relevant}
 use Rattle.lay_boxgen.specs.NodeBoxes.{node_box}
 use Rattle.lay_boxgen.specs.NodeTrees.{as_own, anchor_facts, as_child, and_child, children_of, others_than_children, box_with, node_trees, first_tree, tree_at}
 use Rattle.lay_boxgen.specs.Parts.{generated_of}
-use Rattle.lay_anonymous_boxes.specs.declared.facts.Facts.{Facts}
-use Rattle.lay_anonymous_boxes.specs.declared.facts.Form.{Form}
+use Rattle.lay_boxgen.specs.declared.facts.Facts.{Facts}
+use Rattle.lay_boxgen.specs.declared.facts.Form.{Form}
 use Rattle.lay_boxgen.specs.declared.node_trees.NodeTree.{NodeTree}
 use Rattle.lay_boxgen.proofs.EveryBox.{every-in, every-relevant, AllKept, every-generated}
 use Rattle.lay_boxgen.proofs.NodeForms.{IsNodeBox, is-node_box}

@@ -1,19 +1,19 @@
 -- What is generated with this inside the boxes of inner contexts.
 use Rattle.std.proofs.Common.{◌≡◌, Bool, true, false, ◌&&◌, not, List, [], ◌∷◌, ◌++◌, refl, ap, sym, ◌∙◌, if◌then◌else◌}
-use Rattle.lay_anonymous_boxes.specs.Boxes.{Tree, Trees, tree, no_trees, also, trees_of, remade, all_remade, in_box}
+use Rattle.lay_boxgen.specs.Boxes.{Tree, Trees, tree, no_trees, also, trees_of, remade, all_remade, in_box}
 use Rattle.lay_boxgen.specs.Parts.{is_closed, put, all_put, put_list, nothing}
 use Rattle.lay_boxgen.specs.Laws.{inside, StaysOne, PartsAgree, GeneratesInside}
-use Rattle.lay_anonymous_boxes.specs.Forms.{is_inline}
-use Rattle.lay_anonymous_boxes.specs.Irrelevant.{relevant}
-use Rattle.lay_anonymous_boxes.specs.MissingChildren.{child_wrapped}
-use Rattle.lay_anonymous_boxes.specs.MissingParents.{parented}
-use Rattle.lay_anonymous_boxes.specs.TableWrappers.{in_wrapper}
-use Rattle.lay_anonymous_boxes.specs.BrokenInlines.{broken}
-use Rattle.lay_anonymous_boxes.specs.InlineRuns.{run_wrapped}
-use Rattle.lay_anonymous_boxes.specs.Generation.{generated}
-use Rattle.lay_anonymous_boxes.specs.declared.facts.Facts.{Facts}
-use Rattle.lay_anonymous_boxes.specs.declared.facts.Form.{Form}
-use Rattle.lay_anonymous_boxes.specs.declared.facts.Form.TheVariants.{Inline}
+use Rattle.lay_boxgen.specs.Forms.{is_inline}
+use Rattle.lay_boxgen.specs.Irrelevant.{relevant}
+use Rattle.lay_boxgen.specs.MissingChildren.{child_wrapped}
+use Rattle.lay_boxgen.specs.MissingParents.{parented}
+use Rattle.lay_boxgen.specs.TableWrappers.{in_wrapper}
+use Rattle.lay_boxgen.specs.BrokenInlines.{broken}
+use Rattle.lay_boxgen.specs.InlineRuns.{run_wrapped}
+use Rattle.lay_boxgen.specs.Generation.{generated}
+use Rattle.lay_boxgen.specs.declared.facts.Facts.{Facts}
+use Rattle.lay_boxgen.specs.declared.facts.Form.{Form}
+use Rattle.lay_boxgen.specs.declared.facts.Form.TheVariants.{Inline}
 use Rattle.lay_boxgen.proofs.Putting.{put-append, put-trees_of, put-open, put-relevant, put-child_wrapped, put-parented, put-in_wrapper, broken_open, put-run_wrapped}
 
 -- A rule that sees the facts of the children alone, and makes of the box of an inner context one box with its facts.

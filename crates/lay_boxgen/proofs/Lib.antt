@@ -1,3 +1,9 @@
+mod Kept
+mod KeptRuns
+pub mod BoxMeasures
+pub mod BoxStages
+pub mod Broken
+pub mod Replaced
 pub mod Above
 pub mod ContextFlags
 pub mod CutNodes

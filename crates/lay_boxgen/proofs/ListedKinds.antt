@@ -3,7 +3,7 @@ use Rattle.std.proofs.Common.{◌≡◌, Bool, true, false, refl}
 use Rattle.lay_boxgen.specs.KindLaws.{KindsSayForms}
 use Rattle.lay_box_tree.specs.Roles.{is_inline_level, role_of_kind}
 use Rattle.lay_box_tree.specs.declared.box_tree.BoxKind.TheVariants as kind
-use Rattle.lay_anonymous_boxes.specs.declared.facts.Form.TheVariants.{Block, InlineBlock, Inline, Text, Replaced, Wrapper, InlineWrapper, Table, Caption, RowGroup, HeaderGroup, FooterGroup, Row, ColumnGroup, Column, Cell, Anchor}
+use Rattle.lay_boxgen.specs.declared.facts.Form.TheVariants.{Block, InlineBlock, Inline, Text, Replaced, Wrapper, InlineWrapper, Table, Caption, RowGroup, HeaderGroup, FooterGroup, Row, ColumnGroup, Column, Cell, Anchor}
 
 block : (inner : Bool) → is_inline_level (role_of_kind inner kind.Block) ≡ false
 block true = refl

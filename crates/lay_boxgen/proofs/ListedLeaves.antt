@@ -4,13 +4,13 @@ use Rattle.std.proofs.lemmas.Bool.{cases_lt}
 use Rattle.std.proofs.lemmas.Option.{get_or_from_slice_get}
 use Rattle.lay_style.specs.declared.style.Style.{Style}
 use Rattle.lay_doc.specs.declared.node.Node.{Node}
-use Rattle.lay_anonymous_boxes.specs.Boxes.{Tree, Trees, tree, no_trees, also, trees_of}
+use Rattle.lay_boxgen.specs.Boxes.{Tree, Trees, tree, no_trees, also, trees_of}
 use Rattle.lay_box_tree.specs.BoxColumns.{box_parents, box_inner, HasInnerLeaves, IsBoxTree}
 use Rattle.lay_boxgen.specs.TreeLaws.{InnerBoxesAreLeaves}
 use Rattle.lay_boxgen.specs.Listing.{listed, all_listed, listed_part}
 use Rattle.lay_boxgen.specs.Parts.{part}
 use Rattle.lay_box_tree.specs.declared.box_tree.BoxNode.{BoxNode}
-use Rattle.lay_anonymous_boxes.specs.declared.facts.Facts.{Facts}
+use Rattle.lay_boxgen.specs.declared.facts.Facts.{Facts}
 use Rattle.lay_box_tree.proofs.BoxForests.{read_left, read_right, parents-append, length-parents}
 use Rattle.lay_boxgen.proofs.ListedForests.{boxes_are_a_tree_lem}
 use Rattle.lay_boxgen.proofs.FirstBoxes.{StartsOpen, part_starts_open}

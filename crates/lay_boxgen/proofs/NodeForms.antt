@@ -8,13 +8,13 @@ use Rattle.lay_doc.specs.declared.node.Kind.{Kind}
 use Rattle.lay_doc.specs.declared.node.Kind.TheVariants as kind
 use Rattle.lay_doc.specs.declared.node.Node.{Node}
 use Rattle.lay_boxgen.specs.Display.{element_form, as_block, used_display, replaced_display, flow_of}
-use Rattle.lay_anonymous_boxes.specs.Forms.{is_anchor, is_white, is_inline, is_in_flow, is_absolute}
+use Rattle.lay_boxgen.specs.Forms.{is_anchor, is_white, is_inline, is_in_flow, is_absolute}
 use Rattle.lay_boxgen.specs.NodeBoxes.{form_of, replaced_form, node_flow, facts_with, is_context_form, establishes_context, node_box}
-use Rattle.lay_anonymous_boxes.specs.declared.facts.Facts.{Facts}
+use Rattle.lay_boxgen.specs.declared.facts.Facts.{Facts}
 use Rattle.lay_box_tree.specs.declared.box_tree.Flow.{Flow}
 use Rattle.lay_box_tree.specs.declared.box_tree.Flow.TheVariants as flow
-use Rattle.lay_anonymous_boxes.specs.declared.facts.Form.{Form}
-use Rattle.lay_anonymous_boxes.specs.declared.facts.Form.TheVariants.{Inline}
+use Rattle.lay_boxgen.specs.declared.facts.Form.{Form}
+use Rattle.lay_boxgen.specs.declared.facts.Form.TheVariants.{Inline}
 
 -- a form, if there is one, that is no anchor
 abbrev IsNoAnchor : Option Form → Type 0

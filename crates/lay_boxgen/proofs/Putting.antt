@@ -1,19 +1,19 @@
 -- Each rule of box generation commutes with setting what is inside the boxes of inner contexts.
 use Rattle.std.proofs.Common.{◌≡◌, Bool, true, false, ◌&&◌, not, List, [], ◌∷◌, ◌++◌, refl, ap, ◌∙◌, filter, if◌then◌else◌, Option, None, Some}
 use Rattle.std.specs.List.{list_any}
-use Rattle.lay_anonymous_boxes.specs.Boxes.{Tree, Trees, tree, also, trees_of, facts_of}
-use Rattle.lay_anonymous_boxes.specs.Runs.{gathered, gathered_from, run_over, is_some, anonymous_box, anonymous_facts}
+use Rattle.lay_boxgen.specs.Boxes.{Tree, Trees, tree, also, trees_of, facts_of}
+use Rattle.lay_boxgen.specs.Runs.{gathered, gathered_from, run_over, is_some, anonymous_box, anonymous_facts}
 use Rattle.lay_boxgen.specs.Parts.{is_closed, put, all_put, put_list}
-use Rattle.lay_anonymous_boxes.specs.Forms.{is_row_group, is_table, is_row, is_caption, is_column, is_column_group, is_inline, is_text, is_white, is_block_container, is_block}
-use Rattle.lay_anonymous_boxes.specs.Irrelevant.{is_irrelevant, kept_gap, kept_from, without_white_space, column_group_children, relevant}
-use Rattle.lay_anonymous_boxes.specs.MissingChildren.{is_no_proper_table_child, is_no_row, is_no_cell, cell_round, in_cells, row_round, child_wrapped}
-use Rattle.lay_anonymous_boxes.specs.MissingParents.{is_cell_in_flow, is_misparented, row_of_cells, table_round, cells_in_rows, parented}
-use Rattle.lay_anonymous_boxes.specs.TableWrappers.{is_caption_box, is_no_caption_box, table_facts, table_box, captions_and_table, in_wrapper}
-use Rattle.lay_anonymous_boxes.specs.BrokenInlines.{is_block_box, is_no_text_box, is_unseen, part_over, parts_from, broken}
-use Rattle.lay_anonymous_boxes.specs.InlineRuns.{is_no_block, is_seen_box, block_round, run_wrapped}
-use Rattle.lay_anonymous_boxes.specs.declared.facts.Facts.{Facts}
-use Rattle.lay_anonymous_boxes.specs.declared.facts.Form.{Form}
-use Rattle.lay_anonymous_boxes.specs.declared.facts.Form.TheVariants.{Row, Cell, Wrapper, InlineWrapper, Block}
+use Rattle.lay_boxgen.specs.Forms.{is_row_group, is_table, is_row, is_caption, is_column, is_column_group, is_inline, is_text, is_white, is_block_container, is_block}
+use Rattle.lay_boxgen.specs.Irrelevant.{is_irrelevant, kept_gap, kept_from, without_white_space, column_group_children, relevant}
+use Rattle.lay_boxgen.specs.MissingChildren.{is_no_proper_table_child, is_no_row, is_no_cell, cell_round, in_cells, row_round, child_wrapped}
+use Rattle.lay_boxgen.specs.MissingParents.{is_cell_in_flow, is_misparented, row_of_cells, table_round, cells_in_rows, parented}
+use Rattle.lay_boxgen.specs.TableWrappers.{is_caption_box, is_no_caption_box, table_facts, table_box, captions_and_table, in_wrapper}
+use Rattle.lay_boxgen.specs.BrokenInlines.{is_block_box, is_no_text_box, is_unseen, part_over, parts_from, broken}
+use Rattle.lay_boxgen.specs.InlineRuns.{is_no_block, is_seen_box, block_round, run_wrapped}
+use Rattle.lay_boxgen.specs.declared.facts.Facts.{Facts}
+use Rattle.lay_boxgen.specs.declared.facts.Form.{Form}
+use Rattle.lay_boxgen.specs.declared.facts.Form.TheVariants.{Row, Cell, Wrapper, InlineWrapper, Block}
 
 module _ (g : Facts → Trees) where
   pub put-append : (xs ys : List Tree) → put_list g (xs ++ ys) ≡ put_list g xs ++ put_list g ys

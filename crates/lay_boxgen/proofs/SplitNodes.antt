@@ -10,7 +10,7 @@ use Rattle.lay_doc.specs.Document.{parents_of}
 use Rattle.lay_boxgen.specs.CutTrees.{as_leaf, cut, cut_own, cut_tree_at}
 use Rattle.lay_boxgen.specs.Parts.{own_tree}
 use Rattle.lay_boxgen.proofs.CutNodes.{tree-cut}
-use Rattle.lay_anonymous_boxes.specs.Boxes.{Tree}
+use Rattle.lay_boxgen.specs.Boxes.{Tree}
 use Rattle.lay_boxgen.specs.NodeBoxes.{node_box}
 use Rattle.lay_boxgen.specs.NodeTrees.{as_child, tree_at, and_child, children_of, others_than_children, with_node, box_with, node_trees, first_tree}
 use Rattle.lay_boxgen.specs.declared.node_trees.NodeTree.{NodeTree}

@@ -8,8 +8,8 @@ use Rattle.lay_style.specs.ComputedStyle.{style_at}
 use Rattle.lay_style.specs.InitialStyle.{initial_style}
 use Rattle.lay_style.specs.declared.style.Style.{Style}
 use Rattle.lay_doc.specs.declared.node.Node.{Node}
-use Rattle.lay_anonymous_boxes.specs.Boxes.{Tree}
-use Rattle.lay_anonymous_boxes.specs.declared.facts.Facts.{Facts}
+use Rattle.lay_boxgen.specs.Boxes.{Tree}
+use Rattle.lay_boxgen.specs.declared.facts.Facts.{Facts}
 use Rattle.lay_box_tree.specs.declared.box_tree.BoxNode.{BoxNode}
 use Rattle.lay_boxgen.specs.Contexts.{IsContextAt, box_at, box_of_node, is_marked}
 use Rattle.lay_boxgen.specs.ContextWalk.{Rise, as_leaves, boxes_at_places, is_context_tree}

@@ -2,13 +2,13 @@
 use Rattle.std.proofs.Common.{◌≡◌, true, false, List, [], ◌∷◌, refl, ap, sym, ◌∙◌, Option, None, Some}
 use Rattle.lay_style.specs.declared.style.Style.{Style}
 use Rattle.lay_doc.specs.declared.node.Node.{Node}
-use Rattle.lay_anonymous_boxes.specs.Boxes.{Tree, Trees, tree, no_trees, also, trees_of}
-use Rattle.lay_anonymous_boxes.specs.Forms.{is_absolute, is_inline, is_in_flow, is_white}
-use Rattle.lay_anonymous_boxes.specs.Generation.{generated}
+use Rattle.lay_boxgen.specs.Boxes.{Tree, Trees, tree, no_trees, also, trees_of}
+use Rattle.lay_boxgen.specs.Forms.{is_absolute, is_inline, is_in_flow, is_white}
+use Rattle.lay_boxgen.specs.Generation.{generated}
 use Rattle.lay_boxgen.specs.Laws.{inside, below, inner_boxes, PartsAreWhole, ContextIsOneBox, AnchorsHoldBoxes}
 use Rattle.lay_boxgen.specs.NodeTrees.{as_own, anchor_facts, tree_at}
 use Rattle.lay_boxgen.specs.Parts.{put_list, nothing, generated_of}
-use Rattle.lay_anonymous_boxes.specs.declared.facts.Facts.{Facts}
+use Rattle.lay_boxgen.specs.declared.facts.Facts.{Facts}
 use Rattle.lay_box_tree.specs.declared.box_tree.Flow.{Flow}
 use Rattle.lay_box_tree.specs.declared.box_tree.Flow.TheVariants as flow
 use Rattle.lay_boxgen.proofs.Inside.{generates_inside, stays_one, list_put-put}

@@ -3,7 +3,7 @@
 use Rattle.std.specs.Prelude.{ℕ, ◌≡◌, ◌<◌, ◌≤◌, Bool, false, List, Option, None, Some, drop, length, map, option_map, reverse, slice_index}
 use Rattle.lay_style.specs.declared.style.Style.{Style}
 use Rattle.lay_doc.specs.declared.node.Node.{Node}
-use Rattle.lay_anonymous_boxes.specs.Boxes.{Tree, facts_of}
+use Rattle.lay_boxgen.specs.Boxes.{Tree, facts_of}
 use Rattle.lay_box_tree.specs.declared.box_tree.BoxNode.{BoxNode}
 use Rattle.lay_boxgen.specs.CutTrees.{as_leaf}
 use Rattle.lay_boxgen.specs.Listing.{listed_part}

@@ -7,10 +7,10 @@ use Rattle.lay_style.specs.ComputedStyle.{style_at}
 use Rattle.lay_style.specs.Places.{place_of}
 use Rattle.lay_doc.specs.declared.node.Node.{Node}
 use Rattle.lay_doc.specs.Document.{Document, ids_of, parents_of}
-use Rattle.lay_anonymous_boxes.specs.Forms.{is_column, is_column_group}
+use Rattle.lay_boxgen.specs.Forms.{is_column, is_column_group}
 use Rattle.lay_boxgen.specs.NodeBoxes.{node_box}
-use Rattle.lay_anonymous_boxes.specs.declared.facts.Facts.{Facts}
-use Rattle.lay_anonymous_boxes.specs.declared.facts.Form.{Form}
+use Rattle.lay_boxgen.specs.declared.facts.Facts.{Facts}
+use Rattle.lay_boxgen.specs.declared.facts.Form.{Form}
 
 abbrev pub box_of_node : ℕ → Option Node → Style → Option Facts
 box_of_node k None s = None

@@ -2,9 +2,9 @@
 use Rattle.std.specs.Prelude.{ℕ, ◌==◌, Bool, false, Option, None, Some, List, [], ◌∷◌, if◌then◌else◌, option_map}
 use Rattle.lay_style.specs.declared.style.Style.{Style}
 use Rattle.lay_doc.specs.declared.node.Node.{Node}
-use Rattle.lay_anonymous_boxes.specs.Boxes.{Tree, tree, no_trees}
-use Rattle.lay_anonymous_boxes.specs.Forms.{is_absolute}
-use Rattle.lay_anonymous_boxes.specs.Generation.{generated}
+use Rattle.lay_boxgen.specs.Boxes.{Tree, tree, no_trees}
+use Rattle.lay_boxgen.specs.Forms.{is_absolute}
+use Rattle.lay_boxgen.specs.Generation.{generated}
 use Rattle.lay_boxgen.specs.NodeTrees.{anchor_facts, tree_at}
 use Rattle.lay_boxgen.specs.Parts.{is_closed, all_put, nothing, own_tree}
 use Rattle.lay_boxgen.specs.declared.node_trees.NodeTree.{NodeTree}

@@ -11,9 +11,9 @@ use Rattle.lay_doc.specs.declared.node.Kind.{Kind}
 use Rattle.lay_doc.specs.declared.node.Kind.TheVariants as kind
 use Rattle.lay_box_tree.specs.declared.box_tree.Flow.{Flow}
 use Rattle.lay_box_tree.specs.declared.box_tree.Flow.TheVariants.{InFlow, Floating, Absolute}
-use Rattle.lay_anonymous_boxes.specs.declared.facts.Form.{Form}
-use Rattle.lay_anonymous_boxes.specs.declared.facts.Form.TheVariants as form
-use Rattle.lay_anonymous_boxes.specs.Forms.{is_in_flow}
+use Rattle.lay_boxgen.specs.declared.facts.Form.{Form}
+use Rattle.lay_boxgen.specs.declared.facts.Form.TheVariants as form
+use Rattle.lay_boxgen.specs.Forms.{is_in_flow}
 
 abbrev pub is_out_of_flow_position : Position → Bool
 is_out_of_flow_position position.Absolute = true

@@ -2,18 +2,18 @@
 use Rattle.std.specs.Prelude.{◌≡◌, ℕ, Bool, true, false, List, [], ◌∷◌, if◌then◌else◌, Option, None, Some}
 use Rattle.lay_style.specs.declared.style.Style.{Style}
 use Rattle.lay_doc.specs.declared.node.Node.{Node}
-use Rattle.lay_anonymous_boxes.specs.Boxes.{Tree, Trees, tree, no_trees, also, trees_of, all_remade, in_box}
-use Rattle.lay_anonymous_boxes.specs.Forms.{is_inline, is_anchor, is_absolute}
-use Rattle.lay_anonymous_boxes.specs.Irrelevant.{relevant}
-use Rattle.lay_anonymous_boxes.specs.MissingChildren.{child_wrapped}
-use Rattle.lay_anonymous_boxes.specs.MissingParents.{parented}
-use Rattle.lay_anonymous_boxes.specs.TableWrappers.{in_wrapper}
-use Rattle.lay_anonymous_boxes.specs.BrokenInlines.{broken}
-use Rattle.lay_anonymous_boxes.specs.InlineRuns.{run_wrapped}
-use Rattle.lay_anonymous_boxes.specs.Generation.{generated}
+use Rattle.lay_boxgen.specs.Boxes.{Tree, Trees, tree, no_trees, also, trees_of, all_remade, in_box}
+use Rattle.lay_boxgen.specs.Forms.{is_inline, is_anchor, is_absolute}
+use Rattle.lay_boxgen.specs.Irrelevant.{relevant}
+use Rattle.lay_boxgen.specs.MissingChildren.{child_wrapped}
+use Rattle.lay_boxgen.specs.MissingParents.{parented}
+use Rattle.lay_boxgen.specs.TableWrappers.{in_wrapper}
+use Rattle.lay_boxgen.specs.BrokenInlines.{broken}
+use Rattle.lay_boxgen.specs.InlineRuns.{run_wrapped}
+use Rattle.lay_boxgen.specs.Generation.{generated}
 use Rattle.lay_boxgen.specs.NodeTrees.{as_own, anchor_facts, tree_at}
 use Rattle.lay_boxgen.specs.Parts.{put, put_list, nothing, own_tree, whole, part}
-use Rattle.lay_anonymous_boxes.specs.declared.facts.Facts.{Facts}
+use Rattle.lay_boxgen.specs.declared.facts.Facts.{Facts}
 
 -- what a box that is no inline box has inside in the end, where it has this inside before any rule
 abbrev pub inside : Facts → Trees → Trees

@@ -1,3 +1,17 @@
+pub mod Forms
+pub mod Boxes
+pub mod Stored
+pub mod Runs
+pub mod Irrelevant
+pub mod MissingChildren
+pub mod MissingParents
+pub mod TableWrappers
+pub mod BrokenInlines
+pub mod InlineRuns
+pub mod Generation
+pub mod Staying
+pub mod RunLaws
+pub mod BreakLaws
 pub mod Display
 pub mod WhiteSpace
 pub mod NodeBoxes

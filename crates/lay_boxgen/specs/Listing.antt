@@ -6,17 +6,17 @@ use Rattle.lay_style.specs.Places.{place_of}
 use Rattle.lay_doc.specs.declared.node.Node.{Node}
 use Rattle.lay_doc.specs.Document.{Document, ids_of}
 use Rattle.lay_boxgen.specs.AnonymousStyle.{anonymous_style}
-use Rattle.lay_anonymous_boxes.specs.Boxes.{Tree, Trees, tree, no_trees, also, trees_of, facts_of}
-use Rattle.lay_anonymous_boxes.specs.Forms.{is_anchor}
+use Rattle.lay_boxgen.specs.Boxes.{Tree, Trees, tree, no_trees, also, trees_of, facts_of}
+use Rattle.lay_boxgen.specs.Forms.{is_anchor}
 use Rattle.lay_boxgen.specs.Parts.{part}
 use Rattle.lay_box_tree.specs.declared.box_tree.BoxKind.{BoxKind}
 use Rattle.lay_box_tree.specs.declared.box_tree.BoxKind.TheVariants as kind
 use Rattle.lay_box_tree.specs.declared.box_tree.BoxNode.{BoxNode}
-use Rattle.lay_anonymous_boxes.specs.declared.facts.Facts.{Facts}
-use Rattle.lay_anonymous_boxes.specs.declared.facts.Form.{Form}
-use Rattle.lay_anonymous_boxes.specs.declared.facts.Form.TheVariants.{Block, InlineBlock, Inline, Text, Replaced, Wrapper}
-use Rattle.lay_anonymous_boxes.specs.declared.facts.Form.TheVariants.{InlineWrapper, Table, Caption, RowGroup, HeaderGroup}
-use Rattle.lay_anonymous_boxes.specs.declared.facts.Form.TheVariants.{FooterGroup, Row, ColumnGroup, Column, Cell, Anchor}
+use Rattle.lay_boxgen.specs.declared.facts.Facts.{Facts}
+use Rattle.lay_boxgen.specs.declared.facts.Form.{Form}
+use Rattle.lay_boxgen.specs.declared.facts.Form.TheVariants.{Block, InlineBlock, Inline, Text, Replaced, Wrapper}
+use Rattle.lay_boxgen.specs.declared.facts.Form.TheVariants.{InlineWrapper, Table, Caption, RowGroup, HeaderGroup}
+use Rattle.lay_boxgen.specs.declared.facts.Form.TheVariants.{FooterGroup, Row, ColumnGroup, Column, Cell, Anchor}
 
 abbrev pub text_of : Option Node → List ℕ
 text_of None = []

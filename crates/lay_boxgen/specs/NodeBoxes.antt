@@ -8,14 +8,14 @@ use Rattle.lay_doc.specs.declared.node.Kind.{Kind}
 use Rattle.lay_doc.specs.declared.node.Kind.TheVariants as kind
 use Rattle.lay_doc.specs.declared.node.Node.{Node}
 use Rattle.lay_units.specs.declared.length.Unit.{Unit as Length}
-use Rattle.lay_anonymous_boxes.specs.declared.facts.Facts.{Facts}
+use Rattle.lay_boxgen.specs.declared.facts.Facts.{Facts}
 use Rattle.lay_box_tree.specs.declared.box_tree.Flow.{Flow}
 use Rattle.lay_box_tree.specs.declared.box_tree.Flow.TheVariants.{InFlow}
-use Rattle.lay_anonymous_boxes.specs.declared.facts.Form.{Form}
-use Rattle.lay_anonymous_boxes.specs.declared.facts.Form.TheVariants.{Block, InlineBlock, Text, Replaced}
-use Rattle.lay_anonymous_boxes.specs.declared.facts.Form.TheVariants.{Wrapper, InlineWrapper, Caption, Cell}
+use Rattle.lay_boxgen.specs.declared.facts.Form.{Form}
+use Rattle.lay_boxgen.specs.declared.facts.Form.TheVariants.{Block, InlineBlock, Text, Replaced}
+use Rattle.lay_boxgen.specs.declared.facts.Form.TheVariants.{Wrapper, InlineWrapper, Caption, Cell}
 use Rattle.lay_boxgen.specs.Display.{flow_of, used_display_of, element_form, is_inline_display, is_none}
-use Rattle.lay_anonymous_boxes.specs.Forms.{is_in_flow}
+use Rattle.lay_boxgen.specs.Forms.{is_in_flow}
 use Rattle.lay_boxgen.specs.WhiteSpace.{text_form}
 
 -- the box of a replaced element of this used display

@@ -2,12 +2,12 @@
 use Rattle.std.specs.Prelude.{ℕ, ◌+◌, ◌==◌, true, false, List, [], ◌∷◌, drop, if◌then◌else◌, Option, None, Some}
 use Rattle.lay_style.specs.declared.style.Style.{Style}
 use Rattle.lay_doc.specs.declared.node.Node.{Node}
-use Rattle.lay_anonymous_boxes.specs.Boxes.{Tree, tree, trees_of, no_trees, also}
-use Rattle.lay_anonymous_boxes.specs.Forms.{is_absolute}
+use Rattle.lay_boxgen.specs.Boxes.{Tree, tree, trees_of, no_trees, also}
+use Rattle.lay_boxgen.specs.Forms.{is_absolute}
 use Rattle.lay_boxgen.specs.NodeBoxes.{node_box}
-use Rattle.lay_anonymous_boxes.specs.declared.facts.Facts.{Facts}
+use Rattle.lay_boxgen.specs.declared.facts.Facts.{Facts}
 use Rattle.lay_box_tree.specs.declared.box_tree.Flow.TheVariants.{Absolute}
-use Rattle.lay_anonymous_boxes.specs.declared.facts.Form.TheVariants.{Anchor}
+use Rattle.lay_boxgen.specs.declared.facts.Form.TheVariants.{Anchor}
 use Rattle.lay_boxgen.specs.declared.node_trees.NodeTree.{NodeTree}
 
 -- the box of a context, seen from inside

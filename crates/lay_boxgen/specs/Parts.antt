@@ -6,11 +6,11 @@
 use Rattle.std.specs.Prelude.{ℕ, Bool, ◌&&◌, not, List, [], ◌∷◌, if◌then◌else◌, Option, None, Some}
 use Rattle.lay_style.specs.declared.style.Style.{Style}
 use Rattle.lay_doc.specs.declared.node.Node.{Node}
-use Rattle.lay_anonymous_boxes.specs.Boxes.{Tree, Trees, tree, no_trees, also}
-use Rattle.lay_anonymous_boxes.specs.Forms.{is_inline}
-use Rattle.lay_anonymous_boxes.specs.Generation.{generated}
+use Rattle.lay_boxgen.specs.Boxes.{Tree, Trees, tree, no_trees, also}
+use Rattle.lay_boxgen.specs.Forms.{is_inline}
+use Rattle.lay_boxgen.specs.Generation.{generated}
 use Rattle.lay_boxgen.specs.NodeTrees.{as_own, tree_at}
-use Rattle.lay_anonymous_boxes.specs.declared.facts.Facts.{Facts}
+use Rattle.lay_boxgen.specs.declared.facts.Facts.{Facts}
 
 -- the box of an inner context, which is no inline box
 abbrev pub is_closed : Facts → Bool

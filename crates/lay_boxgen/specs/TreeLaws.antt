@@ -3,7 +3,7 @@ use Rattle.std.specs.Prelude.{ℕ, List}
 use Rattle.lay_style.specs.declared.style.Style.{Style}
 use Rattle.lay_doc.specs.declared.node.Node.{Node}
 use Rattle.lay_doc.specs.Tree.{IsTree}
-use Rattle.lay_anonymous_boxes.specs.Boxes.{Tree}
+use Rattle.lay_boxgen.specs.Boxes.{Tree}
 use Rattle.lay_box_tree.specs.BoxColumns.{box_parents, HasInnerLeaves}
 use Rattle.lay_boxgen.specs.Listing.{listed_part}
 use Rattle.lay_boxgen.specs.Parts.{part}

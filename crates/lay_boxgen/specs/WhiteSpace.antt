@@ -4,8 +4,8 @@ use Rattle.std.specs.Prelude.{ℕ, Bool, false, ◌&&◌, ◌||◌, not, List, �
 use Rattle.std.specs.List.{list_any, list_all}
 use Rattle.lay_style.specs.declared.style_words.WhiteSpace.{WhiteSpace}
 use Rattle.lay_style.specs.declared.style_words.WhiteSpace.TheVariants.{Normal, Pre, Nowrap, PreWrap, PreLine}
-use Rattle.lay_anonymous_boxes.specs.declared.facts.TextForm.{TextForm}
-use Rattle.lay_anonymous_boxes.specs.declared.facts.TextForm.TheVariants.{Seen, White, Blank}
+use Rattle.lay_boxgen.specs.declared.facts.TextForm.{TextForm}
+use Rattle.lay_boxgen.specs.declared.facts.TextForm.TheVariants.{Seen, White, Blank}
 
 abbrev pub is_linefeed : ℕ → Bool
 is_linefeed b = b == 10

@@ -7,9 +7,10 @@ ghost use Rattle.lay_boxgen.specs.CutTrees.{cut_tree_at, generated_cut};
 ghost use Rattle.lay_boxgen.specs.Listing.{boxes_of, boxes_at, listed_part};
 ghost use Rattle.lay_boxgen.specs.Parts.{part};
 
+use crate::generation::generate;
 use crate::listing::{Sources, listed_part};
 use crate::node_trees::context_tree;
-use lay_anonymous_boxes::{Subtree, generate};
+use crate::subtree::Subtree;
 use lay_box_tree::{BoxNode, BoxTree};
 use lay_doc::{Doc, Node, NodeId};
 use lay_style::{Computed, Style};

@@ -2,7 +2,7 @@
 
 ghost use Rattle.std.specs.Prelude.{ℕ, ◌≡◌, ◌<◌, ◌≤◌, ◌+◌, ◌-◌, Some, IfOk, IsTrue, OnOk};
 ghost use Rattle.std.specs.Prelude.{true, false, length, option_map, reverse, slice_index};
-ghost use Rattle.lay_anonymous_boxes.specs.Boxes.{facts_of};
+ghost use Rattle.lay_boxgen.specs.Boxes.{facts_of};
 ghost use Rattle.lay_boxgen.specs.Contexts.{IsContextAt};
 ghost use Rattle.lay_boxgen.specs.ContextWalk.{IsWalkedTo, Rise, as_leaves, boxes_at_places, is_context_tree};
 ghost use Rattle.lay_boxgen.specs.CutTrees.{as_leaf};
@@ -12,7 +12,7 @@ ghost use Rattle.lay_boxgen.specs.Parts.{is_closed, own_tree};
 use crate::context_boxes::boxes_of_tree;
 use crate::listing::Sources;
 use crate::node_trees::{NodeTree, as_leaf, own_tree, put_node};
-use lay_anonymous_boxes::Subtree;
+use crate::subtree::Subtree;
 use lay_box_tree::BoxTree;
 use lay_doc::Doc;
 use lay_style::{Computed, style_at};

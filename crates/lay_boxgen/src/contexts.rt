@@ -5,8 +5,9 @@ ghost use Rattle.lay_doc.specs.Document.{parents_of};
 ghost use Rattle.lay_doc.specs.Tree.{IsTree};
 ghost use Rattle.lay_boxgen.specs.Contexts.{box_at, keeps_form, keeps, GeneratesBox, is_marked, IsContextAt, IsContext};
 
+use crate::facts::{Facts, Form};
+use crate::forms::{is_column, is_column_group};
 use crate::node_boxes::node_box;
-use lay_anonymous_boxes::{Facts, Form, is_column, is_column_group};
 use lay_doc::{Doc, Node, NodeId, parent_at};
 use lay_style::{Computed, Style};
 

@@ -3,7 +3,8 @@
 ghost use Rattle.std.specs.Prelude.{◌≡◌};
 ghost use Rattle.lay_boxgen.specs.Display.{flow_of, as_block, used_display, replaced_display, used_display_of, element_form};
 
-use lay_anonymous_boxes::{Form, is_in_flow};
+use crate::facts::Form;
+use crate::forms::is_in_flow;
 use lay_box_tree::Flow;
 use lay_doc::Kind;
 use lay_style::{Display, Float, Position, Style};

@@ -7,7 +7,7 @@ ghost use Rattle.lay_boxgen.specs.Contexts.{AreContextFlags};
 ghost use Rattle.lay_boxgen.specs.GeneratedBoxes.{AreGenerated, IsGenerated};
 
 use crate::contexts::{box_at, is_marked, keeps};
-use lay_anonymous_boxes::Facts;
+use crate::facts::Facts;
 use lay_doc::{Doc, Node, parent_at};
 use lay_style::{Computed, Style};
 use lay_units::NoMemory;

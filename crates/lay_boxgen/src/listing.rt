@@ -1,13 +1,15 @@
 //! The trees of a part as a list of boxes.
 
 ghost use Rattle.std.specs.Prelude.{◌≡◌, ◌++◌, ◌∷◌, [], OnOk, IfOk, IfSome, length};
-ghost use Rattle.lay_anonymous_boxes.specs.Boxes.{trees_of};
+ghost use Rattle.lay_boxgen.specs.Boxes.{trees_of};
 ghost use Rattle.lay_boxgen.specs.Listing.{text_at, box_style, kind_of, style_of, style_below, box_node, listed, all_listed, listed_part};
 ghost use Rattle.lay_boxgen.specs.Parts.{put, all_put, put_list, nothing};
 
 use crate::anonymous_style::anonymous_style;
+use crate::facts::{Facts, Form};
+use crate::forms::is_anchor;
 use crate::node_trees::is_closed;
-use lay_anonymous_boxes::{Facts, Form, Subtree, is_anchor};
+use crate::subtree::Subtree;
 use lay_box_tree::{BoxKind, BoxNode};
 use lay_doc::Node;
 use lay_style::Style;

@@ -5,8 +5,9 @@ ghost use Rattle.lay_boxgen.specs.NodeBoxes.{replaced_form, form_of_text, form_o
 ghost use Rattle.lay_boxgen.specs.NodeBoxes.{is_context_form, establishes_context, node_box};
 
 use crate::display::{element_form, flow_of, used_display_of};
+use crate::facts::{Facts, Form};
+use crate::forms::is_in_flow;
 use crate::white_space::text_form;
-use lay_anonymous_boxes::{Facts, Form, is_in_flow};
 use lay_box_tree::Flow;
 use lay_doc::{Kind, Node};
 use lay_style::{Display, Overflow, Style};

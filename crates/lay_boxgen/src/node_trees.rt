@@ -3,13 +3,15 @@
 ghost use Rattle.std.specs.Prelude.{◌≡◌, ◌<◌, ◌≤◌, ◌+◌, OnOk, IfOk, length, option_map, reverse, slice_index};
 ghost use Rattle.lay_units.specs.Limits.{most_nodes};
 ghost use Rattle.lay_doc.specs.Document.{parents_of};
-ghost use Rattle.lay_anonymous_boxes.specs.Boxes.{tree};
+ghost use Rattle.lay_boxgen.specs.Boxes.{tree};
 ghost use Rattle.lay_boxgen.specs.CutTrees.{as_leaf, cut_tree_at, is_child_first};
 ghost use Rattle.lay_boxgen.specs.NodeTrees.{anchor_facts, children_of, others_than_children, box_with, with_node, node_trees, first_tree};
 ghost use Rattle.lay_boxgen.specs.Parts.{is_closed, own_tree};
 
+use crate::facts::{Facts, Form};
+use crate::forms::{is_absolute, is_inline};
 use crate::node_boxes::node_box;
-use lay_anonymous_boxes::{Facts, Form, Subtree, is_absolute, is_inline};
+use crate::subtree::Subtree;
 use lay_box_tree::Flow;
 use lay_doc::Node;
 use lay_style::Style;

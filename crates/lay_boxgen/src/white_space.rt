@@ -4,7 +4,7 @@ ghost use Rattle.std.specs.Prelude.{◌≡◌};
 ghost use Rattle.std.specs.List.{list_all, list_any};
 ghost use Rattle.lay_boxgen.specs.WhiteSpace.{is_white_byte, is_linefeed, is_carriage_return, collapses, white_form, text_form};
 
-use lay_anonymous_boxes::TextForm;
+use crate::facts::TextForm;
 use lay_style::WhiteSpace;
 
 fn is_white(bytes: &[u8]) -> bool

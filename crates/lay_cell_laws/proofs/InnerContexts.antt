@@ -5,7 +5,7 @@ use Rattle.std.proofs.lemmas.List.{get_or-map}
 use Rattle.lay_layout.specs.style.declared.style.Style.{Style}
 use Rattle.lay_layout.specs.doc.declared.node.Node.{Node}
 use Rattle.lay_layout.specs.doc.Document.{ids_of}
-use Rattle.lay_layout.specs.anonymous_boxes.declared.facts.Facts.{Facts}
+use Rattle.lay_layout.specs.boxgen.declared.facts.Facts.{Facts}
 use Rattle.lay_layout.specs.box_tree.BoxColumns.{box_at, box_ids, no_box}
 use Rattle.lay_layout.specs.box_tree.ContextBoxes.{is_inner}
 use Rattle.lay_layout.specs.box_tree.declared.box_tree.BoxNode.{BoxNode}

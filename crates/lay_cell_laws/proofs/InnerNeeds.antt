@@ -3,7 +3,7 @@
 use Rattle.std.proofs.Common.{◌≡◌, ◌<◌, ◌↔◌, ◌&&◌, ℕ, zero, suc, not, nat_lt, Bool, true, false, List, [], ◌∷◌, length, map, refl, ap, sym, ◌∙◌, arith}
 use Rattle.std.proofs.lemmas.Bool.{and_from, and_parts, lt-ltb}
 use Rattle.std.proofs.lemmas.Option.{slice_get-get_or}
-use Rattle.lay_layout.specs.anonymous_boxes.Forms as forms
+use Rattle.lay_layout.specs.boxgen.Forms as forms
 use Rattle.lay_layout.specs.box_tree.declared.box_tree.BoxNode.{BoxNode}
 use Rattle.lay_layout.specs.box_tree.declared.box_tree.Flow.{Flow}
 use Rattle.lay_layout.specs.box_tree.declared.box_tree.Flow.TheVariants.{InFlow, Floating, Absolute}

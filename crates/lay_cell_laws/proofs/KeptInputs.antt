@@ -1,7 +1,7 @@
 -- What the cells of contexts are given for sizes and places is kept, in flow by what is around them, and out of flow by their way out.
 use Rattle.std.proofs.Common.{◌≡◌, ◌<◌, ℕ, zero, suc, Bool, true, false, List, [], ◌∷◌, length, slice_index, None, Some, refl, ap, sym, subst, ◌∙◌, arith, inl, inr}
 use Rattle.std.proofs.lemmas.Bool.{cases_lt}
-use Rattle.lay_layout.specs.anonymous_boxes.Forms as forms
+use Rattle.lay_layout.specs.boxgen.Forms as forms
 use Rattle.lay_layout.specs.box_tree.declared.box_tree.BoxNode.{BoxNode}
 use Rattle.lay_layout.specs.sizes.declared.sizing.ContainingBlock.{ContainingBlock}
 use Rattle.lay_layout.specs.contexts.Contexts.{boxes_in, context_at}

@@ -7,8 +7,8 @@ use Rattle.lay_layout.specs.style.ComputedStyle.{style_at}
 use Rattle.lay_layout.specs.doc.declared.node.Node.{Node}
 use Rattle.lay_layout.specs.doc.declared.node.NodeId.{NodeId}
 use Rattle.lay_layout.specs.doc.Document.{Document, IsDocument, ids_of}
-use Rattle.lay_layout.specs.anonymous_boxes.Boxes.{Tree, Trees, tree, trees_of}
-use Rattle.lay_layout.specs.anonymous_boxes.declared.facts.Facts.{Facts}
+use Rattle.lay_layout.specs.boxgen.Boxes.{Tree, Trees, tree, trees_of}
+use Rattle.lay_layout.specs.boxgen.declared.facts.Facts.{Facts}
 use Rattle.lay_layout.specs.box_tree.BoxColumns.{box_ids}
 use Rattle.lay_layout.specs.box_tree.ContextBoxes.{is_inner}
 use Rattle.lay_layout.specs.box_tree.declared.box_tree.BoxNode.{BoxNode}

@@ -1,7 +1,7 @@
 -- What a root is given by what stands among its boxes, without numbers of formatting contexts: by the boxes of its context, and by what the
 -- cells of the contexts inside keep.
 use Rattle.std.proofs.Common.{◌≡◌, ◌<◌, ◌-◌, ℕ, zero, suc, nat_lt, Bool, true, false, if◌then◌else◌, List, ◌∷◌, length, map, slice_index, Option, None, Some, refl, ap, sym, ◌∙◌, arith}
-use Rattle.lay_layout.specs.anonymous_boxes.Forms as forms
+use Rattle.lay_layout.specs.boxgen.Forms as forms
 use Rattle.lay_layout.specs.box_tree.BoxColumns.{box_at}
 use Rattle.lay_layout.specs.box_tree.declared.box_tree.BoxNode.{BoxNode}
 use Rattle.lay_layout.specs.box_tree.declared.box_tree.Flow.{Flow}

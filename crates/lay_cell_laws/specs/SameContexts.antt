@@ -5,7 +5,7 @@
 use Rattle.std.specs.Prelude.{ℕ, ◌≡◌, ◌<◌, ◌↔◌, Bool, true, false, List, length, slice_index, Some}
 use Rattle.lay_layout.specs.style.declared.style.Style.{Style}
 use Rattle.lay_layout.specs.doc.Document.{Document, IsDocument}
-use Rattle.lay_layout.specs.anonymous_boxes.Forms.{is_absolute}
+use Rattle.lay_layout.specs.boxgen.Forms.{is_absolute}
 use Rattle.lay_layout.specs.contexts.Contexts.{Context, boxes_in, context_at}
 use Rattle.lay_layout.specs.contexts.ContextList.{AreContextsOf}
 use Rattle.lay_layout.specs.contexts.FlowLaws.{flow_at, is_anchor_at}

@@ -21,7 +21,7 @@ use Rattle.lay_layout.proofs.lay_contexts.ContextNumbers.{are_contexts}
 use Rattle.lay_layout.proofs.lay_contexts.OneStand.{marked-true, within}
 use Rattle.lay_layout.proofs.lay_contexts.RootNumbers.{first_le}
 use Rattle.lay_layout.specs.context_sizes.ShrinkToFit.{shrinks, shrinks_to_fit}
-use Rattle.lay_table_bounds.specs.TableLayouts.{asks_fixed, has_width, is_fixed}
+use Rattle.lay_layout.specs.table_sizes.TableLayouts.{asks_fixed, has_width, is_fixed}
 use Rattle.lay_layout.specs.context.Laws.{MeasuredWhereShrunk}
 use Rattle.lay_layout.specs.context.Measured.{ShrinksOutward, around, is_measured, own}
 use Rattle.lay_layout.specs.own_nodes.Bound.{EditsTouchNoOthers, IsUntouched, id_of}

@@ -6,7 +6,7 @@ use Rattle.lay_layout.specs.sizes.OwnBoxes.{OwnBoxesFit}
 use Rattle.lay_layout.specs.sizes.SizeColumns.{sizes_at}
 use Rattle.lay_layout.specs.pieces.InnerPieces.{AreNearInnerPieces}
 use Rattle.lay_layout.specs.flow_boxes.PlaceInputs.{PlaceInput, PlaceInputFits, height_rule_of}
-use Rattle.lay_layout.specs.table_rows.TableInputs.{TableInput, TableInputFits}
+use Rattle.lay_layout.specs.table.TableInputs.{TableInput, TableInputFits}
 use Rattle.lay_layout.proofs.lay_context.OwnHeights.{own_height_fits}
 
 pub refilled_flow : (i : PlaceInput) (inner : List OwnBox) (pieces : List (List Frag)) → PlaceInputFits i → length inner ≡ length i.inner → length pieces ≡ length i.pieces

@@ -21,7 +21,7 @@ use Rattle.lay_pieces.specs.declared.standing.Standing.{Standing}
 use Rattle.lay_pieces.specs.Corners.{corner_at, no_corner}
 use Rattle.lay_pieces.specs.Standings.{standing_at}
 use Rattle.lay_flow_boxes.specs.PlaceInputs.{PlaceInput}
-use Rattle.lay_table_rows.specs.TableInputs.{TableInput}
+use Rattle.lay_table.specs.TableInputs.{TableInput}
 use Rattle.lay_table_sizes.specs.TableSizesValue.{TableSizesValue}
 use Rattle.lay_abspos.specs.declared.setting.AbsoluteSetting.{AbsoluteSetting}
 use Rattle.lay_positioned.specs.Absolute.{is_absolute, is_fixed}

@@ -6,7 +6,7 @@ use Rattle.lay_flow_boxes.specs.PlaceInputs.{PlaceInput}
 use Rattle.lay_placement.specs.BoxStandings.{standing_of_box, standings_to}
 use Rattle.lay_placement.specs.ContextPlacements.{IsPlacement}
 use Rattle.lay_placement.specs.ContextPlaces.{ContextPlaces}
-use Rattle.lay_table_rows.specs.TableInputs.{TableInput}
+use Rattle.lay_table.specs.TableInputs.{TableInput}
 use Rattle.lay_table.specs.TablePlacements.{IsTablePlacement, standings_to as table_standings_to}
 use Rattle.lay_table.specs.TableStandings.{TablePlaces, standing_of}
 use Rattle.lay_table_sizes.specs.TableSizesValue.{TableSizesValue}

@@ -11,7 +11,7 @@ use Rattle.lay_table_sizes.specs.TableSizesValue.{TableSizesValue}
 use Rattle.lay_contexts.specs.FormattingContexts.{AreFormattingContexts, FormattingContext, boxes_in, formatting_context_at}
 use Rattle.lay_pieces.specs.InnerPieces.{AreNearInnerPieces}
 use Rattle.lay_flow_boxes.specs.PlaceInputs.{HeightRuleFits, PlaceInputFits, height_rule_of}
-use Rattle.lay_table_rows.specs.TableInputs.{TableInputFits}
+use Rattle.lay_table.specs.TableInputs.{TableInputFits}
 use Rattle.lay_context_sizes.specs.ContextSizes.{SizedContext}
 use Rattle.lay_context.specs.DocumentLayout.{flow_number, flow_numbers, inner_boxes, inner_pieces, own_box_in, pieces_in}
 use Rattle.lay_context.specs.Local.{flow_input, table_input}

@@ -2,7 +2,7 @@
 use Rattle.std.proofs.Common.{ℕ, Bool, true, false, List, Option, None, Some, option_map}
 use Rattle.lay_items.specs.InlineContents.{AreContents, KeptSegments}
 use Rattle.lay_flow_boxes.specs.PlaceInputs.{PlaceInput}
-use Rattle.lay_table_rows.specs.TableInputs.{TableInput}
+use Rattle.lay_table.specs.TableInputs.{TableInput}
 use Rattle.lay_abspos.specs.OwnOffsets.{StandInput}
 use Rattle.lay_contexts.specs.FormattingContexts.{FormattingContext, boxes_in}
 use Rattle.lay_context_sizes.specs.Inputs.{MeasureInput}

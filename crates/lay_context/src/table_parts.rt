@@ -1,13 +1,13 @@
 //! What a table's formatting context is placed of.
 
 ghost use Rattle.std.specs.Prelude.{◌≡◌, IfOk};
-ghost use Rattle.lay_table_rows.specs.TableInputs.{TableInputFits};
+ghost use Rattle.lay_table.specs.TableInputs.{TableInputFits};
 
 use crate::flow_parts::copied;
 use crate::shared_pieces::SharedPieces;
 use lay_box_tree::ContextBoxes;
 use lay_pieces::{ContextSizes, OwnBoxes};
-use lay_table_rows::TableInput;
+use lay_table::TableInput;
 use lay_table_sizes::TableSizes;
 use lay_units::NoMemory;
 use std::alloc::Global;
@@ -25,7 +25,7 @@ pub struct TableParts {
 }
 
 impl Model for TableParts {
-    ghost use Rattle.lay_table_rows.specs.TableInputs.{TableInput as Plain, TableInputFits};
+    ghost use Rattle.lay_table.specs.TableInputs.{TableInput as Plain, TableInputFits};
 
     ghost Value = { Plain };
 

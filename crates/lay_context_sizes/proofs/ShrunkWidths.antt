@@ -20,7 +20,7 @@ use Rattle.lay_sizes.specs.SizeColumns.{sizes_at}
 use Rattle.lay_table_borders.specs.TableGrid.{TableGridValue}
 use Rattle.lay_table_sizes.specs.TableBounds.{TableBoundsValue}
 use Rattle.lay_table_sizes.specs.TableBoxes.{wrapper_style}
-use Rattle.lay_table_bounds.specs.TableLayouts.{is_fixed}
+use Rattle.lay_table_sizes.specs.TableLayouts.{is_fixed}
 use Rattle.lay_table_sizes.specs.TableSizes.{AreTableWidthsAs, HasTableSizes}
 use Rattle.lay_table_sizes.specs.TableSizesValue.{TableSizesValue}
 use Rattle.lay_table_sizes.specs.declared.table_rule.TableRule.{TableRule}

@@ -9,7 +9,7 @@ use Rattle.lay_box_tree.specs.declared.box_tree.BoxKind.TheVariants as kind
 use Rattle.lay_box_tree.specs.declared.box_tree.BoxNode.{BoxNode}
 use Rattle.lay_box_tree.specs.declared.box_tree.Flow.{Flow}
 use Rattle.lay_box_tree.specs.declared.box_tree.Flow.TheVariants.{InFlow}
-use Rattle.lay_table_bounds.specs.TableLayouts.{is_fixed}
+use Rattle.lay_table_sizes.specs.TableLayouts.{is_fixed}
 
 abbrev pub shrinks_in_flow : BoxKind → Style → Bool
 shrinks_in_flow kind.InlineBlock s = true

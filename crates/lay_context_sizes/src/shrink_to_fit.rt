@@ -5,7 +5,7 @@ ghost use Rattle.lay_context_sizes.specs.ShrinkToFit.{shrinks, shrinks_in_flow, 
 
 use lay_box_tree::{BoxKind, BoxNode, Flow};
 use lay_style::Style;
-use lay_table_bounds::is_fixed;
+use lay_table_sizes::is_fixed;
 
 /// Whether the own box of these boxes, the first one, may shrink to fit its content (CSS 2.2, 10.3.5, 10.3.7, 10.3.9 and
 /// 17.5.2.2), so that its preferred widths count.

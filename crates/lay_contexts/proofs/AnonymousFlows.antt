@@ -3,24 +3,24 @@ use Rattle.std.proofs.Common.{◌≡◌, ℕ, ◌+◌, ◌≤◌, ◌&&◌, Bool
 use Rattle.std.specs.List.{list_any}
 use Rattle.lay_style.specs.declared.style.Style.{Style}
 use Rattle.lay_doc.specs.declared.node.Node.{Node}
-use Rattle.lay_anonymous_boxes.specs.Boxes.{Tree, Trees, tree, no_trees, also, trees_of, facts_of, all_remade, in_box, remade}
-use Rattle.lay_anonymous_boxes.specs.BrokenInlines.{broken, is_block_box, is_no_text_box, is_unseen, part_over, parts_from}
-use Rattle.lay_anonymous_boxes.specs.Forms.{is_in_flow, is_inline}
-use Rattle.lay_anonymous_boxes.specs.Generation.{generated}
-use Rattle.lay_anonymous_boxes.specs.InlineRuns.{run_wrapped}
+use Rattle.lay_boxgen.specs.Boxes.{Tree, Trees, tree, no_trees, also, trees_of, facts_of, all_remade, in_box, remade}
+use Rattle.lay_boxgen.specs.BrokenInlines.{broken, is_block_box, is_no_text_box, is_unseen, part_over, parts_from}
+use Rattle.lay_boxgen.specs.Forms.{is_in_flow, is_inline}
+use Rattle.lay_boxgen.specs.Generation.{generated}
+use Rattle.lay_boxgen.specs.InlineRuns.{run_wrapped}
 use Rattle.lay_boxgen.specs.InnerBoxes.{AllBoxes, AllIn, AllOf}
-use Rattle.lay_anonymous_boxes.specs.Irrelevant.{relevant}
-use Rattle.lay_anonymous_boxes.specs.MissingChildren.{child_wrapped}
-use Rattle.lay_anonymous_boxes.specs.MissingParents.{parented}
+use Rattle.lay_boxgen.specs.Irrelevant.{relevant}
+use Rattle.lay_boxgen.specs.MissingChildren.{child_wrapped}
+use Rattle.lay_boxgen.specs.MissingParents.{parented}
 use Rattle.lay_boxgen.specs.NodeTrees.{as_own, tree_at}
 use Rattle.lay_boxgen.specs.Parts.{generated_of}
-use Rattle.lay_anonymous_boxes.specs.Runs.{anonymous_facts}
-use Rattle.lay_anonymous_boxes.specs.TableWrappers.{in_wrapper, table_facts}
-use Rattle.lay_anonymous_boxes.specs.declared.facts.Facts.{Facts}
+use Rattle.lay_boxgen.specs.Runs.{anonymous_facts}
+use Rattle.lay_boxgen.specs.TableWrappers.{in_wrapper, table_facts}
+use Rattle.lay_boxgen.specs.declared.facts.Facts.{Facts}
 use Rattle.lay_box_tree.specs.declared.box_tree.Flow.{Flow}
 use Rattle.lay_box_tree.specs.declared.box_tree.Flow.TheVariants.{InFlow, Floating, Absolute}
-use Rattle.lay_anonymous_boxes.specs.declared.facts.Form.{Form}
-use Rattle.lay_anonymous_boxes.proofs.BoxMeasures.{append, child_wrapped_less, filter_less, in_wrapper_less, parented_less, relevant_less, remade_less, run_wrapped_less, stage_less, sum_is, sum_with, total, totals}
+use Rattle.lay_boxgen.specs.declared.facts.Form.{Form}
+use Rattle.lay_boxgen.proofs.BoxMeasures.{append, child_wrapped_less, filter_less, in_wrapper_less, parented_less, relevant_less, remade_less, run_wrapped_less, stage_less, sum_is, sum_with, total, totals}
 use Rattle.lay_contexts.specs.FlowLaws.{AnonymousBoxesAreInFlow, IsInFlowWhereAnonymous}
 use Rattle.lay_contexts.proofs.ListedFacts.{all_boxes}
 use Rattle.lay_contexts.proofs.NodeFacts.{IsNodeTree, node_tree}

@@ -8,18 +8,18 @@ use Rattle.lay_doc.specs.declared.node.Node.{Node}
 use Rattle.lay_doc.specs.Document.{ids_of, parents_of}
 use Rattle.lay_doc.specs.Tree.{IsTree}
 use Rattle.lay_box_tree.specs.BoxColumns.{box_ids, box_inner}
-use Rattle.lay_anonymous_boxes.specs.Boxes.{Tree, Trees, tree, no_trees, also, trees_of, facts_of, remade, in_box}
+use Rattle.lay_boxgen.specs.Boxes.{Tree, Trees, tree, no_trees, also, trees_of, facts_of, remade, in_box}
 use Rattle.lay_boxgen.specs.Contexts.{box_at, is_marked}
 use Rattle.lay_boxgen.specs.CutTrees.{as_leaf, cut_own, cut_tree_at, generated_cut, cut}
-use Rattle.lay_anonymous_boxes.specs.Forms.{is_absolute, is_inline}
+use Rattle.lay_boxgen.specs.Forms.{is_absolute, is_inline}
 use Rattle.lay_boxgen.specs.InnerBoxes.{AllBoxes, AllIn, AllOf}
-use Rattle.lay_anonymous_boxes.specs.Irrelevant.{relevant}
+use Rattle.lay_boxgen.specs.Irrelevant.{relevant}
 use Rattle.lay_boxgen.specs.Listing.{all_listed, listed, listed_part}
 use Rattle.lay_boxgen.specs.NodeBoxes.{node_box}
 use Rattle.lay_boxgen.specs.NodeTrees.{and_child, anchor_facts, as_own, box_with, children_of, first_tree, node_trees, others_than_children, tree_at}
 use Rattle.lay_boxgen.specs.Parts.{all_put, is_closed, nothing, own_tree, part, put, put_list}
 use Rattle.lay_box_tree.specs.declared.box_tree.BoxNode.{BoxNode}
-use Rattle.lay_anonymous_boxes.specs.declared.facts.Facts.{Facts}
+use Rattle.lay_boxgen.specs.declared.facts.Facts.{Facts}
 use Rattle.lay_boxgen.specs.declared.node_trees.NodeTree.{NodeTree}
 use Rattle.lay_boxgen.proofs.CutNodes.{tree-cut}
 use Rattle.lay_boxgen.proofs.CutParts.{part-cut}

@@ -5,18 +5,18 @@ use Rattle.lay_style.specs.declared.style.Style.{Style}
 use Rattle.lay_doc.specs.declared.node.Node.{Node}
 use Rattle.lay_doc.specs.Document.{ids_of}
 use Rattle.lay_box_tree.specs.BoxColumns.{box_ids, box_inner}
-use Rattle.lay_anonymous_boxes.specs.Boxes.{Tree, Trees, tree, no_trees, also, trees_of, facts_of}
+use Rattle.lay_boxgen.specs.Boxes.{Tree, Trees, tree, no_trees, also, trees_of, facts_of}
 use Rattle.lay_boxgen.specs.CutTrees.{cut_own, cut_tree_at, generated_cut}
-use Rattle.lay_anonymous_boxes.specs.Forms.{is_absolute, is_inline, is_text}
+use Rattle.lay_boxgen.specs.Forms.{is_absolute, is_inline, is_text}
 use Rattle.lay_boxgen.specs.InnerBoxes.{AllBoxes, AllIn, AllOf}
 use Rattle.lay_boxgen.specs.Listing.{all_listed, listed, listed_part}
 use Rattle.lay_boxgen.specs.NodeBoxes.{node_box}
 use Rattle.lay_boxgen.specs.NodeTrees.{anchor_facts, and_child, as_child, as_own, box_with, children_of, first_tree, node_trees, others_than_children, tree_at}
 use Rattle.lay_boxgen.specs.Parts.{all_put, is_closed, nothing, part, put, put_list, whole}
 use Rattle.lay_box_tree.specs.declared.box_tree.BoxNode.{BoxNode}
-use Rattle.lay_anonymous_boxes.specs.declared.facts.Facts.{Facts}
+use Rattle.lay_boxgen.specs.declared.facts.Facts.{Facts}
 use Rattle.lay_boxgen.specs.declared.node_trees.NodeTree.{NodeTree}
-use Rattle.lay_anonymous_boxes.proofs.BoxMeasures.{sum_is, sum_with, total, totals}
+use Rattle.lay_boxgen.proofs.BoxMeasures.{sum_is, sum_with, total, totals}
 use Rattle.lay_boxgen.proofs.CutParts.{part-cut}
 use Rattle.lay_boxgen.proofs.NodeForms.{IsNodeBox, is-node_box}
 use Rattle.lay_contexts.proofs.Kept.{all_held, held, inside_of, mark, one_if, sum_held}

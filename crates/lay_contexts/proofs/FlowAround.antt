@@ -6,10 +6,10 @@ use Rattle.lay_style.specs.InitialStyle.{initial_style}
 use Rattle.lay_doc.specs.Document.{Document, IsDocument, ids_of}
 use Rattle.lay_box_tree.specs.BoxColumns.{box_ids}
 use Rattle.lay_boxgen.specs.Contexts.{IsContextAt, box_at}
-use Rattle.lay_anonymous_boxes.specs.Forms.{is_absolute}
+use Rattle.lay_boxgen.specs.Forms.{is_absolute}
 use Rattle.lay_box_tree.specs.declared.box_tree.BoxKind.TheVariants.{Block}
 use Rattle.lay_box_tree.specs.declared.box_tree.BoxNode.{BoxNode}
-use Rattle.lay_anonymous_boxes.specs.declared.facts.Facts.{Facts}
+use Rattle.lay_boxgen.specs.declared.facts.Facts.{Facts}
 use Rattle.lay_box_tree.specs.declared.box_tree.Flow.TheVariants.{InFlow}
 use Rattle.lay_contexts.specs.FlowLaws.{flow_at, is_anchor, is_anchor_at}
 use Rattle.lay_contexts.proofs.AnonymousFlows.{anonymous_flows}

@@ -3,19 +3,19 @@ use Rattle.std.proofs.Common.{◌≡◌, ℕ, ◌<◌, true, false, List, length
 use Rattle.lay_style.specs.declared.style.Style.{Style}
 use Rattle.lay_doc.specs.declared.node.Node.{Node}
 use Rattle.lay_doc.specs.Document.{ids_of}
-use Rattle.lay_anonymous_boxes.specs.Boxes.{Tree, tree, in_box, remade}
+use Rattle.lay_boxgen.specs.Boxes.{Tree, tree, in_box, remade}
 use Rattle.lay_boxgen.specs.Contexts.{box_at}
-use Rattle.lay_anonymous_boxes.specs.Forms as forms
+use Rattle.lay_boxgen.specs.Forms as forms
 use Rattle.lay_boxgen.specs.InnerBoxes.{AllOf}
-use Rattle.lay_anonymous_boxes.specs.Irrelevant.{relevant}
+use Rattle.lay_boxgen.specs.Irrelevant.{relevant}
 use Rattle.lay_boxgen.specs.Listing.{box_node, kind_of, text_at}
 use Rattle.lay_boxgen.specs.NodeTrees.{anchor_facts, as_own, tree_at}
 use Rattle.lay_boxgen.specs.Parts.{generated_of}
-use Rattle.lay_anonymous_boxes.specs.declared.facts.Facts.{Facts}
+use Rattle.lay_boxgen.specs.declared.facts.Facts.{Facts}
 use Rattle.lay_box_tree.specs.declared.box_tree.Flow.{Flow}
 use Rattle.lay_box_tree.specs.declared.box_tree.Flow.TheVariants.{InFlow, Floating, Absolute}
-use Rattle.lay_anonymous_boxes.specs.declared.facts.Form.{Form}
-use Rattle.lay_anonymous_boxes.specs.declared.facts.Form.TheVariants.{Block, InlineBlock, Inline, Text, Replaced, Wrapper, InlineWrapper, Table, Caption, RowGroup, HeaderGroup, FooterGroup, Row, ColumnGroup, Column, Cell, Anchor}
+use Rattle.lay_boxgen.specs.declared.facts.Form.{Form}
+use Rattle.lay_boxgen.specs.declared.facts.Form.TheVariants.{Block, InlineBlock, Inline, Text, Replaced, Wrapper, InlineWrapper, Table, Caption, RowGroup, HeaderGroup, FooterGroup, Row, ColumnGroup, Column, Cell, Anchor}
 use Rattle.lay_boxgen.proofs.EveryBox.{every-generated, every-in_box, every-kept, every-relevant, every-remade}
 use Rattle.lay_contexts.specs.FlowLaws.{InnerBoxesKeepFlow, StandsWhereInner, is_anchor}
 use Rattle.lay_contexts.proofs.ListedFacts.{all_boxes}

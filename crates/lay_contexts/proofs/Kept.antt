@@ -2,18 +2,18 @@
 -- box generation behind the first stage removes or adds one.
 use Rattle.std.proofs.Common.{◌≡◌, ℕ, ◌+◌, ◌==◌, Bool, true, false, ◌&&◌, ◌||◌, not, List, [], ◌∷◌, ◌++◌, refl, ap, sym, ◌∙◌, arith, filter, if◌then◌else◌}
 use Rattle.std.specs.List.{list_any}
-use Rattle.lay_anonymous_boxes.specs.Boxes.{Tree, Trees, tree, no_trees, also, trees_of, facts_of, remade, all_remade, in_box}
-use Rattle.lay_anonymous_boxes.specs.Runs.{gathered, gathered_from, run_over, is_some, is_white_box, anonymous_box}
+use Rattle.lay_boxgen.specs.Boxes.{Tree, Trees, tree, no_trees, also, trees_of, facts_of, remade, all_remade, in_box}
+use Rattle.lay_boxgen.specs.Runs.{gathered, gathered_from, run_over, is_some, is_white_box, anonymous_box}
 use Rattle.lay_boxgen.specs.Parts.{is_closed}
-use Rattle.lay_anonymous_boxes.specs.Forms.{is_row_group, is_table, is_row, is_inline, is_text, is_block_container}
-use Rattle.lay_anonymous_boxes.specs.MissingChildren.{is_no_proper_table_child, is_no_row, is_no_cell, cell_round, in_cells, in_rows_of_table, in_rows_of_group, row_round, child_wrapped}
-use Rattle.lay_anonymous_boxes.specs.MissingParents.{is_cell_in_flow, is_misparented, row_of_cells, table_round, cells_in_rows, parented}
-use Rattle.lay_anonymous_boxes.specs.TableWrappers.{is_caption_box, is_no_caption_box, table_box, captions_and_table, in_wrapper}
-use Rattle.lay_anonymous_boxes.specs.BrokenInlines.{is_block_box, is_no_text_box, is_unseen, part_over, parts_from, broken}
-use Rattle.lay_anonymous_boxes.specs.InlineRuns.{is_no_block, is_seen_box, block_round, run_wrapped}
-use Rattle.lay_anonymous_boxes.specs.declared.facts.Facts.{Facts}
-use Rattle.lay_anonymous_boxes.specs.declared.facts.Form.{Form}
-use Rattle.lay_anonymous_boxes.specs.declared.facts.Form.TheVariants.{Row, Cell, Wrapper, InlineWrapper, Block, Inline}
+use Rattle.lay_boxgen.specs.Forms.{is_row_group, is_table, is_row, is_inline, is_text, is_block_container}
+use Rattle.lay_boxgen.specs.MissingChildren.{is_no_proper_table_child, is_no_row, is_no_cell, cell_round, in_cells, in_rows_of_table, in_rows_of_group, row_round, child_wrapped}
+use Rattle.lay_boxgen.specs.MissingParents.{is_cell_in_flow, is_misparented, row_of_cells, table_round, cells_in_rows, parented}
+use Rattle.lay_boxgen.specs.TableWrappers.{is_caption_box, is_no_caption_box, table_box, captions_and_table, in_wrapper}
+use Rattle.lay_boxgen.specs.BrokenInlines.{is_block_box, is_no_text_box, is_unseen, part_over, parts_from, broken}
+use Rattle.lay_boxgen.specs.InlineRuns.{is_no_block, is_seen_box, block_round, run_wrapped}
+use Rattle.lay_boxgen.specs.declared.facts.Facts.{Facts}
+use Rattle.lay_boxgen.specs.declared.facts.Form.{Form}
+use Rattle.lay_boxgen.specs.declared.facts.Form.TheVariants.{Row, Cell, Wrapper, InlineWrapper, Block, Inline}
 
 -- the box of an inner context, which is neither an inline box nor a text
 abbrev pub is_own : Facts → Bool

@@ -1,18 +1,18 @@
 -- At most as many boxes of inner contexts of a node are generated as stand in the tree that box generation starts from.
 use Rattle.std.proofs.Common.{◌≡◌, ℕ, ◌+◌, ◌≤◌, ◌==◌, Bool, true, false, ◌&&◌, not, List, [], ◌∷◌, ◌++◌, refl, arith, if◌then◌else◌}
 use Rattle.std.specs.List.{list_any}
-use Rattle.lay_anonymous_boxes.specs.Boxes.{Tree, Trees, tree, no_trees, also, trees_of, facts_of, remade, all_remade, in_box}
-use Rattle.lay_anonymous_boxes.specs.BrokenInlines.{is_block_box, is_no_text_box, is_unseen, part_over, parts_from, broken}
-use Rattle.lay_anonymous_boxes.specs.Forms.{is_inline}
-use Rattle.lay_anonymous_boxes.specs.Generation.{generated}
-use Rattle.lay_anonymous_boxes.specs.InlineRuns.{run_wrapped}
-use Rattle.lay_anonymous_boxes.specs.Irrelevant.{relevant}
-use Rattle.lay_anonymous_boxes.specs.MissingChildren.{child_wrapped}
-use Rattle.lay_anonymous_boxes.specs.MissingParents.{parented}
+use Rattle.lay_boxgen.specs.Boxes.{Tree, Trees, tree, no_trees, also, trees_of, facts_of, remade, all_remade, in_box}
+use Rattle.lay_boxgen.specs.BrokenInlines.{is_block_box, is_no_text_box, is_unseen, part_over, parts_from, broken}
+use Rattle.lay_boxgen.specs.Forms.{is_inline}
+use Rattle.lay_boxgen.specs.Generation.{generated}
+use Rattle.lay_boxgen.specs.InlineRuns.{run_wrapped}
+use Rattle.lay_boxgen.specs.Irrelevant.{relevant}
+use Rattle.lay_boxgen.specs.MissingChildren.{child_wrapped}
+use Rattle.lay_boxgen.specs.MissingParents.{parented}
 use Rattle.lay_boxgen.specs.Parts.{is_closed}
-use Rattle.lay_anonymous_boxes.specs.TableWrappers.{in_wrapper}
-use Rattle.lay_anonymous_boxes.specs.declared.facts.Facts.{Facts}
-use Rattle.lay_anonymous_boxes.proofs.BoxMeasures.{total, totals, sum_with, sum_is, append, filter_less, relevant_less, child_wrapped_less, parented_less, in_wrapper_less, run_wrapped_less, remade_less, stage_less}
+use Rattle.lay_boxgen.specs.TableWrappers.{in_wrapper}
+use Rattle.lay_boxgen.specs.declared.facts.Facts.{Facts}
+use Rattle.lay_boxgen.proofs.BoxMeasures.{total, totals, sum_with, sum_is, append, filter_less, relevant_less, child_wrapped_less, parented_less, in_wrapper_less, run_wrapped_less, remade_less, stage_less}
 use Rattle.lay_contexts.proofs.Kept.{one_if}
 
 -- the box of the inner context of the node with this id

@@ -2,12 +2,12 @@
 use Rattle.std.proofs.Common.{ℕ, zero, suc, ◌+◌, Bool, true, false, All, List, [], ◌∷◌, ◌++◌, length, arith, if◌then◌else◌}
 use Rattle.lay_style.specs.declared.style.Style.{Style}
 use Rattle.lay_doc.specs.declared.node.Node.{Node}
-use Rattle.lay_anonymous_boxes.specs.Boxes.{Tree, Trees, tree, no_trees, also, trees_of, facts_of}
+use Rattle.lay_boxgen.specs.Boxes.{Tree, Trees, tree, no_trees, also, trees_of, facts_of}
 use Rattle.lay_boxgen.specs.InnerBoxes.{AllBoxes, AllIn, AllOf}
 use Rattle.lay_boxgen.specs.Listing.{all_listed, box_node, listed, listed_part}
 use Rattle.lay_boxgen.specs.Parts.{all_put, is_closed, nothing, part, put, put_list, whole}
 use Rattle.lay_box_tree.specs.declared.box_tree.BoxNode.{BoxNode}
-use Rattle.lay_anonymous_boxes.specs.declared.facts.Facts.{Facts}
+use Rattle.lay_boxgen.specs.declared.facts.Facts.{Facts}
 
 -- a fact of each box, one by one
 abbrev Each : (BoxNode → Type 0) → List BoxNode → Type 0

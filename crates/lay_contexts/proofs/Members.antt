@@ -7,7 +7,7 @@ use Rattle.lay_style.specs.InitialStyle.{initial_style}
 use Rattle.lay_doc.specs.declared.node.Node.{Node}
 use Rattle.lay_doc.specs.Document.{ids_of, parents_of}
 use Rattle.lay_doc.specs.Tree.{IsTree}
-use Rattle.lay_anonymous_boxes.specs.Boxes.{Tree, Trees, no_trees, also, trees_of}
+use Rattle.lay_boxgen.specs.Boxes.{Tree, Trees, no_trees, also, trees_of}
 use Rattle.lay_boxgen.specs.Contexts.{box_at, box_of_node}
 use Rattle.lay_boxgen.specs.NodeBoxes.{node_box}
 use Rattle.lay_boxgen.specs.NodeTrees.{as_child, and_child, children_of, others_than_children, box_with, node_trees, first_tree, tree_at}

@@ -6,14 +6,14 @@ use Rattle.lay_style.specs.declared.style.Style.{Style}
 use Rattle.lay_style.specs.ComputedStyle.{style_at}
 use Rattle.lay_doc.specs.declared.node.Node.{Node}
 use Rattle.lay_doc.specs.Document.{Document, IsDocument, ids_of, parents_of}
-use Rattle.lay_anonymous_boxes.specs.Boxes.{Tree, Trees, tree, no_trees, also, trees_of}
+use Rattle.lay_boxgen.specs.Boxes.{Tree, Trees, tree, no_trees, also, trees_of}
 use Rattle.lay_boxgen.specs.Contexts.{box_at, box_of_node}
-use Rattle.lay_anonymous_boxes.specs.Forms.{is_absolute, is_anchor, is_inline}
+use Rattle.lay_boxgen.specs.Forms.{is_absolute, is_anchor, is_inline}
 use Rattle.lay_boxgen.specs.InnerBoxes.{AllBoxes, AllIn, AllOf}
 use Rattle.lay_boxgen.specs.NodeBoxes.{facts_with, form_of, node_box}
 use Rattle.lay_boxgen.specs.NodeTrees.{anchor_facts, and_child, as_child, as_own, box_with, first_tree, node_trees, tree_at}
-use Rattle.lay_anonymous_boxes.specs.declared.facts.Facts.{Facts}
-use Rattle.lay_anonymous_boxes.specs.declared.facts.Form.{Form}
+use Rattle.lay_boxgen.specs.declared.facts.Facts.{Facts}
+use Rattle.lay_boxgen.specs.declared.facts.Form.{Form}
 use Rattle.lay_boxgen.proofs.NodeForms.{IsNodeBox, is-node_box}
 use Rattle.lay_contexts.specs.NodeTreeLaws.{child_trees, children_places, places_from}
 use Rattle.lay_contexts.proofs.ChildTrees.{children_stand_in_order}

@@ -9,13 +9,13 @@ use Rattle.lay_doc.specs.declared.node.Node.{Node}
 use Rattle.lay_doc.specs.Document.{is_element_at}
 use Rattle.lay_doc.specs.NewNodes.{is_element}
 use Rattle.lay_boxgen.specs.Display.{as_block, element_form, flow_of, replaced_display, used_display}
-use Rattle.lay_anonymous_boxes.specs.Forms.{is_absolute, is_column, is_text}
+use Rattle.lay_boxgen.specs.Forms.{is_absolute, is_column, is_text}
 use Rattle.lay_style.specs.declared.style_words.Overflow.{Overflow}
 use Rattle.lay_boxgen.specs.NodeBoxes.{establishes_context, facts_with, form_of, node_box, node_flow, replaced_form}
-use Rattle.lay_anonymous_boxes.specs.declared.facts.Facts.{Facts}
+use Rattle.lay_boxgen.specs.declared.facts.Facts.{Facts}
 use Rattle.lay_box_tree.specs.declared.box_tree.Flow.{Flow}
 use Rattle.lay_box_tree.specs.declared.box_tree.Flow.TheVariants as flow
-use Rattle.lay_anonymous_boxes.specs.declared.facts.Form.{Form}
+use Rattle.lay_boxgen.specs.declared.facts.Form.{Form}
 
 pub element-there : (nodes : List Node) (k : ℕ) (n : Node) → slice_get nodes k ≡ Some n → is_element_at nodes k ≡ true → is_element n.kind ≡ true
 element-there [] k n h e = cc

@@ -2,19 +2,19 @@
 use Rattle.std.proofs.Common.{◌≡◌, Bool, true, false, ◌&&◌, ◌||◌, not, List, [], ◌∷◌, ◌++◌, filter, refl, sym, ap, ◌∙◌, if◌then◌else◌, Option, None, Some}
 use Rattle.std.specs.List.{list_any}
 use Rattle.lay_box_tree.specs.declared.box_tree.Flow.TheVariants as flow
-use Rattle.lay_anonymous_boxes.specs.Boxes.{Tree, Trees, tree, no_trees, also, trees_of, facts_of, remade, all_remade, in_box}
-use Rattle.lay_anonymous_boxes.specs.BrokenInlines.{broken, is_block_box, is_no_text_box, is_unseen, part_over, parts_from}
-use Rattle.lay_anonymous_boxes.specs.Forms.{is_blank, is_block, is_block_container, is_in_flow, is_inline, is_inline_level, is_text, is_white}
-use Rattle.lay_anonymous_boxes.specs.Generation.{generated}
-use Rattle.lay_anonymous_boxes.specs.InlineRuns.{block_round, is_no_block, is_seen_box, run_wrapped}
-use Rattle.lay_anonymous_boxes.specs.MissingChildren.{child_wrapped}
-use Rattle.lay_anonymous_boxes.specs.MissingParents.{parented}
-use Rattle.lay_anonymous_boxes.specs.Irrelevant.{relevant}
-use Rattle.lay_anonymous_boxes.specs.TableWrappers.{in_wrapper}
-use Rattle.lay_anonymous_boxes.specs.Runs.{anonymous_box, gathered, gathered_from, is_some, is_white_box, run_over}
-use Rattle.lay_anonymous_boxes.specs.declared.facts.Facts.{Facts}
-use Rattle.lay_anonymous_boxes.specs.declared.facts.Form.{Form}
-use Rattle.lay_anonymous_boxes.specs.declared.facts.Form.TheVariants as form
+use Rattle.lay_boxgen.specs.Boxes.{Tree, Trees, tree, no_trees, also, trees_of, facts_of, remade, all_remade, in_box}
+use Rattle.lay_boxgen.specs.BrokenInlines.{broken, is_block_box, is_no_text_box, is_unseen, part_over, parts_from}
+use Rattle.lay_boxgen.specs.Forms.{is_blank, is_block, is_block_container, is_in_flow, is_inline, is_inline_level, is_text, is_white}
+use Rattle.lay_boxgen.specs.Generation.{generated}
+use Rattle.lay_boxgen.specs.InlineRuns.{block_round, is_no_block, is_seen_box, run_wrapped}
+use Rattle.lay_boxgen.specs.MissingChildren.{child_wrapped}
+use Rattle.lay_boxgen.specs.MissingParents.{parented}
+use Rattle.lay_boxgen.specs.Irrelevant.{relevant}
+use Rattle.lay_boxgen.specs.TableWrappers.{in_wrapper}
+use Rattle.lay_boxgen.specs.Runs.{anonymous_box, gathered, gathered_from, is_some, is_white_box, run_over}
+use Rattle.lay_boxgen.specs.declared.facts.Facts.{Facts}
+use Rattle.lay_boxgen.specs.declared.facts.Form.{Form}
+use Rattle.lay_boxgen.specs.declared.facts.Form.TheVariants as form
 use Rattle.lay_boxgen.specs.NodeTrees.{tree_at}
 use Rattle.lay_boxgen.specs.Parts.{all_put, generated_of, is_closed, nothing, own_tree, put, put_list, whole}
 use Rattle.lay_contexts.specs.LevelLaws.{BoxesHoldOneLevel, EachBox, EachIn, EachOf, HoldsOneLevel, any_in, is_in_line}

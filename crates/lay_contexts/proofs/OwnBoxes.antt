@@ -8,16 +8,16 @@ use Rattle.lay_doc.specs.declared.node.Node.{Node}
 use Rattle.lay_doc.specs.declared.node.NodeId.{NodeId}
 use Rattle.lay_doc.specs.Document.{parents_of}
 use Rattle.lay_doc.specs.Tree.{IsTree}
-use Rattle.lay_anonymous_boxes.specs.Boxes.{Tree, tree, no_trees, also, trees_of}
+use Rattle.lay_boxgen.specs.Boxes.{Tree, tree, no_trees, also, trees_of}
 use Rattle.lay_boxgen.specs.Contexts.{box_at, box_of_node, is_marked}
 use Rattle.lay_boxgen.specs.CutTrees.{cut_own, cut_tree_at, generated_cut}
-use Rattle.lay_anonymous_boxes.specs.Forms.{is_absolute, is_inline}
+use Rattle.lay_boxgen.specs.Forms.{is_absolute, is_inline}
 use Rattle.lay_boxgen.specs.Listing.{listed_part, text_at, text_of}
 use Rattle.lay_boxgen.specs.NodeBoxes.{establishes_context, form_of, node_flow}
 use Rattle.lay_boxgen.specs.NodeTrees.{anchor_facts, and_child, as_child, as_own, box_with, tree_at}
 use Rattle.lay_boxgen.specs.Parts.{is_closed, nothing, part, put, put_list}
-use Rattle.lay_anonymous_boxes.specs.declared.facts.Facts.{Facts}
-use Rattle.lay_anonymous_boxes.specs.declared.facts.Form.{Form}
+use Rattle.lay_boxgen.specs.declared.facts.Facts.{Facts}
+use Rattle.lay_boxgen.specs.declared.facts.Form.{Form}
 use Rattle.lay_boxgen.proofs.CutParts.{part-cut}
 use Rattle.lay_boxgen.proofs.NodeForms.{IsBoxOf, IsNodeBox, is-node_box}
 use Rattle.lay_boxgen.proofs.Putting.{put-trees_of}

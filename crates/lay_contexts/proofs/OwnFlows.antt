@@ -1,12 +1,12 @@
 -- The own box of a context has the flow of its element's box.
 use Rattle.std.proofs.Common.{◌≡◌, List, [], ◌∷◌, refl, ap, subst, ◌∙◌, Bool, true, false, IsTrue, Option, Some}
-use Rattle.lay_anonymous_boxes.specs.Boxes.{Tree, Trees, tree, trees_of}
+use Rattle.lay_boxgen.specs.Boxes.{Tree, Trees, tree, trees_of}
 use Rattle.lay_boxgen.specs.Contexts.{is_marked}
 use Rattle.lay_boxgen.specs.Laws.{inner_boxes}
 use Rattle.lay_boxgen.specs.Listing.{listed_part}
 use Rattle.lay_boxgen.specs.NodeTrees.{as_own, box_with, tree_at}
 use Rattle.lay_boxgen.specs.Parts.{nothing, put_list}
-use Rattle.lay_anonymous_boxes.specs.declared.facts.Facts.{Facts}
+use Rattle.lay_boxgen.specs.declared.facts.Facts.{Facts}
 use Rattle.lay_boxgen.proofs.WholeParts.{context_is_one_box}
 use Rattle.lay_contexts.specs.FlowLaws.{OwnBoxesKeepFlow, flow_at}
 use Rattle.lay_contexts.specs.NodeTreeLaws.{child_trees, children_places}

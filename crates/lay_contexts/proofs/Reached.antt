@@ -4,17 +4,17 @@ use Rattle.lay_style.specs.declared.style.Style.{Style}
 use Rattle.lay_doc.specs.declared.node.Node.{Node}
 use Rattle.lay_doc.specs.Document.{ids_of, parents_of, is_element_at}
 use Rattle.lay_doc.specs.Tree.{IsTree}
-use Rattle.lay_anonymous_boxes.specs.Boxes.{Tree, Trees, tree, no_trees, also, trees_of, facts_of, remade, all_remade, in_box}
+use Rattle.lay_boxgen.specs.Boxes.{Tree, Trees, tree, no_trees, also, trees_of, facts_of, remade, all_remade, in_box}
 use Rattle.lay_boxgen.specs.Contexts.{box_at, is_marked, keeps, keeps_form, GeneratesBox}
-use Rattle.lay_anonymous_boxes.specs.Forms.{is_absolute, is_column, is_column_group, is_text, is_white}
-use Rattle.lay_anonymous_boxes.specs.Irrelevant.{is_column_box, is_irrelevant, kept_from, kept_gap, column_group_children, relevant, without_white_space}
+use Rattle.lay_boxgen.specs.Forms.{is_absolute, is_column, is_column_group, is_text, is_white}
+use Rattle.lay_boxgen.specs.Irrelevant.{is_column_box, is_irrelevant, kept_from, kept_gap, column_group_children, relevant, without_white_space}
 use Rattle.lay_boxgen.specs.NodeBoxes.{node_box}
 use Rattle.lay_boxgen.specs.NodeTrees.{as_child, as_own, anchor_facts, box_with, children_of, tree_at}
 use Rattle.lay_boxgen.specs.Parts.{generated_of, whole}
-use Rattle.lay_anonymous_boxes.specs.Runs.{is_white_box}
-use Rattle.lay_anonymous_boxes.specs.declared.facts.Facts.{Facts}
-use Rattle.lay_anonymous_boxes.specs.declared.facts.Form.{Form}
-use Rattle.lay_anonymous_boxes.specs.declared.facts.Form.TheVariants.{Anchor, Text}
+use Rattle.lay_boxgen.specs.Runs.{is_white_box}
+use Rattle.lay_boxgen.specs.declared.facts.Facts.{Facts}
+use Rattle.lay_boxgen.specs.declared.facts.Form.{Form}
+use Rattle.lay_boxgen.specs.declared.facts.Form.TheVariants.{Anchor, Text}
 use Rattle.lay_boxgen.proofs.Above.{kept_by, parent_generates}
 use Rattle.lay_boxgen.proofs.NodeForms.{IsBoxOf, IsNodeBox, is-node_box}
 use Rattle.lay_boxgen.proofs.NodeColumns.{length-parents}

@@ -4,11 +4,11 @@ use Rattle.lay_style.specs.declared.style.Style.{Style}
 use Rattle.lay_style.specs.ComputedStyle.{style_at}
 use Rattle.lay_doc.specs.declared.node.Node.{Node}
 use Rattle.lay_boxgen.specs.AnonymousStyle.{anonymous_style}
-use Rattle.lay_anonymous_boxes.specs.Boxes.{Tree, Trees, tree, no_trees, also, trees_of}
-use Rattle.lay_anonymous_boxes.specs.Forms.{is_anchor}
+use Rattle.lay_boxgen.specs.Boxes.{Tree, Trees, tree, no_trees, also, trees_of}
+use Rattle.lay_boxgen.specs.Forms.{is_anchor}
 use Rattle.lay_boxgen.specs.Listing.{all_listed, box_node, kind_of, listed, listed_part, style_of, text_at}
 use Rattle.lay_boxgen.specs.Parts.{all_put, is_closed, nothing, put, put_list}
-use Rattle.lay_anonymous_boxes.specs.declared.facts.Facts.{Facts}
+use Rattle.lay_boxgen.specs.declared.facts.Facts.{Facts}
 use Rattle.lay_contexts.proofs.Relabeled.{put_at, relabel, relabel_all, relabel_list, trees}
 
 module _ (nodes others : List Node) (styles other_styles : List Style) (to from : ℕ → ℕ)

@@ -3,13 +3,13 @@ use Rattle.std.proofs.Common.{◌≡◌, ◌<◌, ℕ, List, [], ◌∷◌, leng
 use Rattle.std.proofs.lemmas.List.{get_or-map, length-map}
 use Rattle.lay_style.specs.declared.style.Style.{Style}
 use Rattle.lay_doc.specs.Document.{Document, IsDocument}
-use Rattle.lay_anonymous_boxes.specs.Boxes.{Tree, tree, trees_of}
+use Rattle.lay_boxgen.specs.Boxes.{Tree, tree, trees_of}
 use Rattle.lay_boxgen.specs.Contexts.{IsContextAt, box_at, is_marked}
 use Rattle.lay_boxgen.specs.Laws.{inner_boxes}
 use Rattle.lay_boxgen.specs.Listing.{listed_part}
 use Rattle.lay_boxgen.specs.NodeTrees.{as_child, as_own, box_with, children_of, tree_at}
 use Rattle.lay_boxgen.specs.Parts.{nothing, part, put_list, whole}
-use Rattle.lay_anonymous_boxes.specs.declared.facts.Facts.{Facts}
+use Rattle.lay_boxgen.specs.declared.facts.Facts.{Facts}
 use Rattle.lay_boxgen.proofs.ListedForests.{boxes_are_a_tree_lem}
 use Rattle.lay_boxgen.proofs.ListedLeaves.{inner_boxes_are_leaves_lem}
 use Rattle.lay_boxgen.proofs.NodeForms.{IsNodeBox, is-node_box}

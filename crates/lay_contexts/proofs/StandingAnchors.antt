@@ -3,7 +3,7 @@ use Rattle.std.proofs.Common.{◌≡◌, ◌↔◌, ℕ, zero, suc, ◌<◌, ◌
 use Rattle.std.proofs.lemmas.List.{get_or-map}
 use Rattle.lay_style.specs.declared.style_words.Float.{Float}
 use Rattle.lay_style.specs.declared.style_words.Float.TheVariants as float
-use Rattle.lay_anonymous_boxes.specs.Forms.{is_absolute}
+use Rattle.lay_boxgen.specs.Forms.{is_absolute}
 use Rattle.lay_box_tree.specs.Roles.{box_roles, float_role, role_at, role_in, role_of, role_of_kind}
 use Rattle.lay_box_tree.specs.declared.box_role.Role.{Role}
 use Rattle.lay_box_tree.specs.declared.box_role.Role.TheVariants as role

@@ -1,10 +1,10 @@
 -- White space goes by itself.
 use Rattle.std.proofs.Common.{◌≡◌, Bool, true, false, List, [], ◌∷◌, ◌++◌, refl, ap, sym, ◌∙◌, if◌then◌else◌, Option, None, Some}
-use Rattle.lay_anonymous_boxes.specs.Boxes.{Tree, facts_of}
-use Rattle.lay_anonymous_boxes.specs.Irrelevant.{is_irrelevant, kept_from, kept_gap}
-use Rattle.lay_anonymous_boxes.specs.Runs.{is_white_box}
-use Rattle.lay_anonymous_boxes.specs.declared.facts.Facts.{Facts}
-use Rattle.lay_anonymous_boxes.specs.declared.facts.Form.{Form}
+use Rattle.lay_boxgen.specs.Boxes.{Tree, facts_of}
+use Rattle.lay_boxgen.specs.Irrelevant.{is_irrelevant, kept_from, kept_gap}
+use Rattle.lay_boxgen.specs.Runs.{is_white_box}
+use Rattle.lay_boxgen.specs.declared.facts.Facts.{Facts}
+use Rattle.lay_boxgen.specs.declared.facts.Form.{Form}
 use Rattle.lay_contexts.specs.WhiteSpaceLaws.{WhiteSpaceGoesByItself, child_kept, children_kept, first_seen, last_seen, or_else}
 
 abbrev AllWhite : List Tree → Type 0

@@ -2,7 +2,7 @@
 use Rattle.std.specs.Prelude.{ℕ, ◌≡◌, ◌<◌, true, List, length, slice_index}
 use Rattle.lay_style.specs.declared.style.Style.{Style}
 use Rattle.lay_doc.specs.Document.{Document, IsDocument}
-use Rattle.lay_anonymous_boxes.specs.Forms.{is_absolute}
+use Rattle.lay_boxgen.specs.Forms.{is_absolute}
 use Rattle.lay_box_tree.specs.declared.box_tree.Flow.TheVariants.{InFlow}
 use Rattle.lay_contexts.specs.FlowLaws.{flow_at, is_anchor_at}
 use Rattle.lay_box_tree.specs.Containing.{is_anonymous}

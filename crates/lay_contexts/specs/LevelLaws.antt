@@ -4,9 +4,9 @@
 use Rattle.std.specs.Prelude.{◌≡◌, ℕ, Bool, true, false, ◌&&◌, ◌||◌, List, [], ◌∷◌}
 use Rattle.lay_style.specs.declared.style.Style.{Style}
 use Rattle.lay_doc.specs.declared.node.Node.{Node}
-use Rattle.lay_anonymous_boxes.specs.Boxes.{Tree, Trees, tree, no_trees, also, facts_of}
-use Rattle.lay_anonymous_boxes.specs.Forms.{is_block, is_block_container, is_in_flow, is_inline, is_inline_level}
-use Rattle.lay_anonymous_boxes.specs.declared.facts.Facts.{Facts}
+use Rattle.lay_boxgen.specs.Boxes.{Tree, Trees, tree, no_trees, also, facts_of}
+use Rattle.lay_boxgen.specs.Forms.{is_block, is_block_container, is_in_flow, is_inline, is_inline_level}
+use Rattle.lay_boxgen.specs.declared.facts.Facts.{Facts}
 use Rattle.lay_boxgen.specs.Parts.{part}
 
 -- an inline-level box in flow

@@ -5,7 +5,7 @@ use Rattle.std.specs.Prelude.{ℕ, zero, suc, ◌≡◌, ◌+◌, ◌-◌, ◌<�
 use Rattle.lay_style.specs.declared.style.Style.{Style}
 use Rattle.lay_doc.specs.declared.node.Node.{Node}
 use Rattle.lay_doc.specs.Document.{Document, IsDocument, parents_of}
-use Rattle.lay_anonymous_boxes.specs.Boxes.{Tree}
+use Rattle.lay_boxgen.specs.Boxes.{Tree}
 use Rattle.lay_boxgen.specs.Contexts.{box_at}
 use Rattle.lay_boxgen.specs.NodeTrees.{and_child, as_child, box_with, tree_at}
 

@@ -2,11 +2,11 @@
 -- white space alone between two siblings that make it irrelevant: the nearest ones that are no such texts, since those
 -- that stand together are one anonymous inline box.
 use Rattle.std.specs.Prelude.{◌≡◌, ◌&&◌, List, [], ◌∷◌, ◌++◌, if◌then◌else◌, Option, None, Some}
-use Rattle.lay_anonymous_boxes.specs.Boxes.{Tree, facts_of}
-use Rattle.lay_anonymous_boxes.specs.Irrelevant.{is_irrelevant, without_white_space}
-use Rattle.lay_anonymous_boxes.specs.Runs.{is_white_box}
-use Rattle.lay_anonymous_boxes.specs.declared.facts.Facts.{Facts}
-use Rattle.lay_anonymous_boxes.specs.declared.facts.Form.{Form}
+use Rattle.lay_boxgen.specs.Boxes.{Tree, facts_of}
+use Rattle.lay_boxgen.specs.Irrelevant.{is_irrelevant, without_white_space}
+use Rattle.lay_boxgen.specs.Runs.{is_white_box}
+use Rattle.lay_boxgen.specs.declared.facts.Facts.{Facts}
+use Rattle.lay_boxgen.specs.declared.facts.Form.{Form}
 
 -- the first of these siblings that is no white space, and the last one
 abbrev pub first_seen : List Tree → Option Facts

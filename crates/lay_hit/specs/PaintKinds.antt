@@ -18,7 +18,7 @@ use Rattle.lay_doc.specs.declared.node.Node.{Node}
 use Rattle.lay_doc.specs.declared.node.Kind.{Kind}
 use Rattle.lay_doc.specs.declared.node.Kind.TheVariants as kind
 use Rattle.lay_doc.specs.NewNodes.{is_text}
-use Rattle.lay_anonymous_boxes.specs.Forms.{is_in_flow}
+use Rattle.lay_boxgen.specs.Forms.{is_in_flow}
 use Rattle.lay_boxgen.specs.Display.{is_floated, flow_of, used_display_of}
 use Rattle.lay_hit.specs.declared.kinds.PaintKind.{PaintKind}
 use Rattle.lay_hit.specs.declared.kinds.PaintKind.TheVariants.{Stacking, Layered, Float, Atomic, Block, Inline}

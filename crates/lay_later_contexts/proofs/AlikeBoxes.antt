@@ -15,10 +15,10 @@ use Rattle.lay_doc.specs.declared.node.Node.{Node}
 use Rattle.lay_doc.specs.declared.node.NodeId.{NodeId}
 use Rattle.lay_box_tree.specs.declared.box_tree.Flow.{Flow}
 use Rattle.lay_box_tree.specs.declared.box_tree.Flow.TheVariants.{InFlow, Floating, Absolute}
-use Rattle.lay_anonymous_boxes.specs.declared.facts.Facts.{Facts}
-use Rattle.lay_anonymous_boxes.specs.declared.facts.Form.{Form}
-use Rattle.lay_anonymous_boxes.specs.declared.facts.Form.TheVariants as form
-use Rattle.lay_anonymous_boxes.specs.declared.facts.TextForm.TheVariants.{Seen}
+use Rattle.lay_boxgen.specs.declared.facts.Facts.{Facts}
+use Rattle.lay_boxgen.specs.declared.facts.Form.{Form}
+use Rattle.lay_boxgen.specs.declared.facts.Form.TheVariants as form
+use Rattle.lay_boxgen.specs.declared.facts.TextForm.TheVariants.{Seen}
 use Rattle.lay_boxgen.specs.Contexts.{box_at, box_of_node}
 use Rattle.lay_boxgen.specs.Display.{element_form, flow_of, is_floated, is_out_of_flow_position, replaced_display, used_display}
 use Rattle.lay_boxgen.specs.NodeBoxes.{establishes_context, form_of, node_box, node_flow, replaced_form}

@@ -1,5 +1,4 @@
 pub use Rattle.lay_abspos.specs as abspos
-pub use Rattle.lay_anonymous_boxes.specs as anonymous_boxes
 pub use Rattle.lay_blocks.specs as blocks
 pub use Rattle.lay_box_tree.specs as box_tree
 pub use Rattle.lay_boxgen.specs as boxgen
@@ -25,6 +24,6 @@ pub use Rattle.lay_same.specs as same
 pub use Rattle.lay_sizes.specs as sizes
 pub use Rattle.lay_style.specs as style
 pub use Rattle.lay_table_borders.specs as table_borders
-pub use Rattle.lay_table_rows.specs as table_rows
+pub use Rattle.lay_table.specs as table
 pub use Rattle.lay_table_sizes.specs as table_sizes
 pub use Rattle.lay_units.specs as units

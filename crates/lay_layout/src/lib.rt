@@ -6,7 +6,6 @@
 #![tactic(auto)]
 
 pub use lay_abspos as abspos;
-pub use lay_anonymous_boxes as anonymous_boxes;
 pub use lay_blocks as blocks;
 pub use lay_box_tree as box_tree;
 pub use lay_boxgen as boxgen;
@@ -32,6 +31,6 @@ pub use lay_same as same;
 pub use lay_sizes as sizes;
 pub use lay_style as style;
 pub use lay_table_borders as table_borders;
-pub use lay_table_rows as table_rows;
+pub use lay_table as table;
 pub use lay_table_sizes as table_sizes;
 pub use lay_units as units;

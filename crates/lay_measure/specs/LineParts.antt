@@ -54,11 +54,17 @@ abbrev pub contribution_at : MeasureInValue → ℕ → PreferredWidths
 contribution_at m k = contribution_in m k (slice_get m.boxes k)
 
 -- 9.4.2 speaks of inline elements "with non-zero margins, padding, or borders"
-abbrev pub has_vertical_edges : Style → Bool
-has_vertical_edges s =
+abbrev pub has_top_edges : Style → Bool
+has_top_edges s =
     is_nonzero (margin_or_zero s.margin.top).0 || is_nonzero (size_of s.border.width.top.0).0 || is_nonzero (size_or_zero s.padding.top).0
-    || is_nonzero (margin_or_zero s.margin.bottom).0 || is_nonzero (size_of s.border.width.bottom.0).0
+
+abbrev pub has_bottom_edges : Style → Bool
+has_bottom_edges s =
+    is_nonzero (margin_or_zero s.margin.bottom).0 || is_nonzero (size_of s.border.width.bottom.0).0
     || is_nonzero (size_or_zero s.padding.bottom).0
+
+abbrev pub has_vertical_edges : Style → Bool
+has_vertical_edges s = has_top_edges s || has_bottom_edges s
 
 abbrev pub has_left_edges : Style → Bool
 has_left_edges s =

@@ -1,8 +1,9 @@
 //! What stands in lines, by its widths.
 
 ghost use Rattle.std.specs.Prelude.{◌≡◌, ◌++◌, ◌∷◌, [], slice_get, OnOk, IfOk};
-ghost use Rattle.lay_measure.specs.LineParts.{cluster_part, end_in, end_of, has_left_edges, has_right_edges, has_vertical_edges};
-ghost use Rattle.lay_measure.specs.LineParts.{line_parts, part_between, parts_at, parts_of, start_in, start_of, text_parts};
+ghost use Rattle.lay_measure.specs.LineParts.{cluster_part, end_in, end_of, has_bottom_edges, has_left_edges, has_right_edges};
+ghost use Rattle.lay_measure.specs.LineParts.{has_top_edges, has_vertical_edges, line_parts, part_between};
+ghost use Rattle.lay_measure.specs.LineParts.{parts_at, parts_of, start_in, start_of, text_parts};
 
 use crate::contributions::{
     contribution_at, left_edges, margin_or_zero, right_edges, size_or_zero,
@@ -168,10 +169,21 @@ fn end_of(style: &Style, part: InlinePart) -> Result<LinePart, NoMemory>
 fn has_vertical_edges(style: &Style) -> bool
     ensures { result ≡ has_vertical_edges style.now }
 {
+    has_top_edges(style) || has_bottom_edges(style)
+}
+
+fn has_top_edges(style: &Style) -> bool
+    ensures { result ≡ has_top_edges style.now }
+{
     is_nonzero(margin_or_zero(style.margin.top).0)
         || is_nonzero(size_of(style.border.width.top).0)
         || is_nonzero(size_or_zero(style.padding.top).0)
-        || is_nonzero(margin_or_zero(style.margin.bottom).0)
+}
+
+fn has_bottom_edges(style: &Style) -> bool
+    ensures { result ≡ has_bottom_edges style.now }
+{
+    is_nonzero(margin_or_zero(style.margin.bottom).0)
         || is_nonzero(size_of(style.border.width.bottom).0)
         || is_nonzero(size_or_zero(style.padding.bottom).0)
 }

@@ -2,19 +2,19 @@
 use Rattle.std.proofs.Common.{◌≡◌, inl, inr, ℕ, Bool, true, false, ◌&&◌, List, [], ◌∷◌, refl, ap, sym, subst, ◌∙◌, filter, if◌then◌else◌, None}
 use Rattle.std.specs.List.{list_any}
 use Rattle.std.proofs.lemmas.Bool.{cases_eq}
-use Rattle.lay_anonymous_boxes.specs.Boxes.{Tree, Trees, tree, no_trees, also, trees_of, remade, all_remade, in_box}
-use Rattle.lay_anonymous_boxes.specs.BrokenInlines.{broken, is_block_box, parts_from}
-use Rattle.lay_anonymous_boxes.specs.Forms.{is_anchor, is_block_container, is_column, is_column_group, is_inline, is_row, is_row_group, is_table}
-use Rattle.lay_anonymous_boxes.specs.Generation.{generated}
-use Rattle.lay_anonymous_boxes.specs.InlineRuns.{block_round, is_no_block, run_wrapped}
-use Rattle.lay_anonymous_boxes.specs.Irrelevant.{column_group_children, is_irrelevant, relevant}
-use Rattle.lay_anonymous_boxes.specs.MissingChildren.{child_wrapped, in_cells, in_rows_of_group, in_rows_of_table}
-use Rattle.lay_anonymous_boxes.specs.MissingParents.{is_cell_in_flow, is_misparented, parented, row_of_cells, table_round}
-use Rattle.lay_anonymous_boxes.specs.Runs.{anonymous_box, gathered}
-use Rattle.lay_anonymous_boxes.specs.TableWrappers.{captions_and_table, in_wrapper, is_no_caption_box, table_box}
-use Rattle.lay_anonymous_boxes.specs.declared.facts.Facts.{Facts}
-use Rattle.lay_anonymous_boxes.specs.declared.facts.Form.{Form}
-use Rattle.lay_anonymous_boxes.specs.declared.facts.Form.TheVariants as form
+use Rattle.lay_boxgen.specs.Boxes.{Tree, Trees, tree, no_trees, also, trees_of, remade, all_remade, in_box}
+use Rattle.lay_boxgen.specs.BrokenInlines.{broken, is_block_box, parts_from}
+use Rattle.lay_boxgen.specs.Forms.{is_anchor, is_block_container, is_column, is_column_group, is_inline, is_row, is_row_group, is_table}
+use Rattle.lay_boxgen.specs.Generation.{generated}
+use Rattle.lay_boxgen.specs.InlineRuns.{block_round, is_no_block, run_wrapped}
+use Rattle.lay_boxgen.specs.Irrelevant.{column_group_children, is_irrelevant, relevant}
+use Rattle.lay_boxgen.specs.MissingChildren.{child_wrapped, in_cells, in_rows_of_group, in_rows_of_table}
+use Rattle.lay_boxgen.specs.MissingParents.{is_cell_in_flow, is_misparented, parented, row_of_cells, table_round}
+use Rattle.lay_boxgen.specs.Runs.{anonymous_box, gathered}
+use Rattle.lay_boxgen.specs.TableWrappers.{captions_and_table, in_wrapper, is_no_caption_box, table_box}
+use Rattle.lay_boxgen.specs.declared.facts.Facts.{Facts}
+use Rattle.lay_boxgen.specs.declared.facts.Form.{Form}
+use Rattle.lay_boxgen.specs.declared.facts.Form.TheVariants as form
 use Rattle.lay_boxgen.specs.Parts.{all_put, is_closed, nothing, put, put_list}
 use Rattle.lay_own_nodes.proofs.EachTree.{Each, IsMade, each-append, each-broken, each-child_wrapped, each-filter, each-in_wrapper, each-parented, each-relevant, each-run_wrapped}
 

@@ -4,7 +4,7 @@ use Rattle.lay_style.specs.declared.style.Style.{Style}
 use Rattle.lay_style.specs.ComputedStyle.{style_at}
 use Rattle.lay_doc.specs.declared.node.Node.{Node}
 use Rattle.lay_doc.specs.Document.{Document}
-use Rattle.lay_anonymous_boxes.specs.declared.facts.Facts.{Facts}
+use Rattle.lay_boxgen.specs.declared.facts.Facts.{Facts}
 use Rattle.lay_box_tree.specs.declared.box_tree.BoxKind.{BoxKind}
 use Rattle.lay_box_tree.specs.declared.box_tree.Flow.{Flow}
 use Rattle.lay_boxgen.specs.Contexts.{IsContextAt, box_at}

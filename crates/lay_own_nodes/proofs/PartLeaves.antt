@@ -5,10 +5,10 @@ use Rattle.lay_style.specs.declared.style.Style.{Style}
 use Rattle.lay_doc.specs.declared.node.Node.{Node}
 use Rattle.lay_doc.specs.Document.{parents_of}
 use Rattle.lay_doc.specs.Tree.{IsTree}
-use Rattle.lay_anonymous_boxes.specs.Boxes.{Tree, tree, no_trees, also, trees_of}
-use Rattle.lay_anonymous_boxes.specs.Forms.{is_absolute, is_inline}
-use Rattle.lay_anonymous_boxes.specs.declared.facts.Facts.{Facts}
-use Rattle.lay_anonymous_boxes.specs.declared.facts.Form.{Form}
+use Rattle.lay_boxgen.specs.Boxes.{Tree, tree, no_trees, also, trees_of}
+use Rattle.lay_boxgen.specs.Forms.{is_absolute, is_inline}
+use Rattle.lay_boxgen.specs.declared.facts.Facts.{Facts}
+use Rattle.lay_boxgen.specs.declared.facts.Form.{Form}
 use Rattle.lay_boxgen.specs.Contexts.{box_at, box_of_node}
 use Rattle.lay_boxgen.specs.CutTrees.{cut_own, cut_tree_at}
 use Rattle.lay_boxgen.specs.NodeBoxes.{facts_with, form_of}

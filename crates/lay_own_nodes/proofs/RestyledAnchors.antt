@@ -17,8 +17,8 @@ use Rattle.lay_doc.specs.Tree.{IsUnder, child, itself}
 use Rattle.lay_doc.proofs.EditedDocuments.{edits_leave_documents}
 use Rattle.lay_doc.proofs.NodeColumns.{length-ids, length-parents}
 use Rattle.lay_doc.proofs.Subtrees.{has_subtree_lem}
-use Rattle.lay_anonymous_boxes.specs.Forms.{is_absolute}
-use Rattle.lay_anonymous_boxes.specs.declared.facts.Facts.{Facts}
+use Rattle.lay_boxgen.specs.Forms.{is_absolute}
+use Rattle.lay_boxgen.specs.declared.facts.Facts.{Facts}
 use Rattle.lay_boxgen.specs.Contexts.{IsContext, IsContextAt, IsContextThere, box_at, box_of_node, is_marked}
 use Rattle.lay_boxgen.specs.Listing.{boxes_at}
 use Rattle.lay_boxgen.proofs.NodeForms.{IsBoxOf, IsNodeBox, is-node_box}

@@ -5,9 +5,9 @@ use Rattle.std.proofs.lemmas.List.{get_or-map}
 use Rattle.lay_style.specs.declared.style.Style.{Style}
 use Rattle.lay_style.specs.ComputedStyle.{style_at}
 use Rattle.lay_doc.specs.Document.{Document, IsDocument, ids_of}
-use Rattle.lay_anonymous_boxes.specs.Boxes.{Tree, Trees, tree, trees_of}
-use Rattle.lay_anonymous_boxes.specs.Forms.{is_anchor}
-use Rattle.lay_anonymous_boxes.specs.declared.facts.Facts.{Facts}
+use Rattle.lay_boxgen.specs.Boxes.{Tree, Trees, tree, trees_of}
+use Rattle.lay_boxgen.specs.Forms.{is_anchor}
+use Rattle.lay_boxgen.specs.declared.facts.Facts.{Facts}
 use Rattle.lay_box_tree.specs.BoxColumns.{box_at as listed_at, box_ids, box_inner, no_box}
 use Rattle.lay_box_tree.specs.Containers.{box_parent}
 use Rattle.lay_box_tree.specs.ContextBoxes.{AreContextBoxes}

@@ -1,11 +1,11 @@
 -- Which parts of tables stray in which boxes (17.2.1). What the second stage puts round boxes is at home where it stands, and what strayed
 -- goes on straying in it. In the third stage cells stray where a row would, and all else that strays is misparented.
 use Rattle.std.proofs.Common.{◌≡◌, ◌⊎◌, inl, inr, ℕ, Bool, true, false, ◌&&◌, ◌||◌, not, refl, ap, sym, ◌∙◌}
-use Rattle.lay_anonymous_boxes.specs.Forms.{is_cell, is_column, is_column_group, is_in_flow, is_inline, is_proper_table_child, is_proper_table_descendant, is_row, is_row_group, is_table, is_table_part, is_white}
-use Rattle.lay_anonymous_boxes.specs.MissingParents.{is_misparented_column, is_misparented_group_or_caption, is_misparented_row}
-use Rattle.lay_anonymous_boxes.specs.declared.facts.Facts.{Facts}
-use Rattle.lay_anonymous_boxes.specs.declared.facts.Form.{Form}
-use Rattle.lay_anonymous_boxes.specs.declared.facts.Form.TheVariants as form
+use Rattle.lay_boxgen.specs.Forms.{is_cell, is_column, is_column_group, is_in_flow, is_inline, is_proper_table_child, is_proper_table_descendant, is_row, is_row_group, is_table, is_table_part, is_white}
+use Rattle.lay_boxgen.specs.MissingParents.{is_misparented_column, is_misparented_group_or_caption, is_misparented_row}
+use Rattle.lay_boxgen.specs.declared.facts.Facts.{Facts}
+use Rattle.lay_boxgen.specs.declared.facts.Form.{Form}
+use Rattle.lay_boxgen.specs.declared.facts.Form.TheVariants as form
 use Rattle.lay_own_nodes.specs.AnonymousTables.{is_stray, strays_in}
 
 -- Booleans.

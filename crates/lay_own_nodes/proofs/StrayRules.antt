@@ -1,19 +1,19 @@
 -- Which boxes stand in anonymous tables, rule by rule of box generation: before the third stage of 17.2.1 it is said by the parts of tables
 -- that stray, and from then on by the wrappers. The second stage leaves that as it is.
 use Rattle.std.proofs.Common.{◌≡◌, ◌⊎◌, ⊎_elim, inl, inr, Bool, true, false, ◌&&◌, ◌||◌, List, [], ◌∷◌, ◌++◌, filter, refl, ap, sym, subst, ◌∙◌, if◌then◌else◌}
-use Rattle.lay_anonymous_boxes.specs.Boxes.{Tree, Trees, tree, no_trees, also, trees_of, facts_of, remade, all_remade, in_box}
-use Rattle.lay_anonymous_boxes.specs.BrokenInlines.{broken}
-use Rattle.lay_anonymous_boxes.specs.Forms.{is_cell, is_in_flow, is_inline, is_proper_table_child, is_row, is_row_group, is_table, is_white}
-use Rattle.lay_anonymous_boxes.specs.Generation.{generated}
-use Rattle.lay_anonymous_boxes.specs.InlineRuns.{run_wrapped}
-use Rattle.lay_anonymous_boxes.specs.Irrelevant.{relevant}
-use Rattle.lay_anonymous_boxes.specs.MissingChildren.{cell_round, child_wrapped, in_cells, in_rows_of_group, in_rows_of_table, is_no_cell, is_no_proper_table_child, is_no_row, row_round}
-use Rattle.lay_anonymous_boxes.specs.MissingParents.{cells_in_rows, is_cell_in_flow, is_misparented, parented, row_of_cells, table_round}
-use Rattle.lay_anonymous_boxes.specs.Runs.{anonymous_box, anonymous_facts, gathered, gathered_from, is_some, is_white_box, run_over}
-use Rattle.lay_anonymous_boxes.specs.TableWrappers.{in_wrapper, is_no_caption_box, table_box, table_facts}
-use Rattle.lay_anonymous_boxes.specs.declared.facts.Facts.{Facts}
-use Rattle.lay_anonymous_boxes.specs.declared.facts.Form.{Form}
-use Rattle.lay_anonymous_boxes.specs.declared.facts.Form.TheVariants as form
+use Rattle.lay_boxgen.specs.Boxes.{Tree, Trees, tree, no_trees, also, trees_of, facts_of, remade, all_remade, in_box}
+use Rattle.lay_boxgen.specs.BrokenInlines.{broken}
+use Rattle.lay_boxgen.specs.Forms.{is_cell, is_in_flow, is_inline, is_proper_table_child, is_row, is_row_group, is_table, is_white}
+use Rattle.lay_boxgen.specs.Generation.{generated}
+use Rattle.lay_boxgen.specs.InlineRuns.{run_wrapped}
+use Rattle.lay_boxgen.specs.Irrelevant.{relevant}
+use Rattle.lay_boxgen.specs.MissingChildren.{cell_round, child_wrapped, in_cells, in_rows_of_group, in_rows_of_table, is_no_cell, is_no_proper_table_child, is_no_row, row_round}
+use Rattle.lay_boxgen.specs.MissingParents.{cells_in_rows, is_cell_in_flow, is_misparented, parented, row_of_cells, table_round}
+use Rattle.lay_boxgen.specs.Runs.{anonymous_box, anonymous_facts, gathered, gathered_from, is_some, is_white_box, run_over}
+use Rattle.lay_boxgen.specs.TableWrappers.{in_wrapper, is_no_caption_box, table_box, table_facts}
+use Rattle.lay_boxgen.specs.declared.facts.Facts.{Facts}
+use Rattle.lay_boxgen.specs.declared.facts.Form.{Form}
+use Rattle.lay_boxgen.specs.declared.facts.Form.TheVariants as form
 use Rattle.lay_box_tree.specs.declared.box_tree.Flow.TheVariants as flow
 use Rattle.lay_boxgen.specs.Parts.{all_put, is_closed, nothing, put, put_list}
 use Rattle.lay_own_nodes.specs.AnonymousTables.{is_anonymous_table, is_stray, strays_in}

@@ -7,11 +7,11 @@ use Rattle.lay_style.specs.declared.style_words.TableLayout.TheVariants.{Auto}
 use Rattle.lay_style.specs.ComputedStyle.{style_at}
 use Rattle.lay_doc.specs.declared.node.Node.{Node}
 use Rattle.lay_doc.specs.Document.{ids_of}
-use Rattle.lay_anonymous_boxes.specs.Boxes.{Tree, Trees, tree, no_trees, also, trees_of}
-use Rattle.lay_anonymous_boxes.specs.Forms.{is_anchor, is_table}
-use Rattle.lay_anonymous_boxes.specs.declared.facts.Facts.{Facts}
-use Rattle.lay_anonymous_boxes.specs.declared.facts.Form.{Form}
-use Rattle.lay_anonymous_boxes.specs.declared.facts.Form.TheVariants as form
+use Rattle.lay_boxgen.specs.Boxes.{Tree, Trees, tree, no_trees, also, trees_of}
+use Rattle.lay_boxgen.specs.Forms.{is_anchor, is_table}
+use Rattle.lay_boxgen.specs.declared.facts.Facts.{Facts}
+use Rattle.lay_boxgen.specs.declared.facts.Form.{Form}
+use Rattle.lay_boxgen.specs.declared.facts.Form.TheVariants as form
 use Rattle.lay_box_tree.specs.BoxColumns.{box_at, box_parents, no_box}
 use Rattle.lay_box_tree.specs.declared.box_tree.BoxKind.TheVariants as kind
 use Rattle.lay_box_tree.specs.declared.box_tree.BoxNode.{BoxNode}

@@ -8,8 +8,8 @@ use Rattle.lay_doc.specs.declared.edit.Edit.{Edit}
 use Rattle.lay_doc.specs.declared.edit.Edit.TheVariants.{SetStyle, ClearStyle}
 use Rattle.lay_doc.specs.Document.{Document, ids_of}
 use Rattle.lay_doc.specs.Edits.{after}
-use Rattle.lay_anonymous_boxes.specs.Forms.{is_absolute}
-use Rattle.lay_anonymous_boxes.specs.declared.facts.Facts.{Facts}
+use Rattle.lay_boxgen.specs.Forms.{is_absolute}
+use Rattle.lay_boxgen.specs.declared.facts.Facts.{Facts}
 use Rattle.lay_boxgen.specs.Contexts.{IsContext, box_at}
 use Rattle.lay_own_nodes.specs.Reached.{IsReached}
 use Rattle.lay_own_nodes.specs.Touched.{Edits, KeepsBoxes}

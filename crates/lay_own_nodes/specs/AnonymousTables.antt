@@ -5,10 +5,10 @@ use Rattle.std.specs.Prelude.{ℕ, ◌≡◌, ◌<◌, ◌↔◌, Bool, true, fa
 use Rattle.lay_style.specs.declared.style.Style.{Style}
 use Rattle.lay_doc.specs.declared.node.Node.{Node}
 use Rattle.lay_doc.specs.Document.{Document, IsDocument, ids_of}
-use Rattle.lay_anonymous_boxes.specs.Boxes.{Tree, Trees, tree, no_trees, also}
-use Rattle.lay_anonymous_boxes.specs.Forms.{is_column, is_column_group, is_in_flow, is_proper_table_descendant, is_table, is_table_part}
-use Rattle.lay_anonymous_boxes.specs.declared.facts.Facts.{Facts}
-use Rattle.lay_anonymous_boxes.specs.declared.facts.Form.{Form}
+use Rattle.lay_boxgen.specs.Boxes.{Tree, Trees, tree, no_trees, also}
+use Rattle.lay_boxgen.specs.Forms.{is_column, is_column_group, is_in_flow, is_proper_table_descendant, is_table, is_table_part}
+use Rattle.lay_boxgen.specs.declared.facts.Facts.{Facts}
+use Rattle.lay_boxgen.specs.declared.facts.Form.{Form}
 use Rattle.lay_boxgen.specs.Contexts.{IsContextAt, box_at, is_marked}
 use Rattle.lay_boxgen.specs.Parts.{part}
 use Rattle.lay_contexts.specs.ContextTree.{parent_of}

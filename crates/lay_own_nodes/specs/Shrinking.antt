@@ -9,7 +9,7 @@ use Rattle.lay_doc.specs.declared.edit.Edit.{Edit}
 use Rattle.lay_doc.specs.declared.node.Node.{Node}
 use Rattle.lay_doc.specs.Document.{Document, IsDocument, ids_of}
 use Rattle.lay_doc.specs.Edits.{after}
-use Rattle.lay_anonymous_boxes.specs.declared.facts.Facts.{Facts}
+use Rattle.lay_boxgen.specs.declared.facts.Facts.{Facts}
 use Rattle.lay_box_tree.specs.declared.box_tree.BoxKind.{BoxKind}
 use Rattle.lay_box_tree.specs.declared.box_tree.BoxKind.TheVariants.{Cell, InlineWrapper, Wrapper}
 use Rattle.lay_box_tree.specs.declared.box_tree.Flow.{Flow}

@@ -9,7 +9,7 @@ use Rattle.lay_doc.specs.Document.{Document}
 use Rattle.lay_doc.specs.Edits.{after}
 use Rattle.lay_doc.specs.NewNodes.{NewNodeValue}
 use Rattle.lay_doc.specs.NodeRefs.{parent_id}
-use Rattle.lay_anonymous_boxes.specs.declared.facts.Facts.{Facts}
+use Rattle.lay_boxgen.specs.declared.facts.Facts.{Facts}
 use Rattle.lay_boxgen.specs.Contexts.{box_at}
 use Rattle.lay_own_nodes.specs.Reached.{IsReached}
 use Rattle.lay_own_nodes.specs.Touched.{Edits}

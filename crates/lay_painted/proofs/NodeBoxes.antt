@@ -9,13 +9,13 @@ use Rattle.lay_doc.specs.declared.node.Kind.TheVariants as kind
 use Rattle.lay_doc.specs.declared.node.Node.{Node}
 use Rattle.lay_doc.specs.Document.{Document, IsDocument}
 use Rattle.lay_doc.specs.NewNodes.{is_text}
-use Rattle.lay_anonymous_boxes.specs.Boxes.{Tree, tree}
-use Rattle.lay_anonymous_boxes.specs.Forms.{is_absolute, is_text as is_text_form}
-use Rattle.lay_anonymous_boxes.specs.Runs.{anonymous_facts}
-use Rattle.lay_anonymous_boxes.specs.TableWrappers.{table_facts}
-use Rattle.lay_anonymous_boxes.specs.declared.facts.Facts.{Facts}
-use Rattle.lay_anonymous_boxes.specs.declared.facts.Form.{Form}
-use Rattle.lay_anonymous_boxes.specs.declared.facts.Form.TheVariants as form
+use Rattle.lay_boxgen.specs.Boxes.{Tree, tree}
+use Rattle.lay_boxgen.specs.Forms.{is_absolute, is_text as is_text_form}
+use Rattle.lay_boxgen.specs.Runs.{anonymous_facts}
+use Rattle.lay_boxgen.specs.TableWrappers.{table_facts}
+use Rattle.lay_boxgen.specs.declared.facts.Facts.{Facts}
+use Rattle.lay_boxgen.specs.declared.facts.Form.{Form}
+use Rattle.lay_boxgen.specs.declared.facts.Form.TheVariants as form
 use Rattle.lay_box_tree.specs.declared.box_tree.BoxKind.{BoxKind}
 use Rattle.lay_box_tree.specs.declared.box_tree.BoxKind.TheVariants as box_kind
 use Rattle.lay_box_tree.specs.declared.box_tree.BoxNode.{BoxNode}

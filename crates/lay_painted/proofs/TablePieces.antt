@@ -5,8 +5,8 @@ use Rattle.lay_box_tree.specs.ContextBoxes.{is_inner}
 use Rattle.lay_pieces.specs.InnerPieces.{inner_pieces_at}
 use Rattle.lay_pieces.specs.Placements.{Placement}
 use Rattle.lay_pieces.specs.Splicing.{spliced}
-use Rattle.lay_table_parts.specs.TableBoxes.{kind_at}
-use Rattle.lay_table_rows.specs.TableInputs.{TableInput}
+use Rattle.lay_table_borders.specs.TableBoxes.{kind_at}
+use Rattle.lay_table.specs.TableInputs.{TableInput}
 use Rattle.lay_table.specs.declared.pieces.Extent.{Extent}
 use Rattle.lay_table.specs.declared.pieces.Extent.TheVariants.{Own, Rows, Nothing}
 use Rattle.lay_table.specs.TablePieces.{extent_by_kind, inner_width, pieces_by, pieces_of_box, pieces_to}

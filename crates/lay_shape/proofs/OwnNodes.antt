@@ -11,8 +11,8 @@ use Rattle.lay_layout.specs.doc.declared.node.NodeId.{NodeId}
 use Rattle.lay_layout.specs.doc.Document.{Document, IsDocument, ids_of}
 use Rattle.lay_layout.specs.box_tree.BoxColumns.{box_at as own_at}
 use Rattle.lay_layout.specs.box_tree.declared.box_tree.BoxNode.{BoxNode}
-use Rattle.lay_layout.specs.anonymous_boxes.Boxes.{Tree, Trees, tree, trees_of}
-use Rattle.lay_layout.specs.anonymous_boxes.declared.facts.Facts.{Facts}
+use Rattle.lay_layout.specs.boxgen.Boxes.{Tree, Trees, tree, trees_of}
+use Rattle.lay_layout.specs.boxgen.declared.facts.Facts.{Facts}
 use Rattle.lay_layout.specs.boxgen.Contexts.{IsContextAt, box_at, box_of_node, is_marked}
 use Rattle.lay_layout.specs.boxgen.Laws.{inner_boxes}
 use Rattle.lay_layout.specs.boxgen.Listing.{listed_part}

@@ -9,8 +9,8 @@ use Rattle.lay_layout.proofs.lay_doc.EditedDocuments.{edits_leave_documents}
 use Rattle.lay_layout.proofs.lay_doc.NodeColumns.{length-parents}
 use Rattle.lay_layout.specs.box_tree.BoxColumns.{box_at as own_at}
 use Rattle.lay_layout.specs.box_tree.declared.box_tree.BoxNode.{BoxNode}
-use Rattle.lay_layout.specs.anonymous_boxes.Boxes.{Tree, Trees, tree, trees_of}
-use Rattle.lay_layout.specs.anonymous_boxes.declared.facts.Facts.{Facts}
+use Rattle.lay_layout.specs.boxgen.Boxes.{Tree, Trees, tree, trees_of}
+use Rattle.lay_layout.specs.boxgen.declared.facts.Facts.{Facts}
 use Rattle.lay_layout.specs.boxgen.Contexts.{IsContextAt, box_at, is_marked}
 use Rattle.lay_layout.specs.boxgen.Laws.{inner_boxes}
 use Rattle.lay_layout.specs.boxgen.Listing.{listed_part}

@@ -1,3 +1,8 @@
+pub mod ColumnEntries
+pub mod NeedSteps
+pub mod TrackSteps
+pub mod OneTableRows
+pub mod SomeTableRows
 pub mod ColumnSteps
 pub mod GroupSteps
 pub mod OneTable

@@ -2,9 +2,9 @@
 use Rattle.std.proofs.Common.{◌≡◌, sym, ap, ◌∙◌, subst}
 use Rattle.lay_blocks.proofs.OneContextFlow.{one_flow_of_lem}
 use Rattle.lay_blocks.specs.FlowPlaces.{IsFlowOf}
-use Rattle.lay_table_rows.specs.TableInputs.{TableInput}
-use Rattle.lay_table_rows.specs.TableRows.{TableRows}
-use Rattle.lay_table_rows.proofs.OneTableRows.{one_table_rows_lem}
+use Rattle.lay_table.specs.TableInputs.{TableInput}
+use Rattle.lay_table.specs.TableRows.{TableRows}
+use Rattle.lay_table.proofs.OneTableRows.{one_table_rows_lem}
 use Rattle.lay_table.specs.Laws.{OneTablePlacement}
 use Rattle.lay_table.specs.TablePlacements.{placement_of}
 use Rattle.lay_table.specs.TableStandings.{HasTablePlaces, TablePlaces, content_corner}

@@ -5,8 +5,8 @@ use Rattle.std.proofs.Math.Seq.{get_or-append_seam}
 use Rattle.std.proofs.lemmas.Bool.{cases_lt}
 use Rattle.lay_pieces.specs.declared.standing.Standing.{Standing}
 use Rattle.lay_pieces.specs.Standings.{no_standing, standing_at}
-use Rattle.lay_table_rows.specs.TableInputs.{TableInput}
-use Rattle.lay_table_rows.proofs.ColumnSteps.{same_list}
+use Rattle.lay_table.specs.TableInputs.{TableInput}
+use Rattle.lay_table.proofs.ColumnEntries.{same_list}
 use Rattle.lay_table.specs.PlaceBounds.{AreStandings}
 use Rattle.lay_table.specs.TablePlacements.{standings_to}
 use Rattle.lay_table.specs.TableStandings.{TablePlaces, number_in, standing_by, standing_of}

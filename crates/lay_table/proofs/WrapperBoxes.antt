@@ -19,9 +19,9 @@ use Rattle.lay_sizes.specs.declared.sizing.BoxSizes.{BoxSizes}
 use Rattle.lay_sizes.specs.OwnBoxes.{OwnBoxFits, own_box_at}
 use Rattle.lay_sizes.specs.SizeBounds.{IsInset, IsUsedSizeOrAuto, SizeFits}
 use Rattle.lay_sizes.specs.SizeColumns.{sizes_at}
-use Rattle.lay_table_rows.specs.RowNeeds.{table_sizes}
-use Rattle.lay_table_rows.specs.TableInputs.{TableInput}
-use Rattle.lay_table_rows.specs.Tracks.{Tracks}
+use Rattle.lay_table.specs.RowNeeds.{table_sizes}
+use Rattle.lay_table.specs.TableInputs.{TableInput}
+use Rattle.lay_table.specs.Tracks.{Tracks}
 use Rattle.lay_table.specs.Captions.{captions_of}
 use Rattle.lay_table.specs.PlaceBounds.{AllFit}
 use Rattle.lay_table.specs.WrapperFlow.{box_inside, boxes_in_wrapper, caption_inside, captions_inside, places_in_wrapper, table_box, wrapper_box}

@@ -1,7 +1,7 @@
 -- A table has one placement.
 use Rattle.std.specs.Prelude.{◌≡◌}
 use Rattle.lay_pieces.specs.Placements.{Placement}
-use Rattle.lay_table_rows.specs.TableInputs.{TableInput}
+use Rattle.lay_table.specs.TableInputs.{TableInput}
 use Rattle.lay_table.specs.TablePlacements.{IsTablePlacement}
 
 abbrev pub OneTablePlacement : Type 0

@@ -1,3 +1,12 @@
+pub mod TableInputs
+pub mod CellAligns
+pub mod Tracks
+pub mod RowNeeds
+pub mod TableRows
+pub mod NeedBounds
+pub mod RowBounds
+pub mod TrackStarts
+pub mod RowLaws
 pub mod Captions
 pub mod WrapperFlow
 pub mod Groups

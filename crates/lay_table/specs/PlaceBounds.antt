@@ -5,8 +5,8 @@ use Rattle.lay_blocks.specs.FlowBoxes.{KindFits}
 use Rattle.lay_pieces.specs.declared.standing.Standing.{Standing}
 use Rattle.lay_pieces.specs.Corners.{IsCornerNear}
 use Rattle.lay_pieces.specs.Standings.{AreNearStandings, standing_at}
-use Rattle.lay_table_rows.specs.RowBounds.{RowsFitTable}
-use Rattle.lay_table_rows.specs.TableInputs.{TableInput, grid_of}
+use Rattle.lay_table.specs.RowBounds.{RowsFitTable}
+use Rattle.lay_table.specs.TableInputs.{TableInput, grid_of}
 use Rattle.lay_table.specs.TableStandings.{TablePlaces, standing_of}
 use Rattle.lay_table.specs.WrapperFlow.{places_in_wrapper}
 

@@ -18,12 +18,12 @@ use Rattle.lay_sizes.specs.BoxSizes.{border_width}
 use Rattle.lay_sizes.specs.OwnBoxes.{own_box_at}
 use Rattle.lay_sizes.specs.declared.own_boxes.OwnBox.{OwnBox}
 use Rattle.lay_sizes.specs.SizeColumns.{sizes_at}
-use Rattle.lay_table_parts.specs.TableBoxes.{kind_at}
+use Rattle.lay_table_borders.specs.TableBoxes.{kind_at}
 use Rattle.lay_table_sizes.specs.TableSizesValue.{cell_at}
 use Rattle.lay_table_sizes.specs.declared.cell_size.CellSize.{CellSize}
-use Rattle.lay_table_rows.specs.RowNeeds.{table_sizes}
-use Rattle.lay_table_rows.specs.TableInputs.{TableInput}
-use Rattle.lay_table_rows.specs.Tracks.{Tracks, extent_of}
+use Rattle.lay_table.specs.RowNeeds.{table_sizes}
+use Rattle.lay_table.specs.TableInputs.{TableInput}
+use Rattle.lay_table.specs.Tracks.{Tracks, extent_of}
 use Rattle.lay_table.specs.declared.pieces.Extent.{Extent}
 use Rattle.lay_table.specs.declared.pieces.Extent.TheVariants.{Own, Rows, Nothing}
 use Rattle.lay_table.specs.TableStandings.{TablePlaces, standing_of}

@@ -7,9 +7,9 @@ use Rattle.lay_pieces.specs.declared.standing.Standing.{Standing}
 use Rattle.lay_pieces.specs.Placements.{Placement}
 use Rattle.lay_sizes.specs.OwnBoxes.{own_box}
 use Rattle.lay_sizes.specs.SizeColumns.{sizes_at}
-use Rattle.lay_table_rows.specs.TableInputs.{TableInput}
-use Rattle.lay_table_rows.specs.TableRows.{row_baseline}
-use Rattle.lay_table_rows.specs.Tracks.{start_of}
+use Rattle.lay_table.specs.TableInputs.{TableInput}
+use Rattle.lay_table.specs.TableRows.{row_baseline}
+use Rattle.lay_table.specs.Tracks.{start_of}
 use Rattle.lay_table.specs.TablePieces.{pieces_to}
 use Rattle.lay_table.specs.TableStandings.{HasTablePlaces, TablePlaces, standing_of}
 

@@ -15,12 +15,12 @@ use Rattle.lay_blocks.specs.Lengths.{length_at}
 use Rattle.lay_pieces.specs.declared.corner.Corner.{Corner}
 use Rattle.lay_pieces.specs.declared.standing.Standing.{Standing}
 use Rattle.lay_pieces.specs.Standings.{no_standing}
-use Rattle.lay_table_parts.specs.TableBoxes.{is_row_group, kind_at}
+use Rattle.lay_table_borders.specs.TableBoxes.{is_row_group, kind_at}
 use Rattle.lay_table_borders.specs.TableGrid.{TableGridValue}
-use Rattle.lay_table_rows.specs.RowNeeds.{cell_of, table_sizes}
-use Rattle.lay_table_rows.specs.TableInputs.{TableInput, grid_of}
-use Rattle.lay_table_rows.specs.TableRows.{HasRows, TableRows, cell_height, shift_of}
-use Rattle.lay_table_rows.specs.Tracks.{Tracks, extent_of, start_of}
+use Rattle.lay_table.specs.RowNeeds.{cell_of, table_sizes}
+use Rattle.lay_table.specs.TableInputs.{TableInput, grid_of}
+use Rattle.lay_table.specs.TableRows.{HasRows, TableRows, cell_height, shift_of}
+use Rattle.lay_table.specs.Tracks.{Tracks, extent_of, start_of}
 use Rattle.lay_table.specs.Captions.{captions_of, table_number}
 use Rattle.lay_table.specs.Groups.{rows_before, rows_within}
 use Rattle.lay_table.specs.WrapperFlow.{boxes_in_wrapper, places_in_wrapper}

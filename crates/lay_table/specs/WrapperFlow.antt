@@ -12,10 +12,10 @@ use Rattle.lay_sizes.specs.declared.own_boxes.OwnBox.{OwnBox}
 use Rattle.lay_sizes.specs.declared.sizing.BoxSizes.{BoxSizes}
 use Rattle.lay_sizes.specs.OwnBoxes.{own_box, own_box_at}
 use Rattle.lay_sizes.specs.SizeColumns.{sizes_at}
-use Rattle.lay_table_rows.specs.RowNeeds.{border_height, table_sizes}
-use Rattle.lay_table_rows.specs.TableInputs.{TableInput, grid_of}
-use Rattle.lay_table_rows.specs.TableRows.{table_content}
-use Rattle.lay_table_rows.specs.Tracks.{Tracks}
+use Rattle.lay_table.specs.RowNeeds.{border_height, table_sizes}
+use Rattle.lay_table.specs.TableInputs.{TableInput, grid_of}
+use Rattle.lay_table.specs.TableRows.{table_content}
+use Rattle.lay_table.specs.Tracks.{Tracks}
 use Rattle.lay_table.specs.Captions.{captions_of}
 
 -- the boxes of the wrapper's context in the order in which they stand, the wrapper itself first

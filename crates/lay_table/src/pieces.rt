@@ -7,18 +7,19 @@ ghost use Rattle.lay_pieces.specs.PieceParts.{with_pieces};
 ghost use Rattle.lay_pieces.specs.Standings.{IsStandingNear};
 ghost use Rattle.lay_sizes.specs.BoxSizes.{border_width};
 ghost use Rattle.lay_sizes.specs.SizeColumns.{sizes_at};
-ghost use Rattle.lay_table_parts.specs.TableBoxes.{kind_at};
+ghost use Rattle.lay_table_borders.specs.TableBoxes.{kind_at};
 ghost use Rattle.lay_table.specs.PlaceBounds.{AreStandings};
 ghost use Rattle.lay_table.specs.TablePieces.{extent_by_kind, inner_width, piece_of, pieces_of_box, pieces_to, rows_width};
 ghost use Rattle.lay_table.specs.TableStandings.{standing_of};
 
+use crate::cells::{own_box_at, sizes_at, table_sizes};
 use crate::places::TablePlaces;
+use crate::table_input::TableInput;
 use lay_box_tree::BoxKind;
 use lay_doc::NodeId;
 use lay_frag::{Frag, FragKind};
 use lay_pieces::{PieceList, Standing};
 use lay_sizes::border_width;
-use lay_table_rows::{TableInput, own_box_at, sizes_at, table_sizes};
 use lay_units::{NoMemory, Rect, Unit};
 use std::alloc::Global;
 

@@ -9,11 +9,15 @@ ghost use Rattle.lay_table.specs.WrapperFlow.{places_in_wrapper};
 ghost use Rattle.lay_table.specs.TableStandings.{HasTablePlaces, column_spacing, columns_of, content_corner, content_in};
 
 use crate::captions::Captions;
+use crate::cells::table_sizes;
+use crate::near::near_sum;
+use crate::row_heights::{TableRows, table_rows};
+use crate::table_input::TableInput;
+use crate::tracks::Tracks;
 use crate::wrapper_flow::wrapper_flow;
 use lay_blocks::{BoxPlace, FlowPlaces};
 use lay_pieces::Corner;
 use lay_table_borders::TableGrid;
-use lay_table_rows::{TableInput, TableRows, Tracks, near_sum, table_rows, table_sizes};
 use lay_units::{NoMemory, Unit};
 use std::alloc::Global;
 use std::marker::Model;

@@ -5,7 +5,7 @@ ghost use Rattle.lay_units.specs.Units.{IsNear};
 ghost use Rattle.lay_blocks.specs.FlowPlaces.{IsNearPlace, box_place_at};
 ghost use Rattle.lay_pieces.specs.Corners.{IsCornerNear};
 ghost use Rattle.lay_pieces.specs.Standings.{AreNearStandings, IsStandingNear, standing_at};
-ghost use Rattle.lay_table_parts.specs.TableBoxes.{is_row_group};
+ghost use Rattle.lay_table_borders.specs.TableBoxes.{is_row_group};
 ghost use Rattle.lay_table.specs.Captions.{ArePlaces, captions_of};
 ghost use Rattle.lay_table.specs.GroupCounts.{AreGroupCounts};
 ghost use Rattle.lay_table.specs.PlaceBounds.{AreStandings, PlacesFit};
@@ -14,12 +14,17 @@ ghost use Rattle.lay_table.specs.TableStandings.{group_or_none, group_standing, 
 ghost use Rattle.lay_table.specs.WrapperFlow.{places_in_wrapper};
 
 use crate::captions::Captions;
+use crate::cells::cell_of;
 use crate::groups::{GroupCounts, group_counts, rows_before, rows_within_box};
+use crate::near::near_sum;
 use crate::places::{TablePlaces, place_at};
+use crate::row_heights::cell_height;
+use crate::shifts::shift_of;
+use crate::table_input::TableInput;
+use crate::tracks::Tracks;
 use lay_blocks::BoxPlace;
 use lay_box_tree::BoxKind;
 use lay_pieces::{Corner, Standing, near_position};
-use lay_table_rows::{TableInput, Tracks, cell_height, cell_of, near_sum, shift_of};
 use lay_units::{NoMemory, Unit};
 use std::alloc::Global;
 

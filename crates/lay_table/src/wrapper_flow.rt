@@ -12,6 +12,11 @@ ghost use Rattle.lay_table.specs.WrapperFlow.{box_inside, boxes_in_wrapper, capt
 ghost use Rattle.lay_table.specs.WrapperFlow.{captions_inside, places_in_wrapper, table_box, wrapper_box};
 
 use crate::captions::Captions;
+use crate::cells::{own_box_at, sizes_at, table_sizes};
+use crate::row_heights::table_content;
+use crate::row_needs::border_height;
+use crate::table_input::TableInput;
+use crate::tracks::Tracks;
 use lay_blocks::{
     Across, BlockBox, FlowBox, FlowBoxes, FlowKind, FlowPlaces, HeightRule, SolidBox, Vertical,
     is_light,
@@ -19,9 +24,6 @@ use lay_blocks::{
 use lay_floats::Clear;
 use lay_flow::flow;
 use lay_sizes::{BoxSizes, OwnBox, own_box};
-use lay_table_rows::{
-    TableInput, Tracks, border_height, own_box_at, sizes_at, table_content, table_sizes,
-};
 use lay_units::{NoMemory, Unit, sum_of};
 use std::alloc::Global;
 

@@ -1,9 +1,9 @@
 -- A table's structure out of its parts, its cells and their borders.
 use Rattle.std.proofs.Common.{◌≡◌, Bool, true, List, map, slice_get, sym, ap, subst, All}
 use Rattle.lay_units.specs.declared.records.Sides.{Sides}
-use Rattle.lay_table_parts.specs.declared.placed.PlacedCell.{PlacedCell}
-use Rattle.lay_table_parts.specs.TableParts.{TableParts, ArePartsOf}
-use Rattle.lay_table_parts.specs.PlacedCells.{ArePlaced, column_total}
+use Rattle.lay_table_borders.specs.declared.placed.PlacedCell.{PlacedCell}
+use Rattle.lay_table_borders.specs.TableParts.{TableParts, ArePartsOf}
+use Rattle.lay_table_borders.specs.PlacedCells.{ArePlaced, column_total}
 use Rattle.lay_table_borders.specs.TableBorders.{AreTableBorders}
 use Rattle.lay_table_borders.specs.declared.grid.Spacing.{Spacing}
 use Rattle.lay_table_borders.specs.declared.grid.TableCell.{TableCell}

@@ -1,7 +1,7 @@
 -- The cell that covers a slot, by its number.
 use Rattle.std.proofs.Common.{◌≡◌, ℕ, ◌+◌, ◌<◌, Bool, true, false, Option, Some, List, [], ◌∷◌, ◌++◌, length, get_or, slice_get, if◌then◌else◌, refl, sym, ap, ◌∙◌, append_assoc, arith}
 use Rattle.std.proofs.lemmas.List.{get_or_default, length-append}
-use Rattle.lay_table_parts.specs.declared.placed.PlacedCell.{PlacedCell}
+use Rattle.lay_table_borders.specs.declared.placed.PlacedCell.{PlacedCell}
 use Rattle.lay_table_borders.specs.MeetingBorders.{covering, covers, item}
 use Rattle.lay_table_borders.specs.Pass.Slots.{AreSlots, covering_from, entry_at, first_of, only_if}
 

@@ -1,3 +1,7 @@
+pub mod ColumnSteps
+pub mod PlacedCells
+pub mod GroupSteps
+pub mod OneTableParts
 pub mod Assembled
 pub mod CoveringCells
 pub mod OneBorders

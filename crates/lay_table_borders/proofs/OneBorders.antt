@@ -1,7 +1,7 @@
 -- Where borders collapse, a cell and the table box have one set of borders each.
 use Rattle.std.proofs.Common.{◌≡◌, ◌⊎◌, inl, inr, ℕ, zero, suc, ◌<◌, ℤ, length, refl, sym, ◌∙◌, arith}
 use Rattle.lay_units.specs.declared.records.Sides.{Sides}
-use Rattle.lay_table_parts.specs.TableParts.{TableParts}
+use Rattle.lay_table_borders.specs.TableParts.{TableParts}
 use Rattle.lay_table_borders.specs.Laws.{OneCellBorders, OneTableBorders}
 use Rattle.lay_table_borders.specs.TableBorders.{AreOuterHalves}
 use Rattle.lay_table_borders.proofs.WidestEdges.{half_same}

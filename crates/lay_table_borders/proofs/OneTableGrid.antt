@@ -2,11 +2,11 @@
 use Rattle.std.proofs.Common.{◌≡◌, ℕ, suc, Bool, true, false, List, [], ◌∷◌, map, slice_get, refl, sym, ap, ◌∙◌, subst, arith, All}
 use Rattle.lay_units.specs.declared.records.Sides.{Sides}
 use Rattle.lay_box_tree.specs.declared.box_tree.BoxNode.{BoxNode}
-use Rattle.lay_table_parts.specs.declared.rows.TableRow.{TableRow}
-use Rattle.lay_table_parts.specs.declared.placed.PlacedCell.{PlacedCell}
-use Rattle.lay_table_parts.specs.TableParts.{TableParts}
-use Rattle.lay_table_parts.specs.PlacedCells.{ArePlaced, column_total}
-use Rattle.lay_table_parts.proofs.OneTableParts.{placing_same}
+use Rattle.lay_table_borders.specs.declared.rows.TableRow.{TableRow}
+use Rattle.lay_table_borders.specs.declared.placed.PlacedCell.{PlacedCell}
+use Rattle.lay_table_borders.specs.TableParts.{TableParts}
+use Rattle.lay_table_borders.specs.PlacedCells.{ArePlaced, column_total}
+use Rattle.lay_table_borders.proofs.OneTableParts.{placing_same}
 use Rattle.lay_table_borders.specs.declared.cell_area.CellArea.{CellArea}
 use Rattle.lay_table_borders.specs.TableBorders.{AreCellBorders, AreTableBorders, own_borders}
 use Rattle.lay_table_borders.proofs.OneBorders.{one_cell_borders_lem, one_table_borders_lem}

@@ -2,9 +2,9 @@
 use Rattle.std.proofs.Common.{ℕ, zero, suc, ◌+◌, ◌<◌, ◌≤◌, Bool, true, false, List, [], ◌∷◌, ◌++◌, length, map, replicate, slice_index, if◌then◌else◌, sym, subst, arith, All}
 use Rattle.std.specs.Prelude.{⊤}
 use Rattle.lay_box_tree.specs.declared.box_tree.BoxNode.{BoxNode}
-use Rattle.lay_table_parts.specs.declared.rows.TableRow.{TableRow}
-use Rattle.lay_table_parts.specs.PlacedCells.{places_of_cells}
-use Rattle.lay_table_parts.specs.TableBoxes.{cells_of_row, cells_of_rows, column_boxes_of, column_count, columns_from, has_columns, is_cell_of, is_ranked, is_table, places_from, places_of, ranked_places, row_at, row_places}
+use Rattle.lay_table_borders.specs.declared.rows.TableRow.{TableRow}
+use Rattle.lay_table_borders.specs.PlacedCells.{places_of_cells}
+use Rattle.lay_table_borders.specs.TableBoxes.{cells_of_row, cells_of_rows, column_boxes_of, column_count, columns_from, has_columns, is_cell_of, is_ranked, is_table, places_from, places_of, ranked_places, row_at, row_places}
 use Rattle.lay_table_borders.specs.declared.grid.TableCell.{TableCell}
 use Rattle.lay_table_borders.specs.GridLaws.{GridsAreOfBoxes}
 use Rattle.lay_table_borders.specs.TableGrid.{placed_of}

@@ -20,14 +20,14 @@ use Rattle.lay_grid.specs.Places.{StandAfter, areas_of}
 use Rattle.lay_grid.specs.Slots.{IsGrid, SpanRows}
 use Rattle.lay_grid.proofs.CellsStand.{rows_have_a_grid_lem}
 use Rattle.lay_sizes.specs.SizeColumns.{no_edges}
-use Rattle.lay_table_parts.specs.declared.rows.TableRow.{TableRow}
-use Rattle.lay_table_parts.specs.declared.placed.PlacedCell.{PlacedCell}
-use Rattle.lay_table_parts.specs.PartBounds.{CoversRows}
-use Rattle.lay_table_parts.specs.Pass.SpanColumns.{SpanColumns}
-use Rattle.lay_table_parts.specs.PlacedCells.{ArePlaced, column_total, places_of_cells, stands_of}
-use Rattle.lay_table_parts.specs.TableBoxes.{cells_of_row, cells_of_rows, column_boxes_of, kind_at, row_spec, row_specs, rows_of, span_of, table_place}
-use Rattle.lay_table_parts.specs.TableParts.{ArePartsOf, TableParts}
-use Rattle.lay_table_parts.proofs.PlacedCells.{all_cover, as_many_cells}
+use Rattle.lay_table_borders.specs.declared.rows.TableRow.{TableRow}
+use Rattle.lay_table_borders.specs.declared.placed.PlacedCell.{PlacedCell}
+use Rattle.lay_table_borders.specs.PartBounds.{CoversRows}
+use Rattle.lay_table_borders.specs.Pass.SpanColumns.{SpanColumns}
+use Rattle.lay_table_borders.specs.PlacedCells.{ArePlaced, column_total, places_of_cells, stands_of}
+use Rattle.lay_table_borders.specs.TableBoxes.{cells_of_row, cells_of_rows, column_boxes_of, kind_at, row_spec, row_specs, rows_of, span_of, table_place}
+use Rattle.lay_table_borders.specs.TableParts.{ArePartsOf, TableParts}
+use Rattle.lay_table_borders.proofs.PlacedCells.{all_cover, as_many_cells}
 use Rattle.lay_table_borders.specs.declared.cell_area.CellArea.{CellArea}
 use Rattle.lay_table_borders.specs.declared.grid.TableCell.{TableCell}
 use Rattle.lay_table_borders.specs.GridLaws.{SomeTableGrid}

@@ -11,7 +11,7 @@ use Rattle.lay_borders.specs.Edges.{IsEdge}
 use Rattle.lay_borders.specs.Halves.{drawn_width, edge_width}
 use Rattle.lay_borders.specs.declared.candidate.BorderStyle.{BorderStyle}
 use Rattle.lay_borders.specs.declared.candidate.BorderStyle.TheVariants as style
-use Rattle.lay_table_parts.specs.TableParts.{TableParts}
+use Rattle.lay_table_borders.specs.TableParts.{TableParts}
 use Rattle.lay_table_borders.specs.declared.elements.Element.{Element}
 use Rattle.lay_table_borders.specs.declared.elements.Side.{Side}
 use Rattle.lay_table_borders.specs.declared.elements.Side.TheVariants as side

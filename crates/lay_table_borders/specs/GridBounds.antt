@@ -2,7 +2,7 @@
 -- lengths are used sizes.
 use Rattle.std.specs.Prelude.{ℕ, ◌+◌, ◌<◌, ◌≤◌, length, All}
 use Rattle.lay_units.specs.Units.{IsUsedSize}
-use Rattle.lay_table_parts.specs.declared.rows.TableRow.{TableRow}
+use Rattle.lay_table_borders.specs.declared.rows.TableRow.{TableRow}
 use Rattle.lay_table_borders.specs.UsedSides.{AreUsedSides}
 use Rattle.lay_table_borders.specs.declared.grid.Spacing.{Spacing}
 use Rattle.lay_table_borders.specs.declared.grid.TableCell.{TableCell}

@@ -1,7 +1,7 @@
 -- Where borders collapse, a cell has one set of borders by the slots that it covers, and the table box has one.
 use Rattle.std.specs.Prelude.{◌≡◌}
 use Rattle.lay_units.specs.declared.records.Sides.{Sides}
-use Rattle.lay_table_parts.specs.TableParts.{TableParts}
+use Rattle.lay_table_borders.specs.TableParts.{TableParts}
 use Rattle.lay_table_borders.specs.declared.cell_area.CellArea.{CellArea}
 use Rattle.lay_table_borders.specs.TableBorders.{AreCellBorders, AreTableBorders}
 

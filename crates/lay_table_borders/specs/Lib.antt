@@ -1,9 +1,14 @@
+pub mod TableBoxes
+pub mod PlacedCells
+pub mod TableParts
+pub mod PartBounds
+pub mod PartLaws
+pub mod Pass
 pub mod CellAreas
 pub mod GridBounds
 pub mod GridLaws
 pub mod Laws
 pub mod MeetingBorders
-pub mod Pass
 pub mod TableBorders
 pub mod TableGrid
 pub mod UsedSides

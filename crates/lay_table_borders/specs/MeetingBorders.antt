@@ -21,10 +21,10 @@ use Rattle.lay_borders.specs.declared.candidate.BorderStyle.{BorderStyle}
 use Rattle.lay_borders.specs.declared.candidate.BorderStyle.TheVariants as style
 use Rattle.lay_borders.specs.declared.candidate.Cand.{Cand}
 use Rattle.lay_borders.specs.declared.candidate.Origin.TheVariants as origin
-use Rattle.lay_table_parts.specs.declared.rows.TableRow.{TableRow}
-use Rattle.lay_table_parts.specs.declared.placed.PlacedCell.{PlacedCell}
-use Rattle.lay_table_parts.specs.TableBoxes.{is_column, is_column_group, is_row_group, kind_at}
-use Rattle.lay_table_parts.specs.TableParts.{TableParts}
+use Rattle.lay_table_borders.specs.declared.rows.TableRow.{TableRow}
+use Rattle.lay_table_borders.specs.declared.placed.PlacedCell.{PlacedCell}
+use Rattle.lay_table_borders.specs.TableBoxes.{is_column, is_column_group, is_row_group, kind_at}
+use Rattle.lay_table_borders.specs.TableParts.{TableParts}
 use Rattle.lay_table_borders.specs.declared.elements.Element.{Element}
 use Rattle.lay_table_borders.specs.declared.elements.Side.{Side}
 use Rattle.lay_table_borders.specs.declared.elements.Side.TheVariants as side

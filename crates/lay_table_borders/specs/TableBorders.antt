@@ -10,7 +10,7 @@ use Rattle.lay_borders.specs.declared.candidate.Cand.{Cand}
 use Rattle.lay_borders.specs.Edges.{IsEdge}
 use Rattle.lay_borders.specs.Halves.{edge_width, first_half, second_half}
 use Rattle.lay_sizes.specs.SizeColumns.{no_edges}
-use Rattle.lay_table_parts.specs.TableParts.{TableParts}
+use Rattle.lay_table_borders.specs.TableParts.{TableParts}
 use Rattle.lay_table_borders.specs.declared.elements.Side.TheVariants as side
 use Rattle.lay_table_borders.specs.declared.cell_area.CellArea.{CellArea}
 use Rattle.lay_table_borders.specs.MeetingBorders.{meeting_above, meeting_left, width_on}

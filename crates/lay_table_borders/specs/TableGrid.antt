@@ -11,11 +11,11 @@ use Rattle.lay_style.specs.declared.style_words.BorderCollapse.TheVariants as bo
 use Rattle.lay_style.specs.LengthValues.{size_of}
 use Rattle.lay_box_tree.specs.declared.box_tree.BoxNode.{BoxNode}
 use Rattle.lay_grid.specs.declared.cells.Cell.{Cell}
-use Rattle.lay_table_parts.specs.declared.rows.TableRow.{TableRow}
-use Rattle.lay_table_parts.specs.declared.placed.PlacedCell.{PlacedCell}
-use Rattle.lay_table_parts.specs.TableParts.{TableParts}
-use Rattle.lay_table_parts.specs.PlacedCells.{ArePlaced, column_total}
-use Rattle.lay_table_parts.specs.TableBoxes.{column_boxes_of, rows_of, table_place}
+use Rattle.lay_table_borders.specs.declared.rows.TableRow.{TableRow}
+use Rattle.lay_table_borders.specs.declared.placed.PlacedCell.{PlacedCell}
+use Rattle.lay_table_borders.specs.TableParts.{TableParts}
+use Rattle.lay_table_borders.specs.PlacedCells.{ArePlaced, column_total}
+use Rattle.lay_table_borders.specs.TableBoxes.{column_boxes_of, rows_of, table_place}
 use Rattle.lay_table_borders.specs.declared.cell_area.CellArea.{CellArea}
 use Rattle.lay_table_borders.specs.TableBorders.{AreCellBorders, AreTableBorders, own_borders}
 use Rattle.lay_table_borders.specs.declared.grid.Spacing.{Spacing}

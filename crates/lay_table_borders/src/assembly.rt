@@ -2,7 +2,7 @@
 
 ghost use Rattle.std.specs.Prelude.{◌≡◌, true, false, slice_get, IfOk};
 ghost use Rattle.lay_style.specs.LengthValues.{size_of};
-ghost use Rattle.lay_table_parts.specs.TableParts.{ArePartsOf};
+ghost use Rattle.lay_table_borders.specs.TableParts.{ArePartsOf};
 ghost use Rattle.lay_table_borders.specs.GridBounds.{IsUsedSpacing};
 ghost use Rattle.lay_table_borders.specs.TableGrid.{IsTableGrid, collapses_in, collapsing};
 ghost use Rattle.lay_table_borders.specs.TableGrid.{spacing_by, spacing_in};
@@ -10,9 +10,9 @@ ghost use Rattle.lay_table_borders.specs.TableGrid.{spacing_by, spacing_in};
 use crate::bordered::{collapsed_cells, separate_cells};
 use crate::grid::{Spacing, TableGrid};
 use crate::own_borders;
+use crate::parts::{Parts, table_parts};
 use lay_box_tree::BoxNode;
 use lay_style::{BorderCollapse, TableStyle, size_of};
-use lay_table_parts::{Parts, table_parts};
 use lay_units::{NoMemory, Unit};
 use std::alloc::Global;
 

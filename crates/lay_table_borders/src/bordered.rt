@@ -1,8 +1,8 @@
 //! Cells with their borders.
 
 ghost use Rattle.std.specs.Prelude.{◌≡◌, ◌^◌, ◌<◌, length, map, All, IfOk, ℕ};
-ghost use Rattle.lay_table_parts.specs.PartBounds.{IsInside};
-ghost use Rattle.lay_table_parts.specs.TableParts.{TableParts};
+ghost use Rattle.lay_table_borders.specs.PartBounds.{IsInside};
+ghost use Rattle.lay_table_borders.specs.TableParts.{TableParts};
 ghost use Rattle.lay_table_borders.specs.UsedSides.{AreUsedSides};
 ghost use Rattle.lay_table_borders.specs.CellAreas.{IsInsideGrid};
 ghost use Rattle.lay_table_borders.specs.TableBorders.{AreCellBorders, AreTableBorders};
@@ -10,9 +10,10 @@ ghost use Rattle.lay_table_borders.specs.GridBounds.{CellFits};
 ghost use Rattle.lay_table_borders.specs.TableGrid.{IsCollapsed, IsSeparate, placed_of, stand_of};
 
 use crate::grid::TableCell;
+use crate::parts::Parts;
+use crate::placed::PlacedCell;
 use crate::{CellArea, Edges, cell_borders, own_borders, table_borders};
 use lay_borders::Cand;
-use lay_table_parts::{Parts, PlacedCell};
 use lay_units::{NoMemory, Sides};
 use std::alloc::Global;
 

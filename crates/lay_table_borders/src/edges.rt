@@ -9,13 +9,14 @@ ghost use Rattle.lay_table_borders.specs.MeetingBorders.{item as item_of, row_el
 
 use crate::elements::Element;
 use crate::groups::{column_groups, row_groups};
+use crate::kinds::{is_column_at, is_column_group_at, is_row_group_at};
+use crate::parts::Parts;
+use crate::placed::PlacedCell;
+use crate::rows::TableRow;
 use crate::runs::{are_one, item, item_before, run_starts};
 use crate::slots::{SlotRow, slot_rows};
 use lay_borders::Origin;
 use lay_box_tree::BoxNode;
-use lay_table_parts::{
-    Parts, PlacedCell, TableRow, is_column_at, is_column_group_at, is_row_group_at,
-};
 use lay_units::NoMemory;
 use std::alloc::Global;
 use std::marker::Model;
@@ -38,7 +39,7 @@ pub struct Edges<'a> {
 }
 
 impl<'a> Model for Edges<'a> {
-    ghost use Rattle.lay_table_parts.specs.TableParts.{TableParts};
+    ghost use Rattle.lay_table_borders.specs.TableParts.{TableParts};
     ghost use Rattle.lay_table_borders.specs.Pass.EdgeBounds.{AreKnown};
 
     ghost Value = { TableParts };

@@ -8,10 +8,10 @@ ghost use Rattle.lay_table_borders.specs.MeetingBorders.{cell_element, conflict_
 ghost use Rattle.lay_table_borders.specs.MeetingBorders.{style_on, width_on};
 ghost use Rattle.lay_table_borders.specs.Pass.EdgeBounds.{IsCounted};
 
+use crate::placed::PlacedCell;
 use lay_borders::{BorderStyle, Cand, Origin};
 use lay_box_tree::BoxNode;
 use lay_style::{BorderStyle as ComputedBorderStyle, Style, size_of};
-use lay_table_parts::PlacedCell;
 use lay_units::{NoMemory, Unit};
 
 /// A side of a box.

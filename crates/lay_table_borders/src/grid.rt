@@ -2,7 +2,7 @@
 
 ghost use Rattle.std.specs.Prelude.{◌≡◌};
 
-use lay_table_parts::TableRow;
+use crate::rows::TableRow;
 use lay_units::{Sides, Unit};
 use std::marker::Model;
 

@@ -3,8 +3,10 @@
 ghost use Rattle.std.specs.Prelude.{◌≡◌, IfOk, map};
 ghost use Rattle.lay_table_borders.specs.MeetingBorders.{around_column, column_groups, row_groups};
 
+use crate::kinds::is_column_group_at;
+use crate::parts::Parts;
+use crate::rows::TableRow;
 use lay_box_tree::BoxNode;
-use lay_table_parts::{Parts, TableRow, is_column_group_at};
 use lay_units::NoMemory;
 use std::alloc::Global;
 

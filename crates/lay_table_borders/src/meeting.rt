@@ -9,9 +9,9 @@ ghost use Rattle.lay_table_borders.specs.Pass.EdgeBounds.{IsCounted};
 
 use crate::edges::Edges;
 use crate::elements::{Element, Side, cell_element, place_of, push_border};
+use crate::placed::PlacedCell;
 use crate::runs::{among, are_one, before};
 use lay_borders::Cand;
-use lay_table_parts::PlacedCell;
 use lay_units::NoMemory;
 
 /// Puts the borders that meet above the slot of a row and a column, or below that of the last row, in

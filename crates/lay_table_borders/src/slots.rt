@@ -1,11 +1,11 @@
 //! Which cell covers each slot of the grid (CSS 2.2, 17.5).
 
 ghost use Rattle.std.specs.Prelude.{◌≡◌, ◌+◌, ◌^◌, ◌<◌, ◌≤◌, length, ℕ, replicate, [], All, IfOk, OnOk};
-ghost use Rattle.lay_table_parts.specs.declared.placed.PlacedCell.{PlacedCell};
-ghost use Rattle.lay_table_parts.specs.PartBounds.{CoversRows};
+ghost use Rattle.lay_table_borders.specs.declared.placed.PlacedCell.{PlacedCell};
+ghost use Rattle.lay_table_borders.specs.PartBounds.{CoversRows};
 ghost use Rattle.lay_table_borders.specs.Pass.Slots.{AreSlots, Covered, CoveredRow, CoveredSlot, entry_at};
 
-use lay_table_parts::PlacedCell;
+use crate::placed::PlacedCell;
 use lay_units::NoMemory;
 use std::alloc::Global;
 use std::marker::Model;

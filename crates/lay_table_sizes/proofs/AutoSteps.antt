@@ -7,8 +7,8 @@ use Rattle.lay_measure.specs.declared.preferred_widths.PreferredWidths.{Preferre
 use Rattle.lay_auto_columns.specs.AutoColumns.{AreAutoColumns, sum_max}
 use Rattle.lay_auto_columns.specs.declared.bounds.Bound.{Bound}
 use Rattle.lay_table_borders.specs.TableGrid.{TableGridValue}
-use Rattle.lay_table_bounds.specs.ColumnBounds.{greatest_content, least_content}
-use Rattle.lay_table_bounds.proofs.AutoWidths.{auto_tables_have_room_lem}
+use Rattle.lay_table_sizes.specs.ColumnBounds.{greatest_content, least_content}
+use Rattle.lay_table_sizes.proofs.AutoWidths.{auto_tables_have_room_lem}
 use Rattle.lay_table_sizes.specs.CaptionWidths.{captions_from, with_box}
 use Rattle.lay_table_sizes.specs.PreferredWidths.{widths_at}
 use Rattle.lay_table_sizes.specs.TableBounds.{TableBoundsValue}

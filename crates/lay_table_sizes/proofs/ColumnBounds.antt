@@ -15,10 +15,10 @@ use Rattle.lay_auto_columns.specs.Spread.{AreWidened}
 use Rattle.lay_auto_columns.specs.declared.bounds.Bound.{Bound}
 use Rattle.lay_auto_columns.specs.declared.bounds.GroupSpan.{GroupSpan}
 use Rattle.lay_table_borders.specs.TableGrid.{TableGridValue}
-use Rattle.lay_table_bounds.specs.CellBounds.{span_cells}
-use Rattle.lay_table_bounds.specs.ColumnBounds.{AreTableBounds}
-use Rattle.lay_table_bounds.specs.GivenWidths.{column_widths, width_at_place}
-use Rattle.lay_table_bounds.specs.GroupWidths.{group_spans}
+use Rattle.lay_table_sizes.specs.CellBounds.{span_cells}
+use Rattle.lay_table_sizes.specs.ColumnBounds.{AreTableBounds}
+use Rattle.lay_table_sizes.specs.GivenWidths.{column_widths, width_at_place}
+use Rattle.lay_table_sizes.specs.GroupWidths.{group_spans}
 use Rattle.lay_table_sizes.specs.Laws.{BoundsStandAsTheyAre}
 use Rattle.lay_table_sizes.specs.TableBounds.{TableBoundsValue, bounds_of_columns, first_bounds}
 

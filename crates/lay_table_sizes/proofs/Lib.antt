@@ -1,3 +1,5 @@
+pub mod AutoWidths
+pub mod BoundSteps
 pub mod AutoSteps
 pub mod CellSteps
 pub mod ColumnBounds

@@ -16,9 +16,9 @@ use Rattle.lay_grid.specs.Columns.{AreColumns}
 use Rattle.lay_grid.proofs.OneColumns.{one_columns_lem}
 use Rattle.lay_auto_columns.specs.AutoColumns.{AreAutoColumns}
 use Rattle.lay_auto_columns.proofs.OneColumns.{one_list_of_columns_lem}
-use Rattle.lay_table_bounds.specs.ColumnBounds.{greatest_content, least_content, spaces}
-use Rattle.lay_table_bounds.specs.TableLayouts.{is_fixed}
-use Rattle.lay_table_bounds.proofs.AutoWidths.{one_auto_width_lem}
+use Rattle.lay_table_sizes.specs.ColumnBounds.{greatest_content, least_content, spaces}
+use Rattle.lay_table_sizes.specs.TableLayouts.{is_fixed}
+use Rattle.lay_table_sizes.proofs.AutoWidths.{one_auto_width_lem}
 use Rattle.lay_table_borders.specs.GridLaws.{OneTableGrid}
 use Rattle.lay_table_borders.specs.TableGrid.{TableGridValue}
 use Rattle.lay_table_sizes.specs.declared.cell_size.CellSize.{CellSize}

@@ -8,8 +8,8 @@ use Rattle.lay_measure.specs.declared.preferred_widths.PreferredWidths.{Preferre
 use Rattle.lay_grid.specs.Shares.{own_at}
 use Rattle.lay_auto_columns.specs.declared.bounds.Bound.{Bound}
 use Rattle.lay_auto_columns.proofs.OneBounds.{one_list_of_bounds_lem}
-use Rattle.lay_table_bounds.specs.ColumnBounds.{bounds_in}
-use Rattle.lay_table_bounds.specs.TableLayouts.{is_fixed}
+use Rattle.lay_table_sizes.specs.ColumnBounds.{bounds_in}
+use Rattle.lay_table_sizes.specs.TableLayouts.{is_fixed}
 use Rattle.lay_table_borders.specs.GridLaws.{OneTableGrid}
 use Rattle.lay_table_borders.specs.TableGrid.{TableGridValue}
 use Rattle.lay_table_sizes.specs.Laws.{OneTableWidths}

@@ -1,3 +1,10 @@
+pub mod TableLayouts
+pub mod GivenWidths
+pub mod CellBounds
+pub mod GroupWidths
+pub mod ColumnBounds
+pub mod AutoWidth
+pub mod BoundLaws
 pub mod Bounds
 pub mod TableBoxes
 pub mod ColumnWidths

@@ -11,7 +11,7 @@ use Rattle.lay_auto_columns.specs.Bounds.{bound_at}
 use Rattle.lay_auto_columns.specs.Fit.{BoundFits}
 use Rattle.lay_auto_columns.specs.declared.bounds.Bound.{Bound}
 use Rattle.lay_table_borders.specs.TableGrid.{TableGridValue}
-use Rattle.lay_table_bounds.specs.ColumnBounds.{AreTableBounds}
+use Rattle.lay_table_sizes.specs.ColumnBounds.{AreTableBounds}
 use Rattle.lay_table_sizes.specs.CaptionWidths.{captions_minimum}
 
 pub record TableBoundsValue : Type 0 where

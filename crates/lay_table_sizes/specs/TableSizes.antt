@@ -24,8 +24,8 @@ use Rattle.lay_grid.specs.Columns.{AreColumns}
 use Rattle.lay_grid.specs.Shares.{sum_of}
 use Rattle.lay_auto_columns.specs.AutoColumns.{AreAutoColumns}
 use Rattle.lay_table_borders.specs.TableGrid.{IsTableGrid, TableGridValue}
-use Rattle.lay_table_bounds.specs.ColumnBounds.{spaces}
-use Rattle.lay_table_bounds.specs.TableLayouts.{is_fixed}
+use Rattle.lay_table_sizes.specs.ColumnBounds.{spaces}
+use Rattle.lay_table_sizes.specs.TableLayouts.{is_fixed}
 use Rattle.lay_table_sizes.specs.CellSizes.{cell_size_at}
 use Rattle.lay_table_sizes.specs.ColumnWidths.{columns_in, with_spacings}
 use Rattle.lay_table_sizes.specs.TableBounds.{TableBoundsValue, bounds_of_columns}

@@ -8,8 +8,8 @@ use Rattle.lay_style.specs.declared.style.Style.{Style}
 use Rattle.lay_box_tree.specs.declared.box_tree.BoxNode.{BoxNode}
 use Rattle.lay_measure.specs.declared.preferred_widths.PreferredWidths.{PreferredWidths}
 use Rattle.lay_table_borders.specs.TableGrid.{IsTableGrid, TableGridValue}
-use Rattle.lay_table_bounds.specs.ColumnBounds.{greatest_content, least_content}
-use Rattle.lay_table_bounds.specs.TableLayouts.{is_fixed}
+use Rattle.lay_table_sizes.specs.ColumnBounds.{greatest_content, least_content}
+use Rattle.lay_table_sizes.specs.TableLayouts.{is_fixed}
 use Rattle.lay_table_sizes.specs.PreferredWidths.{HasFixedWidths, bounded_content}
 use Rattle.lay_table_sizes.specs.TableBounds.{HasBounds, TableBoundsValue, no_bounds}
 use Rattle.lay_table_sizes.specs.TableBoxes.{preferred_edges, table_style, wrapper_style}

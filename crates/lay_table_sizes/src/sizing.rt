@@ -13,6 +13,7 @@ ghost use Rattle.lay_table_sizes.specs.TableSizes.{held, held_width, sizes_of_bo
 use crate::cells::{cells_of, sum_of};
 use crate::column_widths::columns_in;
 use crate::grid::grid_of;
+use crate::layouts::is_fixed;
 use crate::sizes::TableSizes;
 use crate::spaces::with_spacings;
 use crate::table_bounds::TableBounds;
@@ -27,7 +28,6 @@ use lay_sizes::{
 };
 use lay_style::Style;
 use lay_table_borders::TableGrid;
-use lay_table_bounds::is_fixed;
 use lay_units::{NoMemory, Unit, UnitList, clamp_size};
 use lay_widths::BlockOut;
 use std::alloc::Global;

@@ -1,9 +1,9 @@
 -- What is known of a table while its borders are found: its cells lie inside its grid, which cell covers each slot, and
 -- where its rows' and columns' groups begin.
 use Rattle.std.specs.Prelude.{ℕ, ◌≡◌, ◌^◌, ◌<◌, Option, List, length}
-use Rattle.lay_table_parts.specs.declared.placed.PlacedCell.{PlacedCell}
-use Rattle.lay_table_parts.specs.TableParts.{TableParts}
-use Rattle.lay_table_parts.specs.PartBounds.{PartsFit}
+use Rattle.lay_table_borders.specs.declared.placed.PlacedCell.{PlacedCell}
+use Rattle.lay_table_borders.specs.TableParts.{TableParts}
+use Rattle.lay_table_borders.specs.PartBounds.{PartsFit}
 use Rattle.lay_table_borders.specs.MeetingBorders.{column_groups, row_groups}
 use Rattle.lay_table_borders.specs.Pass.Runs.{AreRunStartsTo}
 use Rattle.lay_table_borders.specs.Pass.Slots.{AreSlots}

@@ -1,7 +1,7 @@
 -- Which cell covers each slot, row by row: its number, or None. A row's list ends where no cell follows.
 use Rattle.std.specs.Prelude.{ℕ, ◌≡◌, ◌+◌, ◌<◌, ◌&&◌, nat_le, nat_lt, Bool}
 use Rattle.std.specs.Prelude.{Option, Some, None, List, [], ◌∷◌, length, drop, slice_index_or, if◌then◌else◌}
-use Rattle.lay_table_parts.specs.declared.placed.PlacedCell.{PlacedCell}
+use Rattle.lay_table_borders.specs.declared.placed.PlacedCell.{PlacedCell}
 use Rattle.lay_table_borders.specs.MeetingBorders.{covers}
 
 abbrev pub entry_at : List (Option ℕ) → ℕ → Option ℕ

@@ -1,5 +1,5 @@
 use Rattle.std.proofs.Common.{◌≡◌, ◌++◌, drop, length}
-use Rattle.lay_anonymous_boxes.specs.Boxes.{trees_of}
+use Rattle.lay_boxgen.specs.Boxes.{trees_of}
 use Rattle.lay_boxgen.specs.Listing.{all_listed}
 use Rattle.lay_boxgen.specs.Parts.{all_put, nothing}
 use Rattle.lay_boxgen.proofs.listing.+list.Given as goal

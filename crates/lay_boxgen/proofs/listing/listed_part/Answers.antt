@@ -1,5 +1,5 @@
 use Rattle.std.proofs.Common.{rules, ◌≡◌, ◌∙◌, option_map, slice_get, Some}
-use Rattle.lay_anonymous_boxes.specs.Boxes.{facts_of, trees_of}
+use Rattle.lay_boxgen.specs.Boxes.{facts_of, trees_of}
 use Rattle.lay_boxgen.specs.Listing.{all_listed}
 use Rattle.lay_boxgen.specs.Parts.{all_put, nothing}
 use Rattle.lay_boxgen.proofs.CutParts.{listed-all}

@@ -1,5 +1,5 @@
 use Rattle.std.proofs.Common.{true, ◌∙◌, ap, slice_get, subst, sym}
-use Rattle.lay_table_parts.specs.TableParts.{TableParts}
+use Rattle.lay_table_borders.specs.TableParts.{TableParts}
 use Rattle.lay_table_borders.specs.TableGrid.{IsTableGrid, spacing_in}
 use Rattle.lay_table_borders.proofs.Assembled.{collapsed_is_grid, grid_of}
 use Rattle.lay_table_borders.proofs.assembly.collapsed_grid.Goals as goal

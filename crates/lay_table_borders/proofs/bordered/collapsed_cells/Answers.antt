@@ -1,5 +1,5 @@
 use Rattle.std.proofs.Common.{All, subst}
-use Rattle.lay_table_parts.specs.TableParts.{TableParts}
+use Rattle.lay_table_borders.specs.TableParts.{TableParts}
 use Rattle.lay_table_borders.specs.TableGrid.{IsCollapsed}
 use Rattle.lay_table_borders.proofs.bordered.collapsed_cells.Goals as goal
 

@@ -1,5 +1,5 @@
 use Rattle.std.proofs.Common.{◌≡◌, Bool, true, IfOk, ap, sym, subst, ◌∙◌}
-use Rattle.lay_table_bounds.specs.TableLayouts.{is_fixed}
+use Rattle.lay_table_sizes.specs.TableLayouts.{is_fixed}
 use Rattle.lay_table_sizes.specs.TableBoxes.{wrapper_style}
 use Rattle.lay_table_sizes.specs.TableSizes.{AreTableWidthsAs}
 use Rattle.lay_table_sizes.proofs.sizing.table_widths.Goals as goal

@@ -1,5 +1,5 @@
 use Rattle.std.proofs.Common.{◌∙◌, ◌-ℤ◌}
-use Rattle.lay_table_bounds.specs.ColumnBounds.{spaces}
+use Rattle.lay_table_sizes.specs.ColumnBounds.{spaces}
 use Rattle.lay_table_sizes.proofs.AutoSteps.{auto_columns_count, columns_fit}
 use Rattle.lay_table_sizes.proofs.sizing.widths_by.Goals as goal
 

@@ -1,5 +1,5 @@
 use Rattle.std.proofs.Common.{◌≡◌, ap, ◌∙◌}
-use Rattle.lay_table_bounds.specs.ColumnBounds.{greatest_content, least_content}
+use Rattle.lay_table_sizes.specs.ColumnBounds.{greatest_content, least_content}
 use Rattle.lay_table_sizes.specs.TableBoxes.{table_block, table_style, wrapper_style}
 use Rattle.lay_table_sizes.specs.WantedWidth.{length_of}
 use Rattle.lay_table_sizes.proofs.wanted_width.shrunk_width.Goals as goal

@@ -1,5 +1,5 @@
 use Rattle.std.proofs.Common.{◌<◌, length, ap, ◌∙◌}
-use Rattle.lay_table_parts.specs.TableParts.{TableParts}
+use Rattle.lay_table_borders.specs.TableParts.{TableParts}
 use Rattle.lay_table_borders.specs.MeetingBorders.{covering, item}
 use Rattle.lay_table_borders.proofs.CoveringCells.{covering_at}
 use Rattle.lay_table_borders.proofs.edges.Edges.cell_at.Goals as goal

@@ -1,7 +1,0 @@
-use Rattle.std.proofs.Common.{drop}
-use Rattle.lay_anonymous_boxes.specs.Staying.{StayTheSame}
-use Rattle.lay_anonymous_boxes.proofs.staying.+stay.Given as goal
-
--- all stay, where the rest does
-abbrev pub invariant-stay-loop-tree : goal.invariant-stay-loop-tree
-invariant-stay-loop-tree l = StayTheSame (drop l.tree-index l.trees) → StayTheSame l.trees

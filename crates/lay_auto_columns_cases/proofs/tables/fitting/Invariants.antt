@@ -1,6 +1,0 @@
-use Rattle.std.proofs.Common.{◌≤◌, length, All}
-use Rattle.lay_auto_columns.specs.Fit.{BoundFits}
-use Rattle.lay_auto_columns_cases.proofs.tables.fitting.Given as goal
-
-abbrev pub invariant-loop-bound : goal.invariant-loop-bound
-invariant-loop-bound l = record { few : length l.fitting.items ≤ 255; fit : All BoundFits l.fitting.items }

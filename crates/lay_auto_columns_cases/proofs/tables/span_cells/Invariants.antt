@@ -1,6 +1,0 @@
-use Rattle.std.proofs.Common.{All}
-use Rattle.lay_auto_columns.specs.Fit.{CellFits}
-use Rattle.lay_auto_columns_cases.proofs.tables.span_cells.Given as goal
-
-abbrev pub invariant-loop-word : goal.invariant-loop-word
-invariant-loop-word l = All (CellFits l.fn.columns) l.cells.items

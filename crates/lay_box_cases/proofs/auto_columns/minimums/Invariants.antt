@@ -1,0 +1,10 @@
+use Rattle.std.proofs.Common.{◌≡◌, ◌*◌, ◌^◌, drop, pos, ◌+ℤ◌, ◌≤ℤ◌}
+use Rattle.lay_auto_columns.specs.AutoColumns.{sum_min}
+use Rattle.lay_box_cases.proofs.auto_columns.minimums.Given as goal
+
+abbrev pub invariant-loop-bound : goal.invariant-loop-bound
+invariant-loop-bound l = record {
+  value : (l.sum +ℤ sum_min (drop l.bound-index l.bounds)) ≡ sum_min l.bounds;
+  least : pos 0 ≤ℤ l.sum;
+  most : l.sum ≤ℤ pos (2 ^ 62 * l.bound-index);
+}

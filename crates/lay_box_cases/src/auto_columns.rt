@@ -1,0 +1,139 @@
+//! The bounds and the widths of the columns of tables in the automatic layout.
+
+ghost use Rattle.std.specs.Prelude.{◌≡◌, ◌≤◌, length, All, IfOk};
+ghost use Rattle.lay_units.specs.Units.{IsSize};
+ghost use Rattle.lay_auto_columns.specs.AutoColumns.{sum_min};
+ghost use Rattle.lay_auto_columns.specs.Fit.{BoundFits, CellFits, SpanFits};
+
+use crate::cells::ample;
+use crate::spans::{size, sizes_or_none, spanned};
+use anyhow::{Result, bail};
+use lay_auto_columns::{
+    Bound, BoundList, BoundsIn, GroupSpan, GroupSpans, SpanCell, SpanCells, column_bounds,
+    columns_auto,
+};
+use lay_grid::WidthOptions;
+use lay_units::Unit;
+use std::alloc::Global;
+
+/// The bounds of a table's columns, and their widths, or `none` where there is too little space.
+pub(crate) fn answer(alloc: Global, text: &str) -> Result<String> {
+    let (table, rest) = section(text)?;
+    let (given, rest) = section(rest)?;
+    let (cells, groups) = section(rest)?;
+    let Some((space, spacing)) = table.trim().split_once(' ') else {
+        bail!("not two lengths: {table}");
+    };
+    let given = sizes_or_none(alloc, given)?;
+    let cells = span_cells(alloc, cells, given.len())?;
+    let groups = group_spans(alloc, groups, given.len())?;
+    let asked = BoundsIn {
+        given: WidthOptions::new(given),
+        cells: SpanCells::new(cells),
+        groups: GroupSpans::new(groups),
+        spacing: size(spacing)?,
+    };
+    let bounds = ample(column_bounds(alloc, &asked))?;
+    let space = size(space)?;
+    out(alloc, &bounds, space)
+}
+
+fn section(text: &str) -> Result<(&str, &str)> {
+    match text.split_once(';') {
+        Some(parts) => Ok(parts),
+        None => bail!("a section is missing"),
+    }
+}
+
+fn span_cells(alloc: Global, text: &str, columns: usize) -> Result<Vec<SpanCell>>
+    ensures { IfOk result (λ v. All (CellFits columns) v.items) }
+{
+    let mut cells = Vec::new(alloc);
+    for word in text.split_whitespace() {
+        let (place, span, rest) = spanned(word, columns)?;
+        let Some((min, max)) = rest.split_once('/') else {
+            bail!("no maximum: {word}");
+        };
+        cells.push(SpanCell {
+            column: u32::from(place),
+            span: u32::from(span),
+            min: size(min)?,
+            max: size(max)?,
+        })?;
+    }
+    Ok(cells)
+}
+
+fn group_spans(alloc: Global, text: &str, columns: usize) -> Result<Vec<GroupSpan>>
+    ensures { IfOk result (λ v. All (SpanFits columns) v.items) }
+{
+    let mut groups = Vec::new(alloc);
+    for word in text.split_whitespace() {
+        let (place, span, rest) = spanned(word, columns)?;
+        groups.push(GroupSpan {
+            column: u32::from(place),
+            span: u32::from(span),
+            width: size(rest)?,
+        })?;
+    }
+    Ok(groups)
+}
+
+fn out(alloc: Global, bounds: &BoundList, space: Unit) -> Result<String>
+    requires { IsSize space.0 }
+{
+    let mut out = String::new(alloc);
+    for bound in bounds.as_slice() {
+        let min = bound.min.0;
+        let max = bound.max.0;
+        write!(out, "{min}/{max} ")?;
+    }
+    out.push('|')?;
+    let bounds = fitting(alloc, bounds.as_slice())?;
+    if minimums(bounds.as_slice()) > i128::from(space.0) {
+        out.push_str(" none")?;
+        return Ok(out);
+    }
+    for width in ample(columns_auto(alloc, &BoundList::new(bounds), space))?.as_slice() {
+        let units = width.0;
+        write!(out, " {units}")?;
+    }
+    Ok(out)
+}
+
+/// The same bounds, which a space can be shared by.
+fn fitting(alloc: Global, bounds: &[Bound]) -> Result<Vec<Bound>>
+    ensures few { IfOk result (λ v. length v.items ≤ 255) }
+    ensures fit { IfOk result (λ v. All BoundFits v.items) }
+{
+    let mut fitting = Vec::new(alloc);
+    for bound in bounds {
+        if fitting.len() == 255 {
+            bail!("too many columns");
+        }
+        fitting.push(in_order(*bound)?)?;
+    }
+    Ok(fitting)
+}
+
+fn in_order(bound: Bound) -> Result<Bound>
+    ensures { IfOk result BoundFits }
+{
+    if bound.min.0 < 0 || bound.max.0 < bound.min.0 || bound.max.0 > 65535 {
+        bail!("bounds that aren't in order");
+    }
+    Ok(bound)
+}
+
+/// The minimums together.
+fn minimums(bounds: &[Bound]) -> i128
+    requires few { length bounds.now ≤ 255 }
+    requires fit { All BoundFits bounds.now }
+    ensures { result ≡ sum_min bounds.now }
+{
+    let mut sum = 0;
+    for bound in bounds {
+        sum = sum + i128::from(bound.min.0);
+    }
+    sum
+}

@@ -1,0 +1,70 @@
+//! Spans of columns, and lengths from 0 to 65,535 units.
+
+ghost use Rattle.std.specs.Prelude.{◌+◌, ◌≤◌, length, All, IfOk};
+ghost use Rattle.lay_units.specs.Units.{IsSize};
+ghost use Rattle.lay_auto_columns.specs.Sizes.{MayBeSize};
+
+use anyhow::{Result, bail};
+use lay_units::Unit;
+use std::alloc::Global;
+
+/// The length that a word is.
+pub(crate) fn size(word: &str) -> Result<Unit>
+    ensures { IfOk result (λ u. IsSize u.0) }
+{
+    match word.trim().parse::<u16>() {
+        Ok(units) => Ok(Unit(i64::from(units))),
+        Err(_) => bail!("no length: {word}"),
+    }
+}
+
+/// The length that a word is, None where it is `auto`.
+pub(crate) fn size_or_none(word: &str) -> Result<Option<Unit>>
+    ensures { IfOk result MayBeSize }
+{
+    if word == "auto" {
+        return Ok(None);
+    }
+    Ok(Some(size(word)?))
+}
+
+/// At most 255 lengths.
+pub(crate) fn sizes_or_none(alloc: Global, text: &str) -> Result<Vec<Option<Unit>>>
+    ensures few { IfOk result (λ v. length v.items ≤ 255) }
+    ensures sizes { IfOk result (λ v. All MayBeSize v.items) }
+{
+    let mut sizes = Vec::new(alloc);
+    for word in text.split_whitespace() {
+        if sizes.len() == 255 {
+            bail!("too many lengths");
+        }
+        sizes.push(size_or_none(word)?)?;
+    }
+    Ok(sizes)
+}
+
+/// The first of so many columns and how many are spanned, and what is said behind these.
+pub(crate) fn spanned(word: &str, count: usize) -> Result<(u8, u8, &str)>
+    ensures some { IfOk result (λ t. 1 ≤ t.1) }
+    ensures inside { IfOk result (λ t. t.0 + t.1 ≤ count) }
+{
+    let Some((place, rest)) = word.split_once('+') else {
+        bail!("no place: {word}");
+    };
+    let Some((span, rest)) = rest.split_once('=') else {
+        bail!("no span: {word}");
+    };
+    let place = number(place)?;
+    let span = number(span)?;
+    if span == 0 || place as usize + span as usize > count {
+        bail!("columns that aren't there: {word}");
+    }
+    Ok((place, span, rest))
+}
+
+fn number(word: &str) -> Result<u8> {
+    match word.parse::<u8>() {
+        Ok(number) => Ok(number),
+        Err(_) => bail!("no number: {word}"),
+    }
+}

@@ -1,2 +1,0 @@
-pub mod AutoWidths
-pub mod BoundSteps

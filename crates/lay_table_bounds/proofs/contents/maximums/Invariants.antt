@@ -1,6 +1,0 @@
-use Rattle.std.proofs.Common.{◌≡◌, ◌+ℤ◌, drop}
-use Rattle.lay_auto_columns.specs.AutoColumns.{sum_max}
-use Rattle.lay_table_bounds.proofs.contents.maximums.Given as goal
-
-abbrev pub invariant-loop-k : goal.invariant-loop-k
-invariant-loop-k l = l.total.0 +ℤ sum_max (drop l.k l.bounds) ≡ sum_max l.bounds

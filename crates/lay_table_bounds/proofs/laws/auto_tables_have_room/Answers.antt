@@ -1,5 +1,0 @@
-use Rattle.lay_table_bounds.proofs.AutoWidths.{auto_tables_have_room_lem}
-use Rattle.lay_table_bounds.proofs.laws.auto_tables_have_room.Goals as goal
-
-pub returns : goal.returns
-returns c = auto_tables_have_room_lem

@@ -1,5 +1,0 @@
-use Rattle.lay_table_bounds.proofs.AutoWidths.{cell_bounds_have_order_lem}
-use Rattle.lay_table_bounds.proofs.laws.cell_bounds_have_order.Goals as goal
-
-pub returns : goal.returns
-returns c = cell_bounds_have_order_lem

@@ -1,5 +1,0 @@
-use Rattle.lay_table_bounds.proofs.AutoWidths.{given_widths_are_greatest_lem}
-use Rattle.lay_table_bounds.proofs.laws.given_widths_are_greatest.Goals as goal
-
-pub returns : goal.returns
-returns c = given_widths_are_greatest_lem

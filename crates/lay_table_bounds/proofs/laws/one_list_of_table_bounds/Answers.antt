@@ -1,6 +1,0 @@
-use Rattle.lay_auto_columns.proofs.OneBounds.{one_list_of_bounds_lem}
-use Rattle.lay_table_bounds.specs.ColumnBounds.{bounds_in}
-use Rattle.lay_table_bounds.proofs.laws.one_list_of_table_bounds.Goals as goal
-
-pub returns : goal.returns
-returns c boxes inner g v w p q = one_list_of_bounds_lem (bounds_in boxes inner g) v w p q

@@ -1,4 +1,0 @@
-pub mod ColumnSteps
-pub mod PlacedCells
-pub mod GroupSteps
-pub mod OneTableParts

@@ -1,4 +1,0 @@
-pub mod CellLists
-pub mod ColumnMarks
-pub mod GroupCounts
-pub mod SpanColumns

@@ -1,5 +1,0 @@
-pub mod ColumnSteps
-pub mod NeedSteps
-pub mod TrackSteps
-pub mod OneTableRows
-pub mod SomeTableRows

@@ -1,5 +1,0 @@
-use Rattle.lay_table_rows.proofs.OneTableRows.{cells_are_sized_once_lem}
-use Rattle.lay_table_rows.proofs.laws.cells_are_sized_once.Goals as goal
-
-pub returns : goal.returns
-returns c = cells_are_sized_once_lem

@@ -1,5 +1,0 @@
-use Rattle.lay_table_rows.proofs.SomeTableRows.{some_table_rows_lem}
-use Rattle.lay_table_rows.proofs.laws.some_table_rows.Goals as goal
-
-pub returns : goal.returns
-returns c = some_table_rows_lem

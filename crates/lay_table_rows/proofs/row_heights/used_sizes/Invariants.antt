@@ -1,6 +1,0 @@
-use Rattle.std.proofs.Common.{◌≡◌, map, take}
-use Rattle.lay_table_rows.specs.TableRows.{used_size}
-use Rattle.lay_table_rows.proofs.row_heights.used_sizes.Given as goal
-
-abbrev pub invariant-loop-height : goal.invariant-loop-height
-invariant-loop-height l = l.used.items ≡ map used_size (take l.height-index l.heights)

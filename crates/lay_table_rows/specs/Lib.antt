@@ -1,9 +1,0 @@
-pub mod TableInputs
-pub mod CellAligns
-pub mod Tracks
-pub mod RowNeeds
-pub mod TableRows
-pub mod NeedBounds
-pub mod RowBounds
-pub mod TrackStarts
-pub mod Laws
