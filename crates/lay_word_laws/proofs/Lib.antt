@@ -9,3 +9,4 @@ pub mod SeenContent
 pub mod LinesWithoutFloats
 pub mod RowsAlone
 pub mod PreferredRows
+pub mod InlineEdges

@@ -63,19 +63,19 @@ text_content m text (w ∷ ws) =
     (cluster_content m (kind_of m text w.place to) (to == w.place + 1) w.width, text_content m text ws)
 
 item_content : (how : Breaking) (m : BoxMeasuresValue) (by : MeasureInValue) (x : Item) → AreAsMeasured how m by → IsNoFloat x → AreContent (parts_at by x)
-item_content how m by (item.Text k text mode widths) are no = text_content mode text widths
-item_content how m by (item.Start k takes) are no = (subst IsContent (sym (are.starts k).1) tt, tt)
-item_content how m by (item.End k) are no = (subst IsContent (sym (are.ends k).1) tt, tt)
-item_content how m by (item.Atomic k mode) are no = (tt, tt)
-item_content how m by (item.Float k) are no = absurd no
-item_content how m by (item.Anchor k) are no = tt
+item_content how m by (item.Text k text mode widths) are free = text_content mode text widths
+item_content how m by (item.Start k takes) are free = (subst IsContent (sym (are.starts k).1) tt, tt)
+item_content how m by (item.End k) are free = (subst IsContent (sym (are.ends k).1) tt, tt)
+item_content how m by (item.Atomic k mode) are free = (tt, tt)
+item_content how m by (item.Float k) are free = absurd free
+item_content how m by (item.Anchor k) are free = tt
 
 pub items_content : (how : Breaking) (m : BoxMeasuresValue) (by : MeasureInValue) (xs : List Item) → AreAsMeasured how m by → All IsNoFloat xs
     → AreContent (parts_of by xs)
-items_content how m by [] are no = tt
-items_content how m by (x ∷ xs) are no =
-    both_content (parts_at by x) (parts_of by xs) (item_content how m by x are (All-head IsNoFloat x xs no))
-    (items_content how m by xs are (All-tail IsNoFloat x xs no))
+items_content how m by [] are free = tt
+items_content how m by (x ∷ xs) are free =
+    both_content (parts_at by x) (parts_of by xs) (item_content how m by x are (All-head IsNoFloat x xs free))
+    (items_content how m by xs are (All-tail IsNoFloat x xs free))
 
 -- floats of a line
 pub sum_both : (xs ys : List LinePart) → float_sum (xs ++ ys) ≡ float_sum xs +ℤ float_sum ys

@@ -78,10 +78,10 @@ IsUnbroken (s ∷ ss) (suc zero) = Unit {0}
 IsUnbroken (s ∷ ss) (suc (suc k)) = (s.forced ≡ false) × IsUnbroken ss (suc k)
 
 -- preferred widths have this of a line, whose pen is here
-record IsLine (tab : ℤ) (start : Length) (line : List LinePart) (p : LinePen) : Type 0 where
-  comes : over_all breaking.WhereForced tab (begun start) line ≡ measured p
-  no_floats : float_sum line ≡ pos 0
-  order : p.visible.0 ≤ℤ p.at.0
+pub record IsLine (tab : ℤ) (start : Length) (line : List LinePart) (p : LinePen) : Type 0 where
+  pub comes : over_all breaking.WhereForced tab (begun start) line ≡ measured p
+  pub no_floats : float_sum line ≡ pos 0
+  pub order : p.visible.0 ≤ℤ p.at.0
 
 line_shows : (tab : ℤ) (start : Length) (line : List LinePart) (p : LinePen) → IsLine tab start line p
     → p.visible.0 ≤ℤ line_width breaking.WhereForced tab start line
@@ -93,7 +93,7 @@ line_shows tab start line p is =
 line_more : (m : BoxMeasuresValue) (by : MeasureInValue) (fr : Frame) (start : Length) (line : List LinePart) (p : LinePen) (s : Segment)
     → AreAsMeasured breaking.WhereForced m by → All IsNoFloat s.items → All IsNotNegative (line_parts_of m s.items) → IsLine fr.tab.0 start line p
     → IsLine fr.tab.0 start (line ++ parts_of by s.items) (over_line fr p (line_parts_of m s.items))
-line_more m by fr start line p s are no more is = record {
+line_more m by fr start line p s are free more is = record {
   comes =
       measured_both breaking.WhereForced fr.tab.0 (begun start) line (parts_of by s.items)
       ∙ ap (λ (q : Pen). over_all breaking.WhereForced fr.tab.0 q (parts_of by s.items)) is.comes
@@ -101,7 +101,7 @@ line_more m by fr start line p s are no more is = record {
   no_floats =
       sum_both line (parts_of by s.items)
       ∙ both_none (float_sum line) (float_sum (parts_of by s.items)) is.no_floats
-      (content_sum (parts_of by s.items) (items_content breaking.WhereForced m by s.items are no));
+      (content_sum (parts_of by s.items) (items_content breaking.WhereForced m by s.items are free));
   order = (parts_grow fr p (line_parts_of m s.items) more is.order).order;
 }
 
@@ -119,16 +119,16 @@ shown_after : (m : BoxMeasuresValue) (by : MeasureInValue) (fr : Frame) (start :
     → ((l : List LinePart) → IsLine fr.tab.0 start l (over_line fr p (line_parts_of m s.items))
         → (over_line fr p (line_parts_of m s.items)).visible.0 ≤ℤ width_with breaking.WhereForced fr.tab.0 start l by ss)
     → (over_line fr p (line_parts_of m s.items)).visible.0 ≤ℤ width_with breaking.WhereForced fr.tab.0 start line by (s ∷ ss)
-shown_after m by fr start line p s ss are no more is rest = at s.forced refl
+shown_after m by fr start line p s ss are free more is rest = at s.forced refl
   where
     q : LinePen
     q = over_line fr p (line_parts_of m s.items)
 
     now : IsLine fr.tab.0 start (line ++ parts_of by s.items) (over_line fr p (line_parts_of m s.items))
-    now = line_more m by fr start line p s are no more is
+    now = line_more m by fr start line p s are free more is
 
     content : AreContent (parts_of by s.items)
-    content = items_content breaking.WhereForced m by s.items are no
+    content = items_content breaking.WhereForced m by s.items are free
 
     at : (b : Bool) → s.forced ≡ b
         → (over_line fr p (line_parts_of m s.items)).visible.0 ≤ℤ width_with breaking.WhereForced fr.tab.0 start line by (s ∷ ss)
@@ -144,28 +144,28 @@ pub shown_within : (m : BoxMeasuresValue) (by : MeasureInValue) (c : Container) 
     (ss : List Segment) (n : ℕ) → AreAsMeasured breaking.WhereForced m by → HaveNoFloats ss → NoneIsNegative (stretches_of m c begins ss)
     → IsLine fr.tab.0 start line p → IsUnbroken ss n
     → (pen_from fr p (stretches_of m c begins ss) n).visible.0 ≤ℤ width_with breaking.WhereForced fr.tab.0 start line by ss
-shown_within m by c begins fr start line p [] zero are no more is whole = below_first _ _ _ _ (line_shows fr.tab.0 start line p is) refl
-shown_within m by c begins fr start line p [] (suc k) are no more is whole = below_first _ _ _ _ (line_shows fr.tab.0 start line p is) refl
-shown_within m by c begins fr start line p (s ∷ ss) zero are no more is whole =
-    let none = All-head (λ (s : Segment). All IsNoFloat s.items) s ss no in
+shown_within m by c begins fr start line p [] zero are free more is whole = below_first _ _ (pos 0) _ (line_shows fr.tab.0 start line p is) refl
+shown_within m by c begins fr start line p [] (suc k) are free more is whole = below_first _ _ (pos 0) _ (line_shows fr.tab.0 start line p is) refl
+shown_within m by c begins fr start line p (s ∷ ss) zero are free more is whole =
+    let none = All-head (λ (s : Segment). All IsNoFloat s.items) s ss free in
     let widths = All-head (λ (t : Stretch). All IsNotNegative t.parts) _ (stretches_of m c s.forced ss) more in
     no_more _ _ _ (parts_grow fr p (line_parts_of m s.items) widths is.order).visible
     (shown_after m by fr start line p s ss are none widths is
     (λ l here. shown_within m by c s.forced fr start l (over_line fr p (line_parts_of m s.items)) ss zero are
-        (All-tail (λ (s : Segment). All IsNoFloat s.items) s ss no) (All-tail (λ (t : Stretch). All IsNotNegative t.parts) _ (stretches_of m c s.forced ss) more) here tt))
-shown_within m by c begins fr start line p (s ∷ ss) (suc zero) are no more is whole =
-    let none = All-head (λ (s : Segment). All IsNoFloat s.items) s ss no in
+        (All-tail (λ (s : Segment). All IsNoFloat s.items) s ss free) (All-tail (λ (t : Stretch). All IsNotNegative t.parts) _ (stretches_of m c s.forced ss) more) here tt))
+shown_within m by c begins fr start line p (s ∷ ss) (suc zero) are free more is whole =
+    let none = All-head (λ (s : Segment). All IsNoFloat s.items) s ss free in
     let widths = All-head (λ (t : Stretch). All IsNotNegative t.parts) _ (stretches_of m c s.forced ss) more in
     shown_after m by fr start line p s ss are none widths is
     (λ l here. shown_within m by c s.forced fr start l (over_line fr p (line_parts_of m s.items)) ss zero are
-        (All-tail (λ (s : Segment). All IsNoFloat s.items) s ss no) (All-tail (λ (t : Stretch). All IsNotNegative t.parts) _ (stretches_of m c s.forced ss) more) here tt)
-shown_within m by c begins fr start line p (s ∷ ss) (suc (suc k)) are no more is whole =
-    let none = All-head (λ (s : Segment). All IsNoFloat s.items) s ss no in
+        (All-tail (λ (s : Segment). All IsNoFloat s.items) s ss free) (All-tail (λ (t : Stretch). All IsNotNegative t.parts) _ (stretches_of m c s.forced ss) more) here tt)
+shown_within m by c begins fr start line p (s ∷ ss) (suc (suc k)) are free more is whole =
+    let none = All-head (λ (s : Segment). All IsNoFloat s.items) s ss free in
     let widths = All-head (λ (t : Stretch). All IsNotNegative t.parts) _ (stretches_of m c s.forced ss) more in
     let now = line_more m by fr start line p s are none widths is in
     below_same _ _ _
     (shown_within m by c s.forced fr start ((line ++ parts_of by s.items) ++ part.Break s.forced ∷ []) (over_line fr p (line_parts_of m s.items)) ss (suc k) are
-    (All-tail (λ (s : Segment). All IsNoFloat s.items) s ss no) (All-tail (λ (t : Stretch). All IsNotNegative t.parts) _ (stretches_of m c s.forced ss) more)
+    (All-tail (λ (s : Segment). All IsNoFloat s.items) s ss free) (All-tail (λ (t : Stretch). All IsNotNegative t.parts) _ (stretches_of m c s.forced ss) more)
     (line_past fr.tab.0 start _ _ s.forced now) whole.1)
     (line_goes_on breaking.WhereForced fr.tab.0 start line by s ss (items_content breaking.WhereForced m by s.items are none) whole.0)
 
@@ -186,16 +186,16 @@ pub left_after_break : (m : BoxMeasuresValue) (by : MeasureInValue) (c : Contain
     (ss : List Segment) (k : ℕ) (t : Stretch) → AreAsMeasured breaking.WhereForced m by → HaveNoFloats ss
     → slice_get (stretches_of m c begins ss) k ≡ Some t → IsTrue t.forced
     → width_with breaking.WhereForced tab no_length [] by (drop (suc k) ss) ≤ℤ width_with breaking.WhereForced tab start line by ss
-left_after_break m by c begins tab start line [] k t are no is forced = absurd (let w = slice_get_within [] k t is in omega (arith, w))
-left_after_break m by c begins tab start line (s ∷ ss) zero t are no is forced =
-    let none = All-head (λ (s : Segment). All IsNoFloat s.items) s ss no in
+left_after_break m by c begins tab start line [] k t are free is forced = absurd (let w = slice_get_within [] k t is in omega (arith, w))
+left_after_break m by c begins tab start line (s ∷ ss) zero t are free is forced =
+    let none = All-head (λ (s : Segment). All IsNoFloat s.items) s ss free in
     let ends : s.forced ≡ true = ap (λ (u : Stretch). u.forced) (same_Some _ t is) ∙ forced in
     below_second _ _ _ _ (equal_below _ _ refl) (line_ends breaking.WhereForced tab start line by s ss (items_content breaking.WhereForced m by s.items are none) ends)
-left_after_break m by c begins tab start line (s ∷ ss) (suc k) t are no is forced = at s.forced refl
-    (λ from l. left_after_break m by c s.forced tab from l ss k t are (All-tail (λ (s : Segment). All IsNoFloat s.items) s ss no) is forced)
+left_after_break m by c begins tab start line (s ∷ ss) (suc k) t are free is forced = at s.forced refl
+    (λ from l. left_after_break m by c s.forced tab from l ss k t are (All-tail (λ (s : Segment). All IsNoFloat s.items) s ss free) is forced)
   where
     content : AreContent (parts_of by s.items)
-    content = items_content breaking.WhereForced m by s.items are (All-head (λ (s : Segment). All IsNoFloat s.items) s ss no)
+    content = items_content breaking.WhereForced m by s.items are (All-head (λ (s : Segment). All IsNoFloat s.items) s ss free)
 
     at : (b : Bool) → s.forced ≡ b
         → ((from : Length) (l : List LinePart) → width_with breaking.WhereForced tab no_length [] by (drop (suc k) ss) ≤ℤ width_with breaking.WhereForced tab from l by ss)
@@ -209,22 +209,22 @@ left_after_break m by c begins tab start line (s ∷ ss) (suc k) t are no is for
 pub left_behind : (m : BoxMeasuresValue) (by : MeasureInValue) (tab : ℤ) (start : Length) (ss : List Segment) (k : ℕ)
     → AreAsMeasured breaking.WhereAllowed m by → HaveNoFloats ss
     → width_with breaking.WhereAllowed tab no_length [] by (drop (suc k) ss) ≤ℤ width_with breaking.WhereAllowed tab start [] by ss
-left_behind m by tab start [] k are no = nothing_left breaking.WhereAllowed tab start [] by []
-left_behind m by tab start (s ∷ ss) zero are no =
-    let none = All-head (λ (s : Segment). All IsNoFloat s.items) s ss no in
+left_behind m by tab start [] k are free = nothing_left breaking.WhereAllowed tab start [] by []
+left_behind m by tab start (s ∷ ss) zero are free =
+    let none = All-head (λ (s : Segment). All IsNoFloat s.items) s ss free in
     below_second _ _ _ _ (equal_below _ _ refl)
     (line_ends breaking.WhereAllowed tab start [] by s ss (items_content breaking.WhereAllowed m by s.items are none) refl)
-left_behind m by tab start (s ∷ ss) (suc k) are no =
-    let none = All-head (λ (s : Segment). All IsNoFloat s.items) s ss no in
-    below_second _ _ _ _ (left_behind m by tab no_length ss k are (All-tail (λ (s : Segment). All IsNoFloat s.items) s ss no))
+left_behind m by tab start (s ∷ ss) (suc k) are free =
+    let none = All-head (λ (s : Segment). All IsNoFloat s.items) s ss free in
+    below_second _ _ _ _ (left_behind m by tab no_length ss k are (All-tail (λ (s : Segment). All IsNoFloat s.items) s ss free))
     (line_ends breaking.WhereAllowed tab start [] by s ss (items_content breaking.WhereAllowed m by s.items are none) refl)
 
 -- a segment alone on its line
 pub segment_alone : (m : BoxMeasuresValue) (by : MeasureInValue) (fr : Frame) (start : Length) (s : Segment) (ss : List Segment)
     → AreAsMeasured breaking.WhereAllowed m by → All IsNoFloat s.items
     → (over_line fr (blank start.0) (line_parts_of m s.items)).visible.0 ≤ℤ width_with breaking.WhereAllowed fr.tab.0 start [] by (s ∷ ss)
-segment_alone m by fr start s ss are no =
+segment_alone m by fr start s ss are free =
     let same = ap (λ (q : Pen). q.visible.0) (lines_come_as_far_lem breaking.WhereAllowed m by fr (blank start.0) s.items are) in
     let here : (over_line fr (blank start.0) (line_parts_of m s.items)).visible.0 ≤ℤ line_width breaking.WhereAllowed fr.tab.0 start (parts_of by s.items) =
     below_first _ _ (widest_float (parts_of by s.items)) _ (equal_below _ (over_all breaking.WhereAllowed fr.tab.0 (begun start) (parts_of by s.items)).visible.0 same) refl in
-    below_first _ _ _ _ here (line_ends breaking.WhereAllowed fr.tab.0 start [] by s ss (items_content breaking.WhereAllowed m by s.items are no) refl)
+    below_first _ _ _ _ here (line_ends breaking.WhereAllowed fr.tab.0 start [] by s ss (items_content breaking.WhereAllowed m by s.items are free) refl)

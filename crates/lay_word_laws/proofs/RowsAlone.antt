@@ -50,7 +50,7 @@ pub record StandsAlone
 
 none_left : (ss : List Stretch) (m : BoxMeasuresValue) (c : Container) (begins : Bool) (us : List Segment) → ss ≡ stretches_of m c begins us
     → HaveNoFloats us → HaveNone ss
-none_left ss m c begins us e no = subst (λ (ts : List Stretch). HaveNone ts) (sym e) (none_in m c begins us no)
+none_left ss m c begins us e free = subst (λ (ts : List Stretch). HaveNone ts) (sym e) (none_in m c begins us free)
 
 -- what holds of a line of it
 record IsAloneRow (p : Position) (r : Row) : Type 0 where
@@ -96,10 +96,10 @@ unbroken_within : (m : BoxMeasuresValue) (by : MeasureInValue) (c : Container) (
     → ss ≡ stretches_of m c begins us → AreAsMeasured breaking.WhereForced m by → HaveNoFloats us → NoneIsNegative ss
     → ((j : ℕ) (s : Stretch) → suc j < n → slice_get ss j ≡ Some s → IsFalse s.forced)
     → (pen_to fr fr.left.0 ss n).visible.0 ≤ℤ width_with breaking.WhereForced fr.tab.0 fr.indent [] by us
-unbroken_within m by c fr begins us ss n e are no more whole =
+unbroken_within m by c fr begins us ss n e are free more whole =
     let these = subst (λ (ts : List Stretch). NoneIsNegative ts) e more in
     let unforced = subst (λ (ts : List Stretch). (j : ℕ) (s : Stretch) → suc j < n → slice_get ts j ≡ Some s → IsFalse s.forced) e whole in
-    let within = shown_within m by c begins fr fr.indent [] (blank fr.indent.0) us n are no these (fresh_line fr.tab.0 fr.indent) (unbroken m c begins us n unforced) in
+    let within = shown_within m by c begins fr fr.indent [] (blank fr.indent.0) us n are free these (fresh_line fr.tab.0 fr.indent) (unbroken m c begins us n unforced) in
     let there = subst (λ (q : LinePen). q.visible.0 ≤ℤ width_with breaking.WhereForced fr.tab.0 fr.indent [] by us)
     (sym (pen_in_room fr (stretches_of m c begins us) n)) within in
     subst (λ (ts : List Stretch). (pen_to fr fr.left.0 ts n).visible.0 ≤ℤ width_with breaking.WhereForced fr.tab.0 fr.indent [] by us) (sym e) there
@@ -142,11 +142,11 @@ ends_where_forced m by c floats width p r are more stands is beside =
 first_within : (m : BoxMeasuresValue) (by : MeasureInValue) (c : Container) (fr : Frame) (begins : Bool) (us : List Segment)
     → AreAsMeasured breaking.WhereAllowed m by → HaveNoFloats us → 0 < length (stretches_of m c begins us)
     → (pen_to fr fr.left.0 (stretches_of m c begins us) 1).visible.0 ≤ℤ width_with breaking.WhereAllowed fr.tab.0 fr.indent [] by us
-first_within m by c fr begins [] are no some = absurd (omega (arith, some))
-first_within m by c fr begins (s ∷ us) are no some =
+first_within m by c fr begins [] are free some = absurd (omega (arith, some))
+first_within m by c fr begins (s ∷ us) are free some =
     subst (λ (q : LinePen). q.visible.0 ≤ℤ width_with breaking.WhereAllowed fr.tab.0 fr.indent [] by (s ∷ us))
     (sym (pen_in_room fr (stretches_of m c begins (s ∷ us)) 1))
-    (segment_alone m by fr fr.indent s us are (All-head (λ (s : Segment). All IsNoFloat s.items) s us no))
+    (segment_alone m by fr fr.indent s us are (All-head (λ (s : Segment). All IsNoFloat s.items) s us free))
 
 -- what fits its room, where that is whole
 fits_whole : (fr : Frame) (y : ℤ) (ss : List Stretch) (k : ℕ) (floats : List Placed) → IsLineRoom fr y floats fr.left.0 fr.right.0 → HasFit fr y ss k floats

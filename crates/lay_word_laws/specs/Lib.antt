@@ -1,3 +1,4 @@
 pub mod Laws
 pub mod LinesAlone
 pub mod PreferredLines
+pub mod InlineEdges
