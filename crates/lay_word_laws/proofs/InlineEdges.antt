@@ -1,5 +1,6 @@
 -- The edges of an inline box without percentages.
 use Rattle.std.proofs.Common.{◌≡◌, ◌⊎◌, inl, inr, ℕ, zero, suc, ◌==◌, ℤ, pos, negsuc, ◌+ℤ◌, Bool, true, false, ◌&&◌, ◌||◌, not, if◌then◌else◌, Some, slice_get, IsTrue, refl, sym, ap, subst, ◌∙◌, arith}
+use Rattle.std.proofs.lemmas.Bool.{ne_eqb}
 use Rattle.std.proofs.lemmas.Int.{ints, clamps}
 use Rattle.lay_units.specs.Units.{clamp_of}
 use Rattle.lay_units.specs.declared.length.Unit.{Unit as Length}
@@ -60,8 +61,12 @@ together_behind : (a b c m e : ℤ) → m ≡ a → e ≡ b +ℤ c → a +ℤ b 
 together_behind a b c m e p q = omega (arith, ints, p, q)
 
 -- which of them are there
+or_first : (u v : Bool) → u ≡ true → (u || v) ≡ true
+or_first true v h = refl
+or_first false v h = absurd cc
+
 some_of_sum : (a b v : ℤ) → v ≡ a +ℤ b → is_nonzero v ≡ true → (is_nonzero a || is_nonzero b) ≡ true
-some_of_sum (pos (suc n)) b v e h = refl
+some_of_sum (pos (suc n)) b v e h = or_first (is_nonzero (pos (suc n))) (is_nonzero b) (ap (λ (z : Bool). not z) (ne_eqb (suc n) 0 (λ z. omega (arith, z))))
 some_of_sum (negsuc n) b v e h = refl
 some_of_sum (pos zero) b v e h = let same : v ≡ b = omega (arith, ints, e) in ap is_nonzero (sym same) ∙ h
 
@@ -112,9 +117,9 @@ or_second false v h = h
 
 if_there : (f g y v : Bool) → f ≡ g → (y ≡ true → v ≡ true) → (g && y) ≡ true → (f && v) ≡ true
 if_there true true y v e p w = p w
-if_there true false y v e p w = absurd (cc w)
-if_there false true y v e p w = absurd (cc e)
-if_there false false y v e p w = absurd (cc w)
+if_there true false y v e p w = absurd cc
+if_there false true y v e p w = absurd cc
+if_there false false y v e p w = absurd cc
 
 -- the used sizes of such a box, by its style
 record AreUsed (s : Style) (z : BoxSizes) : Type 0 where
@@ -143,13 +148,23 @@ used containing s z is are = record {
 
 vertical_seen : (s : Style) (z : BoxSizes) → AreUsed s z → shows_above_or_below z ≡ true → has_vertical_edges s ≡ true
 vertical_seen s z are h =
-    four_seen _ _ _ _ _ _ _ _ _ _ (some_same _ _ are.top_margin) (some_of_sum _ _ _ are.top_edge) (some_of_sum _ _ _ are.bottom_edge) (some_same _ _ are.bottom_margin) h
+    four_seen (is_nonzero z.margin_top.0) (is_nonzero z.edges.top.0) (is_nonzero z.edges.bottom.0) (is_nonzero z.margin_bottom.0)
+    (is_nonzero (margin_or_zero s.margin.top).0) (is_nonzero (size_of s.border.width.top.0).0) (is_nonzero (size_or_zero s.padding.top).0)
+    (is_nonzero (margin_or_zero s.margin.bottom).0) (is_nonzero (size_of s.border.width.bottom.0).0) (is_nonzero (size_or_zero s.padding.bottom).0)
+    (some_same (margin_or_zero s.margin.top).0 z.margin_top.0 are.top_margin)
+    (some_of_sum (size_of s.border.width.top.0).0 (size_or_zero s.padding.top).0 z.edges.top.0 are.top_edge)
+    (some_of_sum (size_of s.border.width.bottom.0).0 (size_or_zero s.padding.bottom).0 z.edges.bottom.0 are.bottom_edge)
+    (some_same (margin_or_zero s.margin.bottom).0 z.margin_bottom.0 are.bottom_margin) h
 
 left_seen : (s : Style) (z : BoxSizes) → AreUsed s z → shows_left z ≡ true → has_left_edges s ≡ true
-left_seen s z are h = two_seen _ _ _ _ _ are.left_margin are.left_edge h
+left_seen s z are h =
+    two_seen (margin_or_zero s.margin.left).0 (size_of s.border.width.left.0).0 (size_or_zero s.padding.left).0 z.widths.margin_left.0 z.edges.left.0
+    are.left_margin are.left_edge h
 
 right_seen : (s : Style) (z : BoxSizes) → AreUsed s z → shows_right z ≡ true → has_right_edges s ≡ true
-right_seen s z are h = two_seen_behind _ _ _ _ _ are.right_margin are.right_edge h
+right_seen s z are h =
+    two_seen_behind (margin_or_zero s.margin.right).0 (size_of s.border.width.right.0).0 (size_or_zero s.padding.right).0 z.widths.margin_right.0 z.edges.right.0
+    are.right_margin are.right_edge h
 
 start_edges : (s : Style) (z : BoxSizes) (p q : InlinePart) → AreUsed s z → p ≡ q
     → AreEdges (start_of s p) (if q.first then record { 0 = z.widths.margin_left.0 +ℤ z.edges.left.0 } else no_length)
@@ -159,8 +174,10 @@ start_edges s z p q are same =
     (has_vertical_edges s || (p.first && has_left_edges s),
         ap (λ (f : Bool). part.Edge (if f then record { 0 = left_edges s } else no_length) (has_vertical_edges s || (p.first && has_left_edges s))) first
         ∙ ap (λ (v : ℤ). part.Edge (if q.first then record { 0 = v } else no_length) (has_vertical_edges s || (p.first && has_left_edges s)))
-        (together _ _ _ _ _ are.left_margin are.left_edge),
-        one_or_other _ _ _ _ (vertical_seen s z are) (if_there p.first q.first (shows_left z) (has_left_edges s) first (left_seen s z are)))
+        (together (margin_or_zero s.margin.left).0 (size_of s.border.width.left.0).0 (size_or_zero s.padding.left).0 z.widths.margin_left.0 z.edges.left.0
+        are.left_margin are.left_edge),
+        one_or_other (shows_above_or_below z) (q.first && shows_left z) (has_vertical_edges s) (p.first && has_left_edges s)
+        (vertical_seen s z are) (if_there p.first q.first (shows_left z) (has_left_edges s) first (left_seen s z are)))
 
 end_edges : (s : Style) (z : BoxSizes) (p q : InlinePart) → AreUsed s z → p ≡ q
     → AreEdges (end_of s p) (if q.last then record { 0 = z.edges.right.0 +ℤ z.widths.margin_right.0 } else no_length) (q.last && shows_right z)
@@ -169,7 +186,8 @@ end_edges s z p q are same =
     (has_vertical_edges s || (p.last && has_right_edges s),
         ap (λ (f : Bool). part.Edge (if f then record { 0 = right_edges s } else no_length) (has_vertical_edges s || (p.last && has_right_edges s))) last
         ∙ ap (λ (v : ℤ). part.Edge (if q.last then record { 0 = v } else no_length) (has_vertical_edges s || (p.last && has_right_edges s)))
-        (together_behind _ _ _ _ _ are.right_margin are.right_edge),
+        (together_behind (margin_or_zero s.margin.right).0 (size_of s.border.width.right.0).0 (size_or_zero s.padding.right).0 z.widths.margin_right.0 z.edges.right.0
+        are.right_margin are.right_edge),
         (λ h. or_second (has_vertical_edges s) (p.last && has_right_edges s)
             (if_there p.last q.last (shows_right z) (has_right_edges s) last (right_seen s z are) h)))
 

@@ -22,7 +22,7 @@ use Rattle.lay_measure.specs.declared.pen.Breaking.TheVariants as breaking
 use Rattle.lay_measure.specs.LineParts.{cluster_part, line_parts, parts_at, parts_of, text_parts}
 use Rattle.lay_measure.specs.LineWidths.{ends_line, float_sum, line_width, lines_of, widest}
 use Rattle.lay_measure.specs.MeasureInValue.{MeasureInValue}
-use Rattle.lay_word_laws.specs.LinesAlone.{AreAsMeasured, IsNoFloat}
+use Rattle.lay_word_laws.specs.LinesAlone.{AreAsMeasured, HaveNoFloats, IsAsMeasured, IsNoFloat}
 
 -- neither a float nor a place where a line may break
 abbrev pub IsContent : LinePart → Type 0
@@ -62,20 +62,35 @@ text_content m text (w ∷ ws) =
     let to = next_place text ws in
     (cluster_content m (kind_of m text w.place to) (to == w.place + 1) w.width, text_content m text ws)
 
-item_content : (how : Breaking) (m : BoxMeasuresValue) (by : MeasureInValue) (x : Item) → AreAsMeasured how m by → IsNoFloat x → AreContent (parts_at by x)
+item_content : (how : Breaking) (m : BoxMeasuresValue) (by : MeasureInValue) (x : Item) → IsAsMeasured how m by x → IsNoFloat x → AreContent (parts_at by x)
 item_content how m by (item.Text k text mode widths) are free = text_content mode text widths
-item_content how m by (item.Start k takes) are free = (subst IsContent (sym (are.starts k).1) tt, tt)
-item_content how m by (item.End k) are free = (subst IsContent (sym (are.ends k).1) tt, tt)
+item_content how m by (item.Start k takes) are free = (subst IsContent (sym are.1) tt, tt)
+item_content how m by (item.End k) are free = (subst IsContent (sym are.1) tt, tt)
 item_content how m by (item.Atomic k mode) are free = (tt, tt)
 item_content how m by (item.Float k) are free = absurd free
 item_content how m by (item.Anchor k) are free = tt
 
-pub items_content : (how : Breaking) (m : BoxMeasuresValue) (by : MeasureInValue) (xs : List Item) → AreAsMeasured how m by → All IsNoFloat xs
+pub items_content : (how : Breaking) (m : BoxMeasuresValue) (by : MeasureInValue) (xs : List Item) → All (IsAsMeasured how m by) xs → All IsNoFloat xs
     → AreContent (parts_of by xs)
 items_content how m by [] are free = tt
 items_content how m by (x ∷ xs) are free =
-    both_content (parts_at by x) (parts_of by xs) (item_content how m by x are (All-head IsNoFloat x xs free))
-    (items_content how m by xs are (All-tail IsNoFloat x xs free))
+    both_content (parts_at by x) (parts_of by xs) (item_content how m by x (All-head (IsAsMeasured how m by) x xs are) (All-head IsNoFloat x xs free))
+    (items_content how m by xs (All-tail (IsAsMeasured how m by) x xs are) (All-tail IsNoFloat x xs free))
+
+-- the first segment, and the others
+pub head_measured : (how : Breaking) (m : BoxMeasuresValue) (by : MeasureInValue) (s : Segment) (ss : List Segment) → AreAsMeasured how m by (s ∷ ss)
+    → All (IsAsMeasured how m by) s.items
+head_measured how m by s ss are = All-head (λ (t : Segment). All (IsAsMeasured how m by) t.items) s ss are
+
+pub tail_measured : (how : Breaking) (m : BoxMeasuresValue) (by : MeasureInValue) (s : Segment) (ss : List Segment) → AreAsMeasured how m by (s ∷ ss)
+    → AreAsMeasured how m by ss
+tail_measured how m by s ss are = All-tail (λ (t : Segment). All (IsAsMeasured how m by) t.items) s ss are
+
+pub head_free : (s : Segment) (ss : List Segment) → HaveNoFloats (s ∷ ss) → All IsNoFloat s.items
+head_free s ss free = All-head (λ (t : Segment). All IsNoFloat t.items) s ss free
+
+pub tail_free : (s : Segment) (ss : List Segment) → HaveNoFloats (s ∷ ss) → HaveNoFloats ss
+tail_free s ss free = All-tail (λ (t : Segment). All IsNoFloat t.items) s ss free
 
 -- floats of a line
 pub sum_both : (xs ys : List LinePart) → float_sum (xs ++ ys) ≡ float_sum xs +ℤ float_sum ys

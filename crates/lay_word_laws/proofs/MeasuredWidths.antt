@@ -23,9 +23,9 @@ use Rattle.lay_measure.specs.LineParts.{line_parts, parts_of}
 use Rattle.lay_measure.specs.LineWidths.{begun, float_sum, line_width, lines_of, over_all, widest, widest_float}
 use Rattle.lay_measure.specs.MeasureInValue.{MeasureInValue}
 use Rattle.lay_measure.proofs.WidestLines.{zero_first}
-use Rattle.lay_word_laws.specs.LinesAlone.{AreAsMeasured, HaveNoFloats, IsNoFloat, IsNotNegative, NoneIsNegative, measured}
+use Rattle.lay_word_laws.specs.LinesAlone.{AreAsMeasured, HaveNoFloats, IsAsMeasured, IsNoFloat, IsNotNegative, NoneIsNegative, measuring_pen}
 use Rattle.lay_word_laws.proofs.GrowingPens.{parts_grow}
-use Rattle.lay_word_laws.proofs.MeasuredContent.{AreContent, content_sum, items_content, line_ends, line_goes_on, sum_both, width_with}
+use Rattle.lay_word_laws.proofs.MeasuredContent.{AreContent, content_sum, head_free, head_measured, items_content, line_ends, line_goes_on, sum_both, tail_free, tail_measured, width_with}
 use Rattle.lay_word_laws.proofs.MeasuredPens.{lines_come_as_far_lem, measured_both}
 
 -- greater numbers
@@ -79,7 +79,7 @@ IsUnbroken (s ∷ ss) (suc (suc k)) = (s.forced ≡ false) × IsUnbroken ss (suc
 
 -- preferred widths have this of a line, whose pen is here
 pub record IsLine (tab : ℤ) (start : Length) (line : List LinePart) (p : LinePen) : Type 0 where
-  pub comes : over_all breaking.WhereForced tab (begun start) line ≡ measured p
+  pub comes : over_all breaking.WhereForced tab (begun start) line ≡ measuring_pen p
   pub no_floats : float_sum line ≡ pos 0
   pub order : p.visible.0 ≤ℤ p.at.0
 
@@ -91,7 +91,7 @@ line_shows tab start line p is =
 
 -- a line with one segment more
 line_more : (m : BoxMeasuresValue) (by : MeasureInValue) (fr : Frame) (start : Length) (line : List LinePart) (p : LinePen) (s : Segment)
-    → AreAsMeasured breaking.WhereForced m by → All IsNoFloat s.items → All IsNotNegative (line_parts_of m s.items) → IsLine fr.tab.0 start line p
+    → All (IsAsMeasured breaking.WhereForced m by) s.items → All IsNoFloat s.items → All IsNotNegative (line_parts_of m s.items) → IsLine fr.tab.0 start line p
     → IsLine fr.tab.0 start (line ++ parts_of by s.items) (over_line fr p (line_parts_of m s.items))
 line_more m by fr start line p s are free more is = record {
   comes =
@@ -115,7 +115,7 @@ line_past tab start line p forced is = record {
 
 -- what is shown after a segment is no wider, where the rest isn't
 shown_after : (m : BoxMeasuresValue) (by : MeasureInValue) (fr : Frame) (start : Length) (line : List LinePart) (p : LinePen) (s : Segment) (ss : List Segment)
-    → AreAsMeasured breaking.WhereForced m by → All IsNoFloat s.items → All IsNotNegative (line_parts_of m s.items) → IsLine fr.tab.0 start line p
+    → All (IsAsMeasured breaking.WhereForced m by) s.items → All IsNoFloat s.items → All IsNotNegative (line_parts_of m s.items) → IsLine fr.tab.0 start line p
     → ((l : List LinePart) → IsLine fr.tab.0 start l (over_line fr p (line_parts_of m s.items))
         → (over_line fr p (line_parts_of m s.items)).visible.0 ≤ℤ width_with breaking.WhereForced fr.tab.0 start l by ss)
     → (over_line fr p (line_parts_of m s.items)).visible.0 ≤ℤ width_with breaking.WhereForced fr.tab.0 start line by (s ∷ ss)
@@ -141,33 +141,36 @@ shown_after m by fr start line p s ss are free more is rest = at s.forced refl
 
 -- Content that nothing has to break, whose line has this already, reaches no further than the widest line.
 pub shown_within : (m : BoxMeasuresValue) (by : MeasureInValue) (c : Container) (begins : Bool) (fr : Frame) (start : Length) (line : List LinePart) (p : LinePen)
-    (ss : List Segment) (n : ℕ) → AreAsMeasured breaking.WhereForced m by → HaveNoFloats ss → NoneIsNegative (stretches_of m c begins ss)
+    (ss : List Segment) (n : ℕ) → AreAsMeasured breaking.WhereForced m by ss → HaveNoFloats ss → NoneIsNegative (stretches_of m c begins ss)
     → IsLine fr.tab.0 start line p → IsUnbroken ss n
     → (pen_from fr p (stretches_of m c begins ss) n).visible.0 ≤ℤ width_with breaking.WhereForced fr.tab.0 start line by ss
 shown_within m by c begins fr start line p [] zero are free more is whole = below_first _ _ (pos 0) _ (line_shows fr.tab.0 start line p is) refl
 shown_within m by c begins fr start line p [] (suc k) are free more is whole = below_first _ _ (pos 0) _ (line_shows fr.tab.0 start line p is) refl
 shown_within m by c begins fr start line p (s ∷ ss) zero are free more is whole =
-    let none = All-head (λ (s : Segment). All IsNoFloat s.items) s ss free in
+    let none = head_free s ss free in
+    let same = head_measured breaking.WhereForced m by s ss are in
     let widths = All-head (λ (t : Stretch). All IsNotNegative t.parts) _ (stretches_of m c s.forced ss) more in
     no_more _ _ _ (parts_grow fr p (line_parts_of m s.items) widths is.order).visible
-    (shown_after m by fr start line p s ss are none widths is
-    (λ l here. shown_within m by c s.forced fr start l (over_line fr p (line_parts_of m s.items)) ss zero are
-        (All-tail (λ (s : Segment). All IsNoFloat s.items) s ss free) (All-tail (λ (t : Stretch). All IsNotNegative t.parts) _ (stretches_of m c s.forced ss) more) here tt))
+    (shown_after m by fr start line p s ss same none widths is
+    (λ l here. shown_within m by c s.forced fr start l (over_line fr p (line_parts_of m s.items)) ss zero (tail_measured breaking.WhereForced m by s ss are)
+        (tail_free s ss free) (All-tail (λ (t : Stretch). All IsNotNegative t.parts) _ (stretches_of m c s.forced ss) more) here tt))
 shown_within m by c begins fr start line p (s ∷ ss) (suc zero) are free more is whole =
-    let none = All-head (λ (s : Segment). All IsNoFloat s.items) s ss free in
+    let none = head_free s ss free in
+    let same = head_measured breaking.WhereForced m by s ss are in
     let widths = All-head (λ (t : Stretch). All IsNotNegative t.parts) _ (stretches_of m c s.forced ss) more in
-    shown_after m by fr start line p s ss are none widths is
-    (λ l here. shown_within m by c s.forced fr start l (over_line fr p (line_parts_of m s.items)) ss zero are
-        (All-tail (λ (s : Segment). All IsNoFloat s.items) s ss free) (All-tail (λ (t : Stretch). All IsNotNegative t.parts) _ (stretches_of m c s.forced ss) more) here tt)
+    shown_after m by fr start line p s ss same none widths is
+    (λ l here. shown_within m by c s.forced fr start l (over_line fr p (line_parts_of m s.items)) ss zero (tail_measured breaking.WhereForced m by s ss are)
+        (tail_free s ss free) (All-tail (λ (t : Stretch). All IsNotNegative t.parts) _ (stretches_of m c s.forced ss) more) here tt)
 shown_within m by c begins fr start line p (s ∷ ss) (suc (suc k)) are free more is whole =
-    let none = All-head (λ (s : Segment). All IsNoFloat s.items) s ss free in
+    let none = head_free s ss free in
+    let same = head_measured breaking.WhereForced m by s ss are in
     let widths = All-head (λ (t : Stretch). All IsNotNegative t.parts) _ (stretches_of m c s.forced ss) more in
-    let now = line_more m by fr start line p s are none widths is in
+    let now = line_more m by fr start line p s same none widths is in
     below_same _ _ _
-    (shown_within m by c s.forced fr start ((line ++ parts_of by s.items) ++ part.Break s.forced ∷ []) (over_line fr p (line_parts_of m s.items)) ss (suc k) are
-    (All-tail (λ (s : Segment). All IsNoFloat s.items) s ss free) (All-tail (λ (t : Stretch). All IsNotNegative t.parts) _ (stretches_of m c s.forced ss) more)
+    (shown_within m by c s.forced fr start ((line ++ parts_of by s.items) ++ part.Break s.forced ∷ []) (over_line fr p (line_parts_of m s.items)) ss (suc k) (tail_measured breaking.WhereForced m by s ss are)
+    (tail_free s ss free) (All-tail (λ (t : Stretch). All IsNotNegative t.parts) _ (stretches_of m c s.forced ss) more)
     (line_past fr.tab.0 start _ _ s.forced now) whole.1)
-    (line_goes_on breaking.WhereForced fr.tab.0 start line by s ss (items_content breaking.WhereForced m by s.items are none) whole.0)
+    (line_goes_on breaking.WhereForced fr.tab.0 start line by s ss (items_content breaking.WhereForced m by s.items same none) whole.0)
 
 -- a line that begins here
 pub fresh_line : (tab : ℤ) (start : Length) → IsLine tab start [] (blank start.0)
@@ -183,19 +186,20 @@ nothing_left breaking.WhereAllowed tab start line by ss = wide_as_zero breaking.
 nothing_left breaking.WhereForced tab start line by ss = wide_as_zero breaking.WhereForced tab start (lines_of breaking.WhereForced line (line_parts by ss))
 
 pub left_after_break : (m : BoxMeasuresValue) (by : MeasureInValue) (c : Container) (begins : Bool) (tab : ℤ) (start : Length) (line : List LinePart)
-    (ss : List Segment) (k : ℕ) (t : Stretch) → AreAsMeasured breaking.WhereForced m by → HaveNoFloats ss
+    (ss : List Segment) (k : ℕ) (t : Stretch) → AreAsMeasured breaking.WhereForced m by ss → HaveNoFloats ss
     → slice_get (stretches_of m c begins ss) k ≡ Some t → IsTrue t.forced
     → width_with breaking.WhereForced tab no_length [] by (drop (suc k) ss) ≤ℤ width_with breaking.WhereForced tab start line by ss
 left_after_break m by c begins tab start line [] k t are free is forced = absurd (let w = slice_get_within [] k t is in omega (arith, w))
 left_after_break m by c begins tab start line (s ∷ ss) zero t are free is forced =
-    let none = All-head (λ (s : Segment). All IsNoFloat s.items) s ss free in
+    let none = head_free s ss free in
+    let same = head_measured breaking.WhereForced m by s ss are in
     let ends : s.forced ≡ true = ap (λ (u : Stretch). u.forced) (same_Some _ t is) ∙ forced in
-    below_second _ _ _ _ (equal_below _ _ refl) (line_ends breaking.WhereForced tab start line by s ss (items_content breaking.WhereForced m by s.items are none) ends)
+    below_second _ _ _ _ (equal_below _ _ refl) (line_ends breaking.WhereForced tab start line by s ss (items_content breaking.WhereForced m by s.items same none) ends)
 left_after_break m by c begins tab start line (s ∷ ss) (suc k) t are free is forced = at s.forced refl
-    (λ from l. left_after_break m by c s.forced tab from l ss k t are (All-tail (λ (s : Segment). All IsNoFloat s.items) s ss free) is forced)
+    (λ from l. left_after_break m by c s.forced tab from l ss k t (tail_measured breaking.WhereForced m by s ss are) (tail_free s ss free) is forced)
   where
     content : AreContent (parts_of by s.items)
-    content = items_content breaking.WhereForced m by s.items are (All-head (λ (s : Segment). All IsNoFloat s.items) s ss free)
+    content = items_content breaking.WhereForced m by s.items (head_measured breaking.WhereForced m by s ss are) (head_free s ss free)
 
     at : (b : Bool) → s.forced ≡ b
         → ((from : Length) (l : List LinePart) → width_with breaking.WhereForced tab no_length [] by (drop (suc k) ss) ≤ℤ width_with breaking.WhereForced tab from l by ss)
@@ -207,21 +211,23 @@ left_after_break m by c begins tab start line (s ∷ ss) (suc k) t are free is f
 
 -- and where lines break wherever they may, that is behind each segment
 pub left_behind : (m : BoxMeasuresValue) (by : MeasureInValue) (tab : ℤ) (start : Length) (ss : List Segment) (k : ℕ)
-    → AreAsMeasured breaking.WhereAllowed m by → HaveNoFloats ss
+    → AreAsMeasured breaking.WhereAllowed m by ss → HaveNoFloats ss
     → width_with breaking.WhereAllowed tab no_length [] by (drop (suc k) ss) ≤ℤ width_with breaking.WhereAllowed tab start [] by ss
 left_behind m by tab start [] k are free = nothing_left breaking.WhereAllowed tab start [] by []
 left_behind m by tab start (s ∷ ss) zero are free =
-    let none = All-head (λ (s : Segment). All IsNoFloat s.items) s ss free in
+    let none = head_free s ss free in
+    let same = head_measured breaking.WhereAllowed m by s ss are in
     below_second _ _ _ _ (equal_below _ _ refl)
-    (line_ends breaking.WhereAllowed tab start [] by s ss (items_content breaking.WhereAllowed m by s.items are none) refl)
+    (line_ends breaking.WhereAllowed tab start [] by s ss (items_content breaking.WhereAllowed m by s.items same none) refl)
 left_behind m by tab start (s ∷ ss) (suc k) are free =
-    let none = All-head (λ (s : Segment). All IsNoFloat s.items) s ss free in
-    below_second _ _ _ _ (left_behind m by tab no_length ss k are (All-tail (λ (s : Segment). All IsNoFloat s.items) s ss free))
-    (line_ends breaking.WhereAllowed tab start [] by s ss (items_content breaking.WhereAllowed m by s.items are none) refl)
+    let none = head_free s ss free in
+    let same = head_measured breaking.WhereAllowed m by s ss are in
+    below_second _ _ _ _ (left_behind m by tab no_length ss k (tail_measured breaking.WhereAllowed m by s ss are) (tail_free s ss free))
+    (line_ends breaking.WhereAllowed tab start [] by s ss (items_content breaking.WhereAllowed m by s.items same none) refl)
 
 -- a segment alone on its line
 pub segment_alone : (m : BoxMeasuresValue) (by : MeasureInValue) (fr : Frame) (start : Length) (s : Segment) (ss : List Segment)
-    → AreAsMeasured breaking.WhereAllowed m by → All IsNoFloat s.items
+    → All (IsAsMeasured breaking.WhereAllowed m by) s.items → All IsNoFloat s.items
     → (over_line fr (blank start.0) (line_parts_of m s.items)).visible.0 ≤ℤ width_with breaking.WhereAllowed fr.tab.0 start [] by (s ∷ ss)
 segment_alone m by fr start s ss are free =
     let same = ap (λ (q : Pen). q.visible.0) (lines_come_as_far_lem breaking.WhereAllowed m by fr (blank start.0) s.items are) in

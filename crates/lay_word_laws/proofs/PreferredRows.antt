@@ -29,7 +29,7 @@ use Rattle.lay_measure.specs.declared.pen.Breaking.TheVariants as breaking
 use Rattle.lay_measure.specs.LineParts.{line_parts}
 use Rattle.lay_measure.specs.LineWidths.{first_start, indent_of, inline_widths, is_seen, lines_of, tab_of, widest}
 use Rattle.lay_measure.specs.MeasureInValue.{MeasureInValue}
-use Rattle.lay_word_laws.specs.LinesAlone.{AreAlone, AreAsMeasured, AreBesideNone, BreakWhereForced, HasToEnd, NoneIsNegative}
+use Rattle.lay_word_laws.specs.LinesAlone.{AreAlone, AreAsMeasured, AreBesideNone, BreakWhereForced, HasToEnd, IsNotNegative, NoneIsNegative}
 use Rattle.lay_word_laws.specs.PreferredLines.{MinimumWidthHoldsEachLine, PreferredWidthBreaksNothing}
 use Rattle.lay_word_laws.proofs.MeasuredContent.{width_with}
 use Rattle.lay_word_laws.proofs.RowsAlone.{StandsAlone, ends_where_forced, held, less_where_allowed, less_where_forced, stands_after, takes_something}
@@ -95,25 +95,25 @@ record Forced
   ended : AreEnded ss (map ended_of l.rows)
 
 forced_more : (m : BoxMeasuresValue) (by : MeasureInValue) (c : Container) (floats : List Placed) (width : ℤ) (strut : Extent) (left right : Length)
-    (ss : List Stretch) (a : Laid) (r : Row) → AreAsMeasured breaking.WhereForced m by → Forced m by c floats width strut left right ss a
+    (ss : List Stretch) (a : Laid) (r : Row) → Forced m by c floats width strut left right ss a
     → IsRow a.position r → IsAlone floats r.top (height_of strut)
     → Forced m by c floats width strut left right ss (record { rows = a.rows ++ r ∷ []; position = after_row a.position r })
-forced_more m by c floats width strut left right ss a r are so is alone =
+forced_more m by c floats width strut left right ss a r so is alone =
     let p = a.position in
     let n = r.reach.count in
     let stands = so.so_far.stands in
     let beside = beside_line floats r.top strut a.position so.so_far.strut_is alone in
-    let ends = ends_where_forced m by c floats width a.position r are so.more stands is.filled beside in
+    let ends = ends_where_forced m by c floats width a.position r so.more stands is.filled beside in
     let rows = sym (map-append ended_of a.rows (r ∷ [])) in
     record {
       so_far = record {
         stands = stands_after breaking.WhereForced m by c floats width a.position r stands is beside
-            (less_where_forced m by c floats width a.position r.reach.count are stands ends);
+            (less_where_forced m by c floats width a.position r.reach.count stands ends);
         strut_is = so.so_far.strut_is;
         left_is = so.so_far.left_is;
         right_is = so.so_far.right_is;
       };
-      more = All-drop _ r.reach.count a.position.rest so.more;
+      more = All-drop (λ (t : Stretch). All IsNotNegative t.parts) r.reach.count a.position.rest so.more;
       rest = ap (λ (es : List Ended). left_after ss es) (sym rows) ∙ left_more ss (map ended_of a.rows) (ended_of r)
           ∙ ap (λ (ts : List Stretch). drop r.reach.count ts) so.rest;
       ended = subst (λ (es : List Ended). AreEnded ss es) rows
@@ -122,14 +122,14 @@ forced_more m by c floats width strut left right ss a r are so is alone =
     }
 
 all_forced : (m : BoxMeasuresValue) (by : MeasureInValue) (c : Container) (floats : List Placed) (width : ℤ) (strut : Extent) (left right : Length)
-    (ss : List Stretch) (n : ℕ) (a b : Laid) → AreAsMeasured breaking.WhereForced m by → Forced m by c floats width strut left right ss a
+    (ss : List Stretch) (n : ℕ) (a b : Laid) → Forced m by c floats width strut left right ss a
     → RowsTo n a b → AllBeside floats strut (map ended_of b.rows) → Forced m by c floats width strut left right ss b
-all_forced m by c floats width strut left right ss zero a b are so e beside = subst (Forced m by c floats width strut left right ss) (sym e) so
-all_forced m by c floats width strut left right ss (suc n) a b are so (mid, before, step) beside =
+all_forced m by c floats width strut left right ss zero a b so e beside = subst (Forced m by c floats width strut left right ss) (sym e) so
+all_forced m by c floats width strut left right ss (suc n) a b so (mid, before, step) beside =
     let both = beside_more floats strut mid.rows step.row (subst (λ (l : Laid). AllBeside floats strut (map ended_of l.rows)) step.after beside) in
     subst (Forced m by c floats width strut left right ss) (sym step.after)
-    (forced_more m by c floats width strut left right ss mid step.row are
-    (all_forced m by c floats width strut left right ss n a mid are so before both.0) step.is both.1)
+    (forced_more m by c floats width strut left right ss mid step.row
+    (all_forced m by c floats width strut left right ss n a mid so before both.0) step.is both.1)
 
 -- lines that reach no further than the width
 record Allowed
@@ -139,20 +139,20 @@ record Allowed
   held_all : All (λ (e : Ended). e.reach.pen.visible.0 ≤ℤ (right.0 -ℤ left.0)) (map ended_of l.rows)
 
 allowed_more : (m : BoxMeasuresValue) (by : MeasureInValue) (c : Container) (floats : List Placed) (width : ℤ) (strut : Extent) (left right : Length)
-    (a : Laid) (r : Row) → AreAsMeasured breaking.WhereAllowed m by → Allowed m by c floats width strut left right a
+    (a : Laid) (r : Row) → Allowed m by c floats width strut left right a
     → IsRow a.position r → IsAlone floats r.top (height_of strut)
     → Allowed m by c floats width strut left right (record { rows = a.rows ++ r ∷ []; position = after_row a.position r })
-allowed_more m by c floats width strut left right a r are so is alone =
+allowed_more m by c floats width strut left right a r so is alone =
     let stands = so.so_far.stands in
     let beside = beside_line floats r.top strut a.position so.so_far.strut_is alone in
     let some = takes_something breaking.WhereAllowed m by c floats width a.position r stands is.filled beside in
-    let here = held m by c floats width a.position r are stands is.filled beside in
+    let here = held m by c floats width a.position r stands is.filled beside in
     let at_left = subst (λ (v : Length). r.reach.pen.visible.0 ≤ℤ (a.position.frame.right.0 -ℤ v.0)) so.so_far.left_is here in
     let at_right = subst (λ (v : Length). r.reach.pen.visible.0 ≤ℤ (v.0 -ℤ left.0)) so.so_far.right_is at_left in
     record {
       so_far = record {
         stands = stands_after breaking.WhereAllowed m by c floats width a.position r stands is beside
-            (less_where_allowed m by c floats width a.position r.reach.count some are stands);
+            (less_where_allowed m by c floats width a.position r.reach.count some stands);
         strut_is = so.so_far.strut_is;
         left_is = so.so_far.left_is;
         right_is = so.so_far.right_is;
@@ -163,17 +163,17 @@ allowed_more m by c floats width strut left right a r are so is alone =
     }
 
 all_allowed : (m : BoxMeasuresValue) (by : MeasureInValue) (c : Container) (floats : List Placed) (width : ℤ) (strut : Extent) (left right : Length)
-    (n : ℕ) (a b : Laid) → AreAsMeasured breaking.WhereAllowed m by → Allowed m by c floats width strut left right a
+    (n : ℕ) (a b : Laid) → Allowed m by c floats width strut left right a
     → RowsTo n a b → AllBeside floats strut (map ended_of b.rows) → Allowed m by c floats width strut left right b
-all_allowed m by c floats width strut left right zero a b are so e beside = subst (Allowed m by c floats width strut left right) (sym e) so
-all_allowed m by c floats width strut left right (suc n) a b are so (mid, before, step) beside =
+all_allowed m by c floats width strut left right zero a b so e beside = subst (Allowed m by c floats width strut left right) (sym e) so
+all_allowed m by c floats width strut left right (suc n) a b so (mid, before, step) beside =
     let both = beside_more floats strut mid.rows step.row (subst (λ (l : Laid). AllBeside floats strut (map ended_of l.rows)) step.after beside) in
     subst (Allowed m by c floats width strut left right) (sym step.after)
-    (allowed_more m by c floats width strut left right mid step.row are
-    (all_allowed m by c floats width strut left right n a mid are so before both.0) step.is both.1)
+    (allowed_more m by c floats width strut left right mid step.row
+    (all_allowed m by c floats width strut left right n a mid so before both.0) step.is both.1)
 
 -- where the first line begins, in lines and for preferred widths
-same_start : (how : Breaking) (m : BoxMeasuresValue) (by : MeasureInValue) (c : Container) (b : BoxNode) (segments : List Segment) → AreAsMeasured how m by
+same_start : (how : Breaking) (m : BoxMeasuresValue) (by : MeasureInValue) (c : Container) (b : BoxNode) (segments : List Segment) → AreAsMeasured how m by segments
     → (indent_of b.style.text.text_indent).0 ≡ pos 0 ⊎ IsTrue (has_seen_line (take 1 (content_in m c segments).stretches))
     → first_start b.style.text (line_parts by segments) ≡ indent_of b.style.text.text_indent
 same_start how m by c b segments are (inl none) = either (list_any is_seen (line_parts by segments))
@@ -215,6 +215,7 @@ first_stands how m by c b segments left right top floats v width alone same less
     segments = segments;
     rest = refl;
     no_floats = alone.no_floats;
+    widths = alone.widths;
     wide = no_wider _ _ (same_width how m by c b segments left right top floats v alone ∙ same);
     shown = at alone.seen;
     room = less;
@@ -246,7 +247,7 @@ preferred_width_lem m by c b segments left right top floats v alone more less =
     let start : Forced m by c floats (inline_widths by b.style.text segments).preferred.0 (content_in m c segments).strut left right (stretches_of m c true segments)
         (record { rows = []; position = first_position (content_in m c segments) left right top floats }) =
     record { so_far = first_stands breaking.WhereForced m by c b segments left right top floats v width alone refl less; more = more; rest = refl; ended = tt } in
-    let end = all_forced m by c floats width content.strut left right ss lines.are.count _ lines.laid alone.widths start lines.are.rows
+    let end = all_forced m by c floats width content.strut left right ss lines.are.count _ lines.laid start lines.are.rows
     (beside_rows floats content.strut lines.laid.rows v.rows lines.rows alone.beside) in
     subst (λ (es : List Ended). BreakWhereForced (stretches_of m c true segments) es) lines.rows
     (all_ended (stretches_of m c true segments) (map ended_of lines.laid.rows) end.ended (end.rest ∙ lines.are.all))
@@ -262,6 +263,6 @@ minimum_width_lem m by c b segments left right top floats v alone less =
       so_far = first_stands breaking.WhereAllowed m by c b segments left right top floats v width alone refl less;
       held_all = All-nil (λ (e : Ended). e.reach.pen.visible.0 ≤ℤ (right.0 -ℤ left.0));
     } in
-    let end = all_allowed m by c floats width content.strut left right lines.are.count _ lines.laid alone.widths start lines.are.rows
+    let end = all_allowed m by c floats width content.strut left right lines.are.count _ lines.laid start lines.are.rows
     (beside_rows floats content.strut lines.laid.rows v.rows lines.rows alone.beside) in
     subst (λ (es : List Ended). All (λ (e : Ended). e.reach.pen.visible.0 ≤ℤ (right.0 -ℤ left.0)) es) lines.rows end.held_all

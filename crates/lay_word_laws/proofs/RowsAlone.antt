@@ -2,7 +2,7 @@
 use Rattle.std.proofs.Common.{◌≡◌, ◌⊎◌, inl, inr, ℕ, zero, suc, ◌+◌, ◌<◌, ◌≤◌, ℤ, pos, ◌+ℤ◌, ◌-ℤ◌, ◌≤ℤ◌, Bool, true, false, ◌||◌, if◌then◌else◌, List, [], ◌∷◌, All, length, take, drop, slice_get, Some, IsTrue, IsFalse, refl, sym, ap, subst, ◌∙◌, arith}
 use Rattle.std.proofs.lemmas.Bool.{cases_lt}
 use Rattle.std.proofs.lemmas.Int.{ints}
-use Rattle.std.proofs.lemmas.List.Elements.{All-drop, All-head}
+use Rattle.std.proofs.lemmas.List.Elements.{All-drop}
 use Rattle.std.proofs.lemmas.Option.{same_Some, slice_get_within}
 use Rattle.lay_units.specs.declared.length.Unit.{Unit as Length}
 use Rattle.lay_units.specs.Lengths.{no_length}
@@ -29,9 +29,9 @@ use Rattle.lay_content.proofs.SeenPens.{pen_seen}
 use Rattle.lay_measure.specs.declared.pen.Breaking.{Breaking}
 use Rattle.lay_measure.specs.declared.pen.Breaking.TheVariants as breaking
 use Rattle.lay_measure.specs.MeasureInValue.{MeasureInValue}
-use Rattle.lay_word_laws.specs.LinesAlone.{AreAsMeasured, HasToEnd, HaveNoFloats, IsNoFloat, NoneIsNegative}
+use Rattle.lay_word_laws.specs.LinesAlone.{AreAsMeasured, HasToEnd, HaveNoFloats, IsAsMeasured, IsNoFloat, NoneIsNegative}
 use Rattle.lay_word_laws.proofs.LinesWithoutFloats.{HaveNone, fills_none, meets_none, none_in, whole_room}
-use Rattle.lay_word_laws.proofs.MeasuredContent.{width_with}
+use Rattle.lay_word_laws.proofs.MeasuredContent.{head_free, head_measured, width_with}
 use Rattle.lay_word_laws.proofs.MeasuredWidths.{IsUnbroken, fresh_line, left_after_break, left_behind, no_more, nothing_left, pen_from, pen_is_from, segment_alone, shown_within}
 use Rattle.lay_word_laws.proofs.SeenContent.{more_seen}
 
@@ -42,6 +42,7 @@ pub record StandsAlone
   pub segments : List Segment
   pub rest : p.rest ≡ stretches_of m c begins segments
   pub no_floats : HaveNoFloats segments
+  pub widths : AreAsMeasured how m by segments
   pub wide : width_with how p.frame.tab.0 p.frame.indent [] by segments ≤ℤ width
   pub shown : p.frame.indent.0 ≡ pos 0 ⊎ IsTrue (has_seen_line (take 1 p.rest))
   pub room : width ≤ℤ (p.frame.right.0 -ℤ p.frame.left.0)
@@ -93,7 +94,7 @@ unbroken m c begins (s ∷ us) (suc (suc k)) h =
 
 -- Content that nothing has to break comes no further than the preferred width.
 unbroken_within : (m : BoxMeasuresValue) (by : MeasureInValue) (c : Container) (fr : Frame) (begins : Bool) (us : List Segment) (ss : List Stretch) (n : ℕ)
-    → ss ≡ stretches_of m c begins us → AreAsMeasured breaking.WhereForced m by → HaveNoFloats us → NoneIsNegative ss
+    → ss ≡ stretches_of m c begins us → AreAsMeasured breaking.WhereForced m by us → HaveNoFloats us → NoneIsNegative ss
     → ((j : ℕ) (s : Stretch) → suc j < n → slice_get ss j ≡ Some s → IsFalse s.forced)
     → (pen_to fr fr.left.0 ss n).visible.0 ≤ℤ width_with breaking.WhereForced fr.tab.0 fr.indent [] by us
 unbroken_within m by c fr begins us ss n e are free more whole =
@@ -128,25 +129,25 @@ has_to_end fr y ss st now (suc k) takes fills some fit = elim (cases_lt (suc k) 
         absurd (takes.most (suc k + 1) (omega arith) can (all_fit fr y ss st now (suc k) takes.fits fills (inl (fit (suc (suc k)) (unforced s is e)))))
 
 pub ends_where_forced : (m : BoxMeasuresValue) (by : MeasureInValue) (c : Container) (floats : List Placed) (width : ℤ) (p : Position) (r : Row)
-    → AreAsMeasured breaking.WhereForced m by → NoneIsNegative p.rest → StandsAlone breaking.WhereForced m by c floats width p → IsFilled p r
+    → NoneIsNegative p.rest → StandsAlone breaking.WhereForced m by c floats width p → IsFilled p r
     → IsAlone floats r.top (strut_height p.frame) → HasToEnd p.rest r.reach.count
-ends_where_forced m by c floats width p r are more stands is beside =
+ends_where_forced m by c floats width p r more stands is beside =
     let row = row_alone breaking.WhereForced m by c floats width p r stands is beside in
     let room = subst (λ (st : State). IsLineRoom p.frame r.top st.floats p.frame.left.0 p.frame.right.0) (sym row.filled) row.whole in
     has_to_end p.frame r.top p.rest r.headed r.filled r.reach.count is.count_is is.filled_is row.some
     (λ k whole. (p.frame.left.0, p.frame.right.0, room,
-        no_more _ _ _ (unbroken_within m by c p.frame stands.begins stands.segments p.rest k stands.rest are stands.no_floats more whole)
+        no_more _ _ _ (unbroken_within m by c p.frame stands.begins stands.segments p.rest k stands.rest stands.widths stands.no_floats more whole)
         (no_more _ _ _ stands.wide stands.room)))
 
 -- The first segment of a line comes no further than the preferred minimum width.
 first_within : (m : BoxMeasuresValue) (by : MeasureInValue) (c : Container) (fr : Frame) (begins : Bool) (us : List Segment)
-    → AreAsMeasured breaking.WhereAllowed m by → HaveNoFloats us → 0 < length (stretches_of m c begins us)
+    → AreAsMeasured breaking.WhereAllowed m by us → HaveNoFloats us → 0 < length (stretches_of m c begins us)
     → (pen_to fr fr.left.0 (stretches_of m c begins us) 1).visible.0 ≤ℤ width_with breaking.WhereAllowed fr.tab.0 fr.indent [] by us
 first_within m by c fr begins [] are free some = absurd (omega (arith, some))
 first_within m by c fr begins (s ∷ us) are free some =
     subst (λ (q : LinePen). q.visible.0 ≤ℤ width_with breaking.WhereAllowed fr.tab.0 fr.indent [] by (s ∷ us))
     (sym (pen_in_room fr (stretches_of m c begins (s ∷ us)) 1))
-    (segment_alone m by fr fr.indent s us are (All-head (λ (s : Segment). All IsNoFloat s.items) s us free))
+    (segment_alone m by fr fr.indent s us (head_measured breaking.WhereAllowed m by s us are) (head_free s us free))
 
 -- what fits its room, where that is whole
 fits_whole : (fr : Frame) (y : ℤ) (ss : List Stretch) (k : ℕ) (floats : List Placed) → IsLineRoom fr y floats fr.left.0 fr.right.0 → HasFit fr y ss k floats
@@ -175,9 +176,9 @@ taken_fits fr y ss floats n (suc (suc k)) room first fits some le =
         no_more _ _ _ (subst (λ (a : ℤ). (pen_to fr a ss (suc (suc k))).visible.0 ≤ℤ (pen_to fr a ss (suc k)).visible.0) same.0 none.3) before
 
 pub held : (m : BoxMeasuresValue) (by : MeasureInValue) (c : Container) (floats : List Placed) (width : ℤ) (p : Position) (r : Row)
-    → AreAsMeasured breaking.WhereAllowed m by → StandsAlone breaking.WhereAllowed m by c floats width p → IsFilled p r
+    → StandsAlone breaking.WhereAllowed m by c floats width p → IsFilled p r
     → IsAlone floats r.top (strut_height p.frame) → r.reach.pen.visible.0 ≤ℤ (p.frame.right.0 -ℤ p.frame.left.0)
-held m by c floats width p r are stands is beside =
+held m by c floats width p r stands is beside =
     let row = row_alone breaking.WhereAllowed m by c floats width p r stands is beside in
     let fr = p.frame in
     let n = r.reach.count in
@@ -185,7 +186,7 @@ held m by c floats width p r are stands is beside =
     let first : (pen_to p.frame p.frame.left.0 p.rest 1).visible.0 ≤ℤ width_with breaking.WhereAllowed p.frame.tab.0 p.frame.indent [] by stands.segments =
     subst (λ (ts : List Stretch). (pen_to p.frame p.frame.left.0 ts 1).visible.0 ≤ℤ width_with breaking.WhereAllowed p.frame.tab.0 p.frame.indent [] by stands.segments)
     (sym stands.rest)
-    (first_within m by c p.frame stands.begins stands.segments are stands.no_floats (subst (λ (ts : List Stretch). 0 < length ts) stands.rest some)) in
+    (first_within m by c p.frame stands.begins stands.segments stands.widths stands.no_floats (subst (λ (ts : List Stretch). 0 < length ts) stands.rest some)) in
     let fits : (j : ℕ) → j < n → FitsNext p.frame r.top p.rest j p.state.floats =
     (λ j less.
         (let there = is.count_is.fits.each j less in
@@ -233,6 +234,7 @@ stands_after how m by c floats width p r stands is beside less =
       segments = drop r.reach.count stands.segments;
       rest = ap (λ (ts : List Stretch). drop r.reach.count ts) stands.rest ∙ left.1;
       no_floats = All-drop (λ (s : Segment). All IsNoFloat s.items) r.reach.count stands.segments stands.no_floats;
+      widths = All-drop (λ (s : Segment). All (IsAsMeasured how m by) s.items) r.reach.count stands.segments stands.widths;
       wide = subst (λ (v : ℤ). width_with how p.frame.tab.0 (record { 0 = v }) [] by (drop r.reach.count stands.segments) ≤ℤ width) (sym none)
           (no_more _ _ _ less stands.wide);
       shown = inl none;
@@ -243,10 +245,10 @@ stands_after how m by c floats width p r stands is beside less =
 
 -- what is left is no wider, where a line ends where it has to, and where lines break wherever they may
 pub less_where_forced : (m : BoxMeasuresValue) (by : MeasureInValue) (c : Container) (floats : List Placed) (width : ℤ) (p : Position) (n : ℕ)
-    → AreAsMeasured breaking.WhereForced m by → (stands : StandsAlone breaking.WhereForced m by c floats width p) → HasToEnd p.rest n
+    → (stands : StandsAlone breaking.WhereForced m by c floats width p) → HasToEnd p.rest n
     → width_with breaking.WhereForced p.frame.tab.0 no_length [] by (drop n stands.segments)
     ≤ℤ width_with breaking.WhereForced p.frame.tab.0 p.frame.indent [] by stands.segments
-less_where_forced m by c floats width p n are stands (inl e) =
+less_where_forced m by c floats width p n stands (inl e) =
     subst (λ (us : List Segment). width_with breaking.WhereForced p.frame.tab.0 no_length [] by us ≤ℤ width_with breaking.WhereForced p.frame.tab.0 p.frame.indent [] by stands.segments)
     (sym (nothing_more m c stands.begins stands.segments n (e ∙ ap (λ (ts : List Stretch). length ts) stands.rest)))
     (nothing_left breaking.WhereForced p.frame.tab.0 p.frame.indent [] by stands.segments)
@@ -256,18 +258,18 @@ less_where_forced m by c floats width p n are stands (inl e) =
     nothing_more m c begins [] (suc n) e = refl
     nothing_more m c begins (s ∷ us) zero e = absurd (omega (arith, e))
     nothing_more m c begins (s ∷ us) (suc n) e = nothing_more m c s.forced us n (omega (arith, e))
-less_where_forced m by c floats width p n are stands (inr w) =
+less_where_forced m by c floats width p n stands (inr w) =
     subst (λ (j : ℕ). width_with breaking.WhereForced p.frame.tab.0 no_length [] by (drop j stands.segments) ≤ℤ width_with breaking.WhereForced p.frame.tab.0 p.frame.indent [] by stands.segments)
     (sym w.2)
-    (left_after_break m by c stands.begins p.frame.tab.0 p.frame.indent [] stands.segments w.0 w.1 are stands.no_floats
+    (left_after_break m by c stands.begins p.frame.tab.0 p.frame.indent [] stands.segments w.0 w.1 stands.widths stands.no_floats
     (ap (λ (ts : List Stretch). slice_get ts w.0) (sym stands.rest) ∙ w.3) w.4)
 
 pub less_where_allowed : (m : BoxMeasuresValue) (by : MeasureInValue) (c : Container) (floats : List Placed) (width : ℤ) (p : Position) (n : ℕ) → 0 < n
-    → AreAsMeasured breaking.WhereAllowed m by → (stands : StandsAlone breaking.WhereAllowed m by c floats width p)
+    → (stands : StandsAlone breaking.WhereAllowed m by c floats width p)
     → width_with breaking.WhereAllowed p.frame.tab.0 no_length [] by (drop n stands.segments)
     ≤ℤ width_with breaking.WhereAllowed p.frame.tab.0 p.frame.indent [] by stands.segments
-less_where_allowed m by c floats width p zero some are stands = absurd (omega (arith, some))
-less_where_allowed m by c floats width p (suc k) some are stands = left_behind m by p.frame.tab.0 p.frame.indent stands.segments k are stands.no_floats
+less_where_allowed m by c floats width p zero some stands = absurd (omega (arith, some))
+less_where_allowed m by c floats width p (suc k) some stands = left_behind m by p.frame.tab.0 p.frame.indent stands.segments k stands.widths stands.no_floats
 
 pub takes_something : (how : Breaking) (m : BoxMeasuresValue) (by : MeasureInValue) (c : Container) (floats : List Placed) (width : ℤ) (p : Position) (r : Row)
     → StandsAlone how m by c floats width p → IsFilled p r → IsAlone floats r.top (strut_height p.frame) → 0 < r.reach.count

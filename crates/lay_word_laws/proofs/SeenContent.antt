@@ -1,7 +1,8 @@
 -- Content that is seen in lines is seen where preferred widths are worked out.
-use Rattle.std.proofs.Common.{◌≡◌, ℕ, zero, suc, ◌+◌, ◌<◌, ◌==◌, pos, Bool, true, false, ◌||◌, if◌then◌else◌, List, [], ◌∷◌, ◌++◌, take, IsTrue, refl, sym, ap, subst, ◌∙◌, arith}
+use Rattle.std.proofs.Common.{◌≡◌, ℕ, zero, suc, ◌+◌, ◌<◌, ◌==◌, pos, Bool, true, false, ◌||◌, if◌then◌else◌, List, [], ◌∷◌, ◌++◌, All, take, IsTrue, refl, sym, ap, subst, ◌∙◌, arith}
 use Rattle.std.specs.List.{list_any, slice_get}
 use Rattle.std.proofs.lemmas.List.Folds.{list_any-append}
+use Rattle.std.proofs.lemmas.List.Elements.{All-head, All-tail}
 use Rattle.lay_units.specs.declared.length.Unit.{Unit as Length}
 use Rattle.lay_units.specs.declared.records.ClusterWidth.{ClusterWidth}
 use Rattle.lay_space.specs.declared.item.Item.{Item}
@@ -28,7 +29,7 @@ use Rattle.lay_measure.specs.declared.pen.Breaking.{Breaking}
 use Rattle.lay_measure.specs.LineParts.{cluster_part, line_parts, parts_at, parts_of, text_parts}
 use Rattle.lay_measure.specs.LineWidths.{is_seen}
 use Rattle.lay_measure.specs.MeasureInValue.{MeasureInValue}
-use Rattle.lay_word_laws.specs.LinesAlone.{AreAsMeasured}
+use Rattle.lay_word_laws.specs.LinesAlone.{AreAsMeasured, IsAsMeasured}
 
 either_of : (a b c d : Bool) → (a ≡ true → c ≡ true) → (b ≡ true → d ≡ true) → (a || b) ≡ true → (c || d) ≡ true
 either_of true b c d f g h = or_left c d (f refl)
@@ -74,28 +75,28 @@ text_seen node m text (w ∷ ws) h =
 edge_seen : (x : LinePart) (w : Length) (b seen : Bool) → x ≡ part.Edge w b → (IsTrue seen → IsTrue b) → (seen || false) ≡ true → list_any is_seen (x ∷ []) ≡ true
 edge_seen x w b seen e means h = ap (λ (y : LinePart). list_any is_seen (y ∷ [])) e ∙ or_left b false (means (sym (or_false seen) ∙ h))
 
-item_seen : (how : Breaking) (m : BoxMeasuresValue) (by : MeasureInValue) (x : Item) → AreAsMeasured how m by
+item_seen : (how : Breaking) (m : BoxMeasuresValue) (by : MeasureInValue) (x : Item) → IsAsMeasured how m by x
     → list_any is_seen_part (line_parts_at m x) ≡ true → list_any is_seen (parts_at by x) ≡ true
 item_seen how m by (item.Text k text mode widths) are h = text_seen k mode text widths h
-item_seen how m by (item.Start k takes) are h = let edge = are.starts k in edge_seen _ _ edge.0 _ edge.1 edge.2 h
-item_seen how m by (item.End k) are h = let edge = are.ends k in edge_seen _ _ edge.0 _ edge.1 edge.2 h
+item_seen how m by (item.Start k takes) are h = edge_seen _ _ are.0 _ are.1 are.2 h
+item_seen how m by (item.End k) are h = edge_seen _ _ are.0 _ are.1 are.2 h
 item_seen how m by (item.Atomic k mode) are h = refl
 item_seen how m by (item.Float k) are h = absurd cc
 item_seen how m by (item.Anchor k) are h = absurd cc
 
-items_seen : (how : Breaking) (m : BoxMeasuresValue) (by : MeasureInValue) (xs : List Item) → AreAsMeasured how m by
+items_seen : (how : Breaking) (m : BoxMeasuresValue) (by : MeasureInValue) (xs : List Item) → All (IsAsMeasured how m by) xs
     → list_any is_seen_part (line_parts_of m xs) ≡ true → list_any is_seen (parts_of by xs) ≡ true
 items_seen how m by [] are h = h
 items_seen how m by (x ∷ xs) are h =
     any_of_both is_seen_part is_seen (line_parts_at m x) (line_parts_of m xs) (parts_at by x) (parts_of by xs)
-    (item_seen how m by x are) (items_seen how m by xs are) h
+    (item_seen how m by x (All-head (IsAsMeasured how m by) x xs are)) (items_seen how m by xs (All-tail (IsAsMeasured how m by) x xs are)) h
 
 -- content whose first segment is seen
-pub first_seen : (how : Breaking) (m : BoxMeasuresValue) (by : MeasureInValue) (c : Container) (begins : Bool) (ss : List Segment) → AreAsMeasured how m by
+pub first_seen : (how : Breaking) (m : BoxMeasuresValue) (by : MeasureInValue) (c : Container) (begins : Bool) (ss : List Segment) → AreAsMeasured how m by ss
     → has_seen_line (take 1 (stretches_of m c begins ss)) ≡ true → list_any is_seen (line_parts by ss) ≡ true
 first_seen how m by c begins [] are h = absurd cc
 first_seen how m by c begins (s ∷ ss) are h =
-    let here = items_seen how m by s.items are (sym (or_false (list_any is_seen_part (line_parts_of m s.items))) ∙ h) in
+    let here = items_seen how m by s.items (All-head (λ (t : Segment). All (IsAsMeasured how m by) t.items) s ss are) (sym (or_false (list_any is_seen_part (line_parts_of m s.items))) ∙ h) in
     list_any-append is_seen (parts_of by s.items) (part.Break s.forced ∷ line_parts by ss)
     ∙ or_left (list_any is_seen (parts_of by s.items)) (list_any is_seen (part.Break s.forced ∷ line_parts by ss)) here
 

@@ -30,19 +30,26 @@ use Rattle.lay_measure.specs.LineWidths.{indent_of, width_for}
 use Rattle.lay_measure.specs.MeasureInValue.{MeasureInValue}
 
 -- what preferred widths keep of a line's pen
-abbrev pub measured : LinePen → Pen
-measured p = record { at = p.at; visible = p.visible; started = p.started }
+abbrev pub measuring_pen : LinePen → Pen
+measuring_pen p = record { at = p.at; visible = p.visible; started = p.started }
 
 -- edges of this width, which make their line seen where they do so in lines
 abbrev pub AreEdges : LinePart → Length → Bool → Type 0
 AreEdges x width seen = (b : Bool) × (x ≡ part.Edge width b) × (IsTrue seen → IsTrue b)
 
--- The inline boxes of lines have the edges that preferred widths count, as they have where no margin and no padding is a
--- percentage. And each atomic box takes its preferred width, or its preferred minimum width, as preferred widths count it.
-pub record AreAsMeasured (how : Breaking) (m : BoxMeasuresValue) (by : MeasureInValue) : Type 0 where
-  pub starts : (k : ℕ) → AreEdges (start_in by k (slice_get by.boxes k)) (start_at m k).width (start_at m k).seen
-  pub ends : (k : ℕ) → AreEdges (end_in by k (slice_get by.boxes k)) (end_at m k).width (end_at m k).seen
-  pub atomics : (k : ℕ) → width_for how (contribution_at by k) ≡ (atomic_at m k).width
+-- An inline box of lines has the edges that preferred widths count, as it has where none of its margins and paddings is a
+-- percentage (law `inline_edges_are_as_measured`). And an atomic box takes its preferred width, or its preferred minimum width, as
+-- preferred widths count it.
+abbrev pub IsAsMeasured : Breaking → BoxMeasuresValue → MeasureInValue → Item → Type 0
+IsAsMeasured how m by (item.Text k text mode widths) = ⊤
+IsAsMeasured how m by (item.Start k takes) = AreEdges (start_in by k (slice_get by.boxes k)) (start_at m k).width (start_at m k).seen
+IsAsMeasured how m by (item.End k) = AreEdges (end_in by k (slice_get by.boxes k)) (end_at m k).width (end_at m k).seen
+IsAsMeasured how m by (item.Atomic k mode) = width_for how (contribution_at by k) ≡ (atomic_at m k).width
+IsAsMeasured how m by (item.Float k) = ⊤
+IsAsMeasured how m by (item.Anchor k) = ⊤
+
+abbrev pub AreAsMeasured : Breaking → BoxMeasuresValue → MeasureInValue → List Segment → Type 0
+AreAsMeasured how m by segments = All (λ (s : Segment). All (IsAsMeasured how m by) s.items) segments
 
 abbrev pub IsNoFloat : Item → Type 0
 IsNoFloat (item.Text k text mode widths) = ⊤
@@ -81,7 +88,7 @@ pub record AreAlone
     (top : ℤ) (floats : List Placed) (v : LinesValue) : Type 0 where
   pub box : slice_get m.boxes c.place ≡ Some b
   pub face : m.face ≡ by.face
-  pub widths : AreAsMeasured how m by
+  pub widths : AreAsMeasured how m by segments
   pub indent : used_indent c.containing b.style.text.text_indent ≡ indent_of b.style.text.text_indent
   pub seen : (indent_of b.style.text.text_indent).0 ≡ pos 0 ⊎ IsTrue (has_seen_line (take 1 (content_in m c segments).stretches))
   pub no_floats : HaveNoFloats segments

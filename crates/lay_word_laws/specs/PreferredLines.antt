@@ -27,14 +27,14 @@ use Rattle.lay_measure.specs.declared.pen.Breaking.TheVariants as breaking
 use Rattle.lay_measure.specs.LineParts.{parts_of}
 use Rattle.lay_measure.specs.LineWidths.{inline_widths, over_all}
 use Rattle.lay_measure.specs.MeasureInValue.{MeasureInValue}
-use Rattle.lay_word_laws.specs.LinesAlone.{AreAlone, AreAsMeasured, BreakWhereForced, NoneIsNegative, measured}
+use Rattle.lay_word_laws.specs.LinesAlone.{AreAlone, BreakWhereForced, IsAsMeasured, NoneIsNegative, measuring_pen}
 
 -- The pen of a line comes as far as the one by which preferred widths are worked out, from wherever it begins: by the same
 -- advances and the same tab stops, and with the same spaces at the end not counted.
 abbrev pub LinesComeAsFarAsMeasured : Type 0
 LinesComeAsFarAsMeasured =
-    (how : Breaking) (m : BoxMeasuresValue) (by : MeasureInValue) (fr : Frame) (p : LinePen) (items : List Item) → AreAsMeasured how m by
-    → over_all how fr.tab.0 (measured p) (parts_of by items) ≡ measured (over_line fr p (line_parts_of m items))
+    (how : Breaking) (m : BoxMeasuresValue) (by : MeasureInValue) (fr : Frame) (p : LinePen) (items : List Item) → All (IsAsMeasured how m by) items
+    → over_all how fr.tab.0 (measuring_pen p) (parts_of by items) ≡ measuring_pen (over_line fr p (line_parts_of m items))
 
 -- In a width that is no less than the preferred one lines break only where they have to.
 abbrev pub PreferredWidthBreaksNothing : Type 0
