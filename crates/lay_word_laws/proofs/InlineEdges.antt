@@ -94,7 +94,7 @@ two_seen_behind a b c m e p q h = two_seen a b c m e p q (turned (is_nonzero e) 
         at false h = h
 
 four_seen : (m e f n a b c d g h : Bool) → (m ≡ true → a ≡ true) → (e ≡ true → (b || c) ≡ true) → (f ≡ true → (g || h) ≡ true) → (n ≡ true → d ≡ true)
-    → (m || e || f || n) ≡ true → (a || b || c || d || g || h) ≡ true
+    → (m || e || f || n) ≡ true → ((a || b || c) || (d || g || h)) ≡ true
 four_seen m e f n true b c d g h p q r s w = refl
 four_seen true e f n false b c d g h p q r s w = absurd (let u = p refl in cc u)
 four_seen false e f n false true c d g h p q r s w = refl
