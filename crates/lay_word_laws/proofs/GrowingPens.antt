@@ -1,5 +1,6 @@
 -- Where nothing has a negative width, more content reaches no less far.
-use Rattle.std.proofs.Common.{◌≡◌, ℕ, zero, suc, ◌+◌, ◌*◌, ◌/◌, ◌<◌, ◌≤◌, ℤ, pos, negsuc, ◌+ℤ◌, ◌*ℤ◌, ◌≤ℤ◌, Bool, true, false, if◌then◌else◌, List, [], ◌∷◌, All, arith}
+use Rattle.std.proofs.Common.{◌≡◌, ℕ, zero, suc, ◌+◌, ◌*◌, ◌/◌, ◌≤◌, ℤ, pos, negsuc, ◌+ℤ◌, ◌*ℤ◌}
+use Rattle.std.proofs.Common.{◌≤ℤ◌, Bool, true, false, if◌then◌else◌, List, [], ◌∷◌, All, arith}
 use Rattle.std.proofs.Math.Nat.{lt-div-mul-add, div-mul-le_self, suc-mul}
 use Rattle.std.proofs.Math.IntN.{*ℤ-zero, pos-*ℤ-pos, negsuc-*ℤ-pos}
 use Rattle.std.proofs.lemmas.Int.{ints}
@@ -67,16 +68,29 @@ after_space p w = record { at = record { 0 = p.at.0 +ℤ w }; visible = p.visibl
 
 part_grows : (fr : Frame) (p : LinePen) (x : Part) → IsNotNegative x → p.visible.0 ≤ℤ p.at.0 → Grows p (over fr p x)
 part_grows fr p (line.Space w) more h =
-    grows_either p.started p (after_space p w.width.0) p (record { visible = not_more p.visible.0; order = grows_by p.visible.0 p.at.0 w.width.0 more h })
+    grows_either p.started p (after_space p w.width.0) p
+    (record { visible = not_more p.visible.0; order = grows_by p.visible.0 p.at.0 w.width.0 more h })
     (record { visible = not_more p.visible.0; order = h })
-part_grows fr p (line.PreservedSpace w) more h = record { visible = not_more p.visible.0; order = grows_by p.visible.0 p.at.0 w.width.0 more h }
+part_grows fr p (line.PreservedSpace w) more h = record {
+  visible = not_more p.visible.0;
+  order = grows_by p.visible.0 p.at.0 w.width.0 more h;
+}
 part_grows fr p (line.Tab t) more h =
-    record { visible = no_further p.visible.0 p.at.0 (next_stop fr.tab.0 p.at.0) h (stop_further fr.tab.0 p.at.0); order = not_more (next_stop fr.tab.0 p.at.0) }
+    record {
+      visible = no_further p.visible.0 p.at.0 (next_stop fr.tab.0 p.at.0) h (stop_further fr.tab.0 p.at.0);
+      order = not_more (next_stop fr.tab.0 p.at.0);
+    }
 part_grows fr p line.Linefeed more h = record { visible = not_more p.visible.0; order = h }
 part_grows fr p (line.Text w) more h =
     record { visible = grows_by p.visible.0 p.at.0 w.width.0 more h; order = not_more (p.at.0 +ℤ w.width.0) }
-part_grows fr p (line.Start b) more h = record { visible = grows_self p.visible.0 b.width.0 more; order = same_order p.visible.0 p.at.0 b.width.0 h }
-part_grows fr p (line.End b) more h = record { visible = grows_self p.visible.0 b.width.0 more; order = same_order p.visible.0 p.at.0 b.width.0 h }
+part_grows fr p (line.Start b) more h = record {
+  visible = grows_self p.visible.0 b.width.0 more;
+  order = same_order p.visible.0 p.at.0 b.width.0 h;
+}
+part_grows fr p (line.End b) more h = record {
+  visible = grows_self p.visible.0 b.width.0 more;
+  order = same_order p.visible.0 p.at.0 b.width.0 h;
+}
 part_grows fr p (line.Atomic a) more h =
     record { visible = grows_by p.visible.0 p.at.0 a.width.0 more h; order = not_more (p.at.0 +ℤ a.width.0) }
 
@@ -85,4 +99,7 @@ parts_grow fr p [] more h = record { visible = not_more p.visible.0; order = h }
 parts_grow fr p (x ∷ xs) more h =
     let first = part_grows fr p x (All-head IsNotNegative x xs more) h in
     let rest = parts_grow fr (over fr p x) xs (All-tail IsNotNegative x xs more) first.order in
-    record { visible = no_further p.visible.0 (over fr p x).visible.0 (over_all fr (over fr p x) xs).visible.0 first.visible rest.visible; order = rest.order }
+    record {
+      visible = no_further p.visible.0 (over fr p x).visible.0 (over_all fr (over fr p x) xs).visible.0 first.visible rest.visible;
+      order = rest.order;
+    }

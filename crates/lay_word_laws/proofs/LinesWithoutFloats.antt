@@ -1,5 +1,6 @@
 -- Lines without floats in them or beside them.
-use Rattle.std.proofs.Common.{◌≡◌, ◌⊎◌, inl, inr, ℕ, zero, suc, ◌+◌, ◌<◌, ◌≤◌, ℤ, pos, ◌+ℤ◌, ◌-ℤ◌, ◌≤ℤ◌, Bool, true, false, ◌&&◌, not, if◌then◌else◌, List, [], ◌∷◌, ◌++◌, All, length, slice_get, Some, refl, sym, ap, subst, ◌∙◌, arith}
+use Rattle.std.proofs.Common.{◌≡◌, inl, inr, ℕ, zero, suc, ◌+◌, ◌≤◌, ℤ, ◌≤ℤ◌, Bool, true, false, ◌&&◌, not}
+use Rattle.std.proofs.Common.{if◌then◌else◌, List, [], ◌∷◌, ◌++◌, All, slice_get, Some, refl, ap, subst, ◌∙◌, arith}
 use Rattle.std.proofs.lemmas.Int.{ints}
 use Rattle.std.proofs.lemmas.List.Elements.{All-head, All-tail}
 use Rattle.std.proofs.lemmas.Option.{same_Some, slice_get_within}
@@ -74,15 +75,18 @@ no_others m c ahead (x ∷ xs) are =
     (other_none ahead (floats_at m c x) (none_at m c x (All-head IsNoFloat x xs are)))
     ∙ no_others m c (ahead && not (is_content x)) xs (All-tail IsNoFloat x xs are)
 
-pub none_in : (m : BoxMeasuresValue) (c : Container) (begins : Bool) (ss : List Segment) → HaveNoFloats ss → HaveNone (stretches_of m c begins ss)
+pub none_in : (m : BoxMeasuresValue) (c : Container) (begins : Bool) (ss : List Segment) → HaveNoFloats ss
+    → HaveNone (stretches_of m c begins ss)
 none_in m c begins [] are k t is = absurd (let w = slice_get_within [] k t is in omega (arith, w))
 none_in m c begins (s ∷ ss) are zero t is =
     let none = All-head (λ (s : Segment). All IsNoFloat s.items) s ss are in
-    subst (λ (u : Stretch). (u.heads ≡ []) × (u.floats ≡ [])) (same_Some _ t is) (no_heads m c begins s.items none, no_others m c begins s.items none)
+    subst (λ (u : Stretch). (u.heads ≡ []) × (u.floats ≡ [])) (same_Some _ t is)
+    (no_heads m c begins s.items none, no_others m c begins s.items none)
 none_in m c begins (s ∷ ss) are (suc k) t is = none_in m c s.forced ss (All-tail (λ (s : Segment). All IsNoFloat s.items) s ss are) k t is
 
 -- nothing is met
-pub meets_none : (fr : Frame) (y : ℤ) (ss : List Stretch) (k : ℕ) (fs : List LineFloat) (st after : State) → fs ≡ [] → Meets fr y ss k fs st after → after ≡ st
+pub meets_none : (fr : Frame) (y : ℤ) (ss : List Stretch) (k : ℕ) (fs : List LineFloat) (st after : State)
+    → fs ≡ [] → Meets fr y ss k fs st after → after ≡ st
 meets_none fr y ss k fs st after e met = subst (λ (gs : List LineFloat). Meets fr y ss k gs st after) e met
 
 pub fills_none : (fr : Frame) (y : ℤ) (ss : List Stretch) (n : ℕ) (st after : State) → HaveNone ss → Fills fr y ss n st after → after ≡ st

@@ -1,5 +1,6 @@
 -- Content without floats, as preferred widths see it: no line ends in a segment.
-use Rattle.std.proofs.Common.{◌≡◌, ℕ, ◌+◌, ◌==◌, ℤ, pos, ◌+ℤ◌, Bool, true, false, if◌then◌else◌, List, [], ◌∷◌, ◌++◌, All, slice_get, refl, sym, ap, subst, ◌∙◌, arith, append_assoc, append-nil}
+use Rattle.std.proofs.Common.{◌≡◌, ℕ, ◌+◌, ◌==◌, ℤ, pos, ◌+ℤ◌, Bool, true, false, if◌then◌else◌, List, []}
+use Rattle.std.proofs.Common.{◌∷◌, ◌++◌, All, refl, sym, ap, subst, ◌∙◌, arith, append_assoc, append-nil}
 use Rattle.std.proofs.lemmas.Int.{ints}
 use Rattle.std.proofs.lemmas.List.Elements.{All-head, All-tail}
 use Rattle.std.specs.Int.{int_max}
@@ -62,7 +63,8 @@ text_content m text (w ∷ ws) =
     let to = next_place text ws in
     (cluster_content m (kind_of m text w.place to) (to == w.place + 1) w.width, text_content m text ws)
 
-item_content : (how : Breaking) (m : BoxMeasuresValue) (by : MeasureInValue) (x : Item) → IsAsMeasured how m by x → IsNoFloat x → AreContent (parts_at by x)
+item_content : (how : Breaking) (m : BoxMeasuresValue) (by : MeasureInValue) (x : Item)
+    → IsAsMeasured how m by x → IsNoFloat x → AreContent (parts_at by x)
 item_content how m by (item.Text k text mode widths) are free = text_content mode text widths
 item_content how m by (item.Start k takes) are free = (subst IsContent (sym are.1) tt, tt)
 item_content how m by (item.End k) are free = (subst IsContent (sym are.1) tt, tt)
@@ -70,19 +72,23 @@ item_content how m by (item.Atomic k mode) are free = (tt, tt)
 item_content how m by (item.Float k) are free = absurd free
 item_content how m by (item.Anchor k) are free = tt
 
-pub items_content : (how : Breaking) (m : BoxMeasuresValue) (by : MeasureInValue) (xs : List Item) → All (IsAsMeasured how m by) xs → All IsNoFloat xs
+pub items_content : (how : Breaking) (m : BoxMeasuresValue) (by : MeasureInValue) (xs : List Item)
+    → All (IsAsMeasured how m by) xs → All IsNoFloat xs
     → AreContent (parts_of by xs)
 items_content how m by [] are free = tt
 items_content how m by (x ∷ xs) are free =
-    both_content (parts_at by x) (parts_of by xs) (item_content how m by x (All-head (IsAsMeasured how m by) x xs are) (All-head IsNoFloat x xs free))
+    both_content (parts_at by x) (parts_of by xs)
+    (item_content how m by x (All-head (IsAsMeasured how m by) x xs are) (All-head IsNoFloat x xs free))
     (items_content how m by xs (All-tail (IsAsMeasured how m by) x xs are) (All-tail IsNoFloat x xs free))
 
 -- the first segment, and the others
-pub head_measured : (how : Breaking) (m : BoxMeasuresValue) (by : MeasureInValue) (s : Segment) (ss : List Segment) → AreAsMeasured how m by (s ∷ ss)
+pub head_measured : (how : Breaking) (m : BoxMeasuresValue) (by : MeasureInValue) (s : Segment) (ss : List Segment)
+    → AreAsMeasured how m by (s ∷ ss)
     → All (IsAsMeasured how m by) s.items
 head_measured how m by s ss are = All-head (λ (t : Segment). All (IsAsMeasured how m by) t.items) s ss are
 
-pub tail_measured : (how : Breaking) (m : BoxMeasuresValue) (by : MeasureInValue) (s : Segment) (ss : List Segment) → AreAsMeasured how m by (s ∷ ss)
+pub tail_measured : (how : Breaking) (m : BoxMeasuresValue) (by : MeasureInValue) (s : Segment) (ss : List Segment)
+    → AreAsMeasured how m by (s ∷ ss)
     → AreAsMeasured how m by ss
 tail_measured how m by s ss are = All-tail (λ (t : Segment). All (IsAsMeasured how m by) t.items) s ss are
 
@@ -131,11 +137,13 @@ line_ends how tab start line by s ss are ends =
     let step : lines_of how (line ++ xs) (part.Break s.forced ∷ rest) ≡ (line ++ xs) ∷ lines_of how [] rest = rw ends refl in
     ap (λ (ls : List (List LinePart)). widest how tab start ls) (lines_on how line xs (part.Break s.forced ∷ rest) are ∙ step)
 
-pub line_goes_on : (how : Breaking) (tab : ℤ) (start : Length) (line : List LinePart) (by : MeasureInValue) (s : Segment) (ss : List Segment)
+pub line_goes_on
+    : (how : Breaking) (tab : ℤ) (start : Length) (line : List LinePart) (by : MeasureInValue) (s : Segment) (ss : List Segment)
     → AreContent (parts_of by s.items) → ends_line how (part.Break s.forced) ≡ false
     → width_with how tab start line by (s ∷ ss) ≡ width_with how tab start ((line ++ parts_of by s.items) ++ part.Break s.forced ∷ []) by ss
 line_goes_on how tab start line by s ss are further =
     let xs = parts_of by s.items in
     let rest = line_parts by ss in
-    let step : lines_of how (line ++ xs) (part.Break s.forced ∷ rest) ≡ lines_of how ((line ++ xs) ++ part.Break s.forced ∷ []) rest = rw further refl in
+    let step : lines_of how (line ++ xs) (part.Break s.forced ∷ rest) ≡ lines_of how ((line ++ xs) ++ part.Break s.forced ∷ []) rest =
+    rw further refl in
     ap (λ (ls : List (List LinePart)). widest how tab start ls) (lines_on how line xs (part.Break s.forced ∷ rest) are ∙ step)

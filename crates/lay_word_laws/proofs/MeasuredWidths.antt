@@ -1,5 +1,6 @@
 -- How far content comes, beside the width of the widest of its lines.
-use Rattle.std.proofs.Common.{◌≡◌, ℕ, zero, suc, ◌+◌, ◌<◌, ◌≤◌, ℤ, pos, ◌+ℤ◌, ◌≤ℤ◌, Bool, true, false, List, [], ◌∷◌, ◌++◌, All, length, drop, slice_get, Option, Some, None, IsTrue, refl, sym, ap, subst, ◌∙◌, arith, inl, inr}
+use Rattle.std.proofs.Common.{◌≡◌, ℕ, zero, suc, ◌+◌, ◌≤◌, ℤ, pos, ◌+ℤ◌, ◌≤ℤ◌, Bool, true, false, List}
+use Rattle.std.proofs.Common.{[], ◌∷◌, ◌++◌, All, drop, slice_get, Some, IsTrue, refl, ap, ◌∙◌, arith}
 use Rattle.std.specs.Int.{int_max}
 use Rattle.std.proofs.lemmas.Int.{ints, clamps}
 use Rattle.std.proofs.lemmas.List.Elements.{All-head, All-tail}
@@ -23,9 +24,11 @@ use Rattle.lay_measure.specs.LineParts.{line_parts, parts_of}
 use Rattle.lay_measure.specs.LineWidths.{begun, float_sum, line_width, lines_of, over_all, widest, widest_float}
 use Rattle.lay_measure.specs.MeasureInValue.{MeasureInValue}
 use Rattle.lay_measure.proofs.WidestLines.{zero_first}
-use Rattle.lay_word_laws.specs.LinesAlone.{AreAsMeasured, HaveNoFloats, IsAsMeasured, IsNoFloat, IsNotNegative, NoneIsNegative, measuring_pen}
+use Rattle.lay_word_laws.specs.LinesAlone.{AreAsMeasured, HaveNoFloats, IsAsMeasured, IsNoFloat}
+use Rattle.lay_word_laws.specs.LinesAlone.{IsNotNegative, NoneIsNegative, measuring_pen}
 use Rattle.lay_word_laws.proofs.GrowingPens.{parts_grow}
-use Rattle.lay_word_laws.proofs.MeasuredContent.{AreContent, content_sum, head_free, head_measured, items_content, line_ends, line_goes_on, sum_both, tail_free, tail_measured, width_with}
+use Rattle.lay_word_laws.proofs.MeasuredContent.{AreContent, content_sum, head_free, head_measured, items_content}
+use Rattle.lay_word_laws.proofs.MeasuredContent.{line_ends, line_goes_on, sum_both, tail_free, tail_measured, width_with}
 use Rattle.lay_word_laws.proofs.MeasuredPens.{lines_come_as_far_lem, measured_both}
 
 -- greater numbers
@@ -59,7 +62,8 @@ pen_from fr p ss zero = p
 pen_from fr p [] (suc k) = p
 pen_from fr p (s ∷ ss) (suc k) = pen_from fr (past fr p s) ss k
 
-one_further : (fr : Frame) (p : LinePen) (ss : List Stretch) (k : ℕ) → past_at fr (pen_from fr p ss k) (slice_get ss k) ≡ pen_from fr p ss (suc k)
+one_further : (fr : Frame) (p : LinePen) (ss : List Stretch) (k : ℕ)
+    → past_at fr (pen_from fr p ss k) (slice_get ss k) ≡ pen_from fr p ss (suc k)
 one_further fr p [] zero = refl
 one_further fr p [] (suc k) = refl
 one_further fr p (s ∷ ss) zero = refl
@@ -87,11 +91,13 @@ line_shows : (tab : ℤ) (start : Length) (line : List LinePart) (p : LinePen) �
     → p.visible.0 ≤ℤ line_width breaking.WhereForced tab start line
 line_shows tab start line p is =
     equal_below p.visible.0 _
-    (sum_of_none (over_all breaking.WhereForced tab (begun start) line).visible.0 (float_sum line) is.no_floats ∙ ap (λ (q : Pen). q.visible.0) is.comes)
+    (sum_of_none (over_all breaking.WhereForced tab (begun start) line).visible.0 (float_sum line) is.no_floats
+    ∙ ap (λ (q : Pen). q.visible.0) is.comes)
 
 -- a line with one segment more
 line_more : (m : BoxMeasuresValue) (by : MeasureInValue) (fr : Frame) (start : Length) (line : List LinePart) (p : LinePen) (s : Segment)
-    → All (IsAsMeasured breaking.WhereForced m by) s.items → All IsNoFloat s.items → All IsNotNegative (line_parts_of m s.items) → IsLine fr.tab.0 start line p
+    → All (IsAsMeasured breaking.WhereForced m by) s.items → All IsNoFloat s.items
+    → All IsNotNegative (line_parts_of m s.items) → IsLine fr.tab.0 start line p
     → IsLine fr.tab.0 start (line ++ parts_of by s.items) (over_line fr p (line_parts_of m s.items))
 line_more m by fr start line p s are free more is = record {
   comes =
@@ -114,10 +120,13 @@ line_past tab start line p forced is = record {
 }
 
 -- what is shown after a segment is no wider, where the rest isn't
-shown_after : (m : BoxMeasuresValue) (by : MeasureInValue) (fr : Frame) (start : Length) (line : List LinePart) (p : LinePen) (s : Segment) (ss : List Segment)
-    → All (IsAsMeasured breaking.WhereForced m by) s.items → All IsNoFloat s.items → All IsNotNegative (line_parts_of m s.items) → IsLine fr.tab.0 start line p
+shown_after
+    : (m : BoxMeasuresValue) (by : MeasureInValue) (fr : Frame) (start : Length) (line : List LinePart)
+    (p : LinePen) (s : Segment) (ss : List Segment)
+    → All (IsAsMeasured breaking.WhereForced m by) s.items → All IsNoFloat s.items
+    → All IsNotNegative (line_parts_of m s.items) → IsLine fr.tab.0 start line p
     → ((l : List LinePart) → IsLine fr.tab.0 start l (over_line fr p (line_parts_of m s.items))
-        → (over_line fr p (line_parts_of m s.items)).visible.0 ≤ℤ width_with breaking.WhereForced fr.tab.0 start l by ss)
+    → (over_line fr p (line_parts_of m s.items)).visible.0 ≤ℤ width_with breaking.WhereForced fr.tab.0 start l by ss)
     → (over_line fr p (line_parts_of m s.items)).visible.0 ≤ℤ width_with breaking.WhereForced fr.tab.0 start line by (s ∷ ss)
 shown_after m by fr start line p s ss are free more is rest = at s.forced refl
   where
@@ -140,34 +149,42 @@ shown_after m by fr start line p s ss are free more is rest = at s.forced refl
         (line_goes_on breaking.WhereForced fr.tab.0 start line by s ss content e)
 
 -- Content that nothing has to break, whose line has this already, reaches no further than the widest line.
-pub shown_within : (m : BoxMeasuresValue) (by : MeasureInValue) (c : Container) (begins : Bool) (fr : Frame) (start : Length) (line : List LinePart) (p : LinePen)
+pub shown_within
+    : (m : BoxMeasuresValue) (by : MeasureInValue) (c : Container) (begins : Bool) (fr : Frame)
+    (start : Length) (line : List LinePart) (p : LinePen)
     (ss : List Segment) (n : ℕ) → AreAsMeasured breaking.WhereForced m by ss → HaveNoFloats ss → NoneIsNegative (stretches_of m c begins ss)
     → IsLine fr.tab.0 start line p → IsUnbroken ss n
     → (pen_from fr p (stretches_of m c begins ss) n).visible.0 ≤ℤ width_with breaking.WhereForced fr.tab.0 start line by ss
-shown_within m by c begins fr start line p [] zero are free more is whole = below_first _ _ (pos 0) _ (line_shows fr.tab.0 start line p is) refl
-shown_within m by c begins fr start line p [] (suc k) are free more is whole = below_first _ _ (pos 0) _ (line_shows fr.tab.0 start line p is) refl
+shown_within m by c begins fr start line p [] zero are free more is whole =
+    below_first _ _ (pos 0) _ (line_shows fr.tab.0 start line p is) refl
+shown_within m by c begins fr start line p [] (suc k) are free more is whole =
+    below_first _ _ (pos 0) _ (line_shows fr.tab.0 start line p is) refl
 shown_within m by c begins fr start line p (s ∷ ss) zero are free more is whole =
     let none = head_free s ss free in
     let same = head_measured breaking.WhereForced m by s ss are in
     let widths = All-head (λ (t : Stretch). All IsNotNegative t.parts) _ (stretches_of m c s.forced ss) more in
     no_more _ _ _ (parts_grow fr p (line_parts_of m s.items) widths is.order).visible
     (shown_after m by fr start line p s ss same none widths is
-    (λ l here. shown_within m by c s.forced fr start l (over_line fr p (line_parts_of m s.items)) ss zero (tail_measured breaking.WhereForced m by s ss are)
-        (tail_free s ss free) (All-tail (λ (t : Stretch). All IsNotNegative t.parts) _ (stretches_of m c s.forced ss) more) here tt))
+    (λ l here. shown_within m
+    by c s.forced fr start l (over_line fr p (line_parts_of m s.items)) ss zero (tail_measured breaking.WhereForced m by s ss are)
+    (tail_free s ss free) (All-tail (λ (t : Stretch). All IsNotNegative t.parts) _ (stretches_of m c s.forced ss) more) here tt))
 shown_within m by c begins fr start line p (s ∷ ss) (suc zero) are free more is whole =
     let none = head_free s ss free in
     let same = head_measured breaking.WhereForced m by s ss are in
     let widths = All-head (λ (t : Stretch). All IsNotNegative t.parts) _ (stretches_of m c s.forced ss) more in
     shown_after m by fr start line p s ss same none widths is
-    (λ l here. shown_within m by c s.forced fr start l (over_line fr p (line_parts_of m s.items)) ss zero (tail_measured breaking.WhereForced m by s ss are)
-        (tail_free s ss free) (All-tail (λ (t : Stretch). All IsNotNegative t.parts) _ (stretches_of m c s.forced ss) more) here tt)
+    (λ l here. shown_within m
+    by c s.forced fr start l (over_line fr p (line_parts_of m s.items)) ss zero (tail_measured breaking.WhereForced m by s ss are)
+    (tail_free s ss free) (All-tail (λ (t : Stretch). All IsNotNegative t.parts) _ (stretches_of m c s.forced ss) more) here tt)
 shown_within m by c begins fr start line p (s ∷ ss) (suc (suc k)) are free more is whole =
     let none = head_free s ss free in
     let same = head_measured breaking.WhereForced m by s ss are in
     let widths = All-head (λ (t : Stretch). All IsNotNegative t.parts) _ (stretches_of m c s.forced ss) more in
     let now = line_more m by fr start line p s same none widths is in
     below_same _ _ _
-    (shown_within m by c s.forced fr start ((line ++ parts_of by s.items) ++ part.Break s.forced ∷ []) (over_line fr p (line_parts_of m s.items)) ss (suc k) (tail_measured breaking.WhereForced m by s ss are)
+    (shown_within m
+    by c s.forced fr start ((line ++ parts_of by s.items) ++ part.Break s.forced ∷ [])
+    (over_line fr p (line_parts_of m s.items)) ss (suc k) (tail_measured breaking.WhereForced m by s ss are)
     (tail_free s ss free) (All-tail (λ (t : Stretch). All IsNotNegative t.parts) _ (stretches_of m c s.forced ss) more)
     (line_past fr.tab.0 start _ _ s.forced now) whole.1)
     (line_goes_on breaking.WhereForced fr.tab.0 start line by s ss (items_content breaking.WhereForced m by s.items same none) whole.0)
@@ -182,10 +199,13 @@ wide_as_zero how tab start ls = at_least_zero _ (zero_first how tab start ls)
 
 pub nothing_left : (how : Breaking) (tab : ℤ) (start : Length) (line : List LinePart) (by : MeasureInValue) (ss : List Segment)
     → width_with how tab no_length [] by [] ≤ℤ width_with how tab start line by ss
-nothing_left breaking.WhereAllowed tab start line by ss = wide_as_zero breaking.WhereAllowed tab start (lines_of breaking.WhereAllowed line (line_parts by ss))
-nothing_left breaking.WhereForced tab start line by ss = wide_as_zero breaking.WhereForced tab start (lines_of breaking.WhereForced line (line_parts by ss))
+nothing_left breaking.WhereAllowed tab start line by ss =
+    wide_as_zero breaking.WhereAllowed tab start (lines_of breaking.WhereAllowed line (line_parts by ss))
+nothing_left breaking.WhereForced tab start line by ss =
+    wide_as_zero breaking.WhereForced tab start (lines_of breaking.WhereForced line (line_parts by ss))
 
-pub left_after_break : (m : BoxMeasuresValue) (by : MeasureInValue) (c : Container) (begins : Bool) (tab : ℤ) (start : Length) (line : List LinePart)
+pub left_after_break
+    : (m : BoxMeasuresValue) (by : MeasureInValue) (c : Container) (begins : Bool) (tab : ℤ) (start : Length) (line : List LinePart)
     (ss : List Segment) (k : ℕ) (t : Stretch) → AreAsMeasured breaking.WhereForced m by ss → HaveNoFloats ss
     → slice_get (stretches_of m c begins ss) k ≡ Some t → IsTrue t.forced
     → width_with breaking.WhereForced tab no_length [] by (drop (suc k) ss) ≤ℤ width_with breaking.WhereForced tab start line by ss
@@ -194,16 +214,20 @@ left_after_break m by c begins tab start line (s ∷ ss) zero t are free is forc
     let none = head_free s ss free in
     let same = head_measured breaking.WhereForced m by s ss are in
     let ends : s.forced ≡ true = ap (λ (u : Stretch). u.forced) (same_Some _ t is) ∙ forced in
-    below_second _ _ _ _ (equal_below _ _ refl) (line_ends breaking.WhereForced tab start line by s ss (items_content breaking.WhereForced m by s.items same none) ends)
+    below_second _ _ _ _ (equal_below _ _ refl)
+    (line_ends breaking.WhereForced tab start line by s ss (items_content breaking.WhereForced m by s.items same none) ends)
 left_after_break m by c begins tab start line (s ∷ ss) (suc k) t are free is forced = at s.forced refl
-    (λ from l. left_after_break m by c s.forced tab from l ss k t (tail_measured breaking.WhereForced m by s ss are) (tail_free s ss free) is forced)
+    (λ from l. left_after_break m
+    by c s.forced tab from l ss k t (tail_measured breaking.WhereForced m by s ss are) (tail_free s ss free) is forced)
   where
     content : AreContent (parts_of by s.items)
     content = items_content breaking.WhereForced m by s.items (head_measured breaking.WhereForced m by s ss are) (head_free s ss free)
 
     at : (b : Bool) → s.forced ≡ b
-        → ((from : Length) (l : List LinePart) → width_with breaking.WhereForced tab no_length [] by (drop (suc k) ss) ≤ℤ width_with breaking.WhereForced tab from l by ss)
-        → width_with breaking.WhereForced tab no_length [] by (drop (suc k) ss) ≤ℤ width_with breaking.WhereForced tab start line by (s ∷ ss)
+        → ((from : Length) (l : List LinePart)
+        → width_with breaking.WhereForced tab no_length [] by (drop (suc k) ss) ≤ℤ width_with breaking.WhereForced tab from l by ss)
+        → width_with breaking.WhereForced tab no_length [] by (drop (suc k) ss) ≤ℤ width_with breaking.WhereForced tab start line
+        by (s ∷ ss)
     at true e rest = below_second _ _ _ _ (rest no_length []) (line_ends breaking.WhereForced tab start line by s ss content e)
     at false e rest =
         below_same _ _ _ (rest start ((line ++ parts_of by s.items) ++ part.Break s.forced ∷ []))
@@ -231,6 +255,9 @@ pub segment_alone : (m : BoxMeasuresValue) (by : MeasureInValue) (fr : Frame) (s
     → (over_line fr (blank start.0) (line_parts_of m s.items)).visible.0 ≤ℤ width_with breaking.WhereAllowed fr.tab.0 start [] by (s ∷ ss)
 segment_alone m by fr start s ss are free =
     let same = ap (λ (q : Pen). q.visible.0) (lines_come_as_far_lem breaking.WhereAllowed m by fr (blank start.0) s.items are) in
-    let here : (over_line fr (blank start.0) (line_parts_of m s.items)).visible.0 ≤ℤ line_width breaking.WhereAllowed fr.tab.0 start (parts_of by s.items) =
-    below_first _ _ (widest_float (parts_of by s.items)) _ (equal_below _ (over_all breaking.WhereAllowed fr.tab.0 (begun start) (parts_of by s.items)).visible.0 same) refl in
-    below_first _ _ _ _ here (line_ends breaking.WhereAllowed fr.tab.0 start [] by s ss (items_content breaking.WhereAllowed m by s.items are free) refl)
+    let here : (over_line fr (blank start.0) (line_parts_of m s.items)).visible.0
+    ≤ℤ line_width breaking.WhereAllowed fr.tab.0 start (parts_of by s.items) =
+    below_first _ _ (widest_float (parts_of by s.items)) _
+    (equal_below _ (over_all breaking.WhereAllowed fr.tab.0 (begun start) (parts_of by s.items)).visible.0 same) refl in
+    below_first _ _ _ _ here
+    (line_ends breaking.WhereAllowed fr.tab.0 start [] by s ss (items_content breaking.WhereAllowed m by s.items are free) refl)

@@ -1,5 +1,6 @@
 -- Content that is seen in lines is seen where preferred widths are worked out.
-use Rattle.std.proofs.Common.{◌≡◌, ℕ, zero, suc, ◌+◌, ◌<◌, ◌==◌, pos, Bool, true, false, ◌||◌, if◌then◌else◌, List, [], ◌∷◌, ◌++◌, All, take, IsTrue, refl, sym, ap, subst, ◌∙◌, arith}
+use Rattle.std.proofs.Common.{◌≡◌, ℕ, zero, suc, ◌+◌, ◌<◌, ◌==◌, Bool, true, false, ◌||◌, if◌then◌else◌}
+use Rattle.std.proofs.Common.{List, [], ◌∷◌, ◌++◌, All, take, IsTrue, refl, sym, ap, ◌∙◌, arith}
 use Rattle.std.specs.List.{list_any, slice_get}
 use Rattle.std.proofs.lemmas.List.Folds.{list_any-append}
 use Rattle.std.proofs.lemmas.List.Elements.{All-head, All-tail}
@@ -13,14 +14,13 @@ use Rattle.lay_space.specs.declared.tokens.ClusterKind.{ClusterKind}
 use Rattle.lay_space.specs.declared.tokens.ClusterKind.TheVariants.{CollapsibleSpace, PreservedSpace, Linefeed, Tab, ZeroWidthSpace, Other}
 use Rattle.lay_space.specs.Modes.{wraps}
 use Rattle.lay_space.specs.Tokens.{kind_of, next_place}
-use Rattle.lay_line_content.specs.declared.content.Part.{Part}
 use Rattle.lay_line_content.specs.declared.content.Part.TheVariants as line
 use Rattle.lay_line_content.specs.declared.content.Stretch.{Stretch}
 use Rattle.lay_content.specs.declared.container.Container.{Container}
 use Rattle.lay_content.specs.BoxMeasuresValue.{BoxMeasuresValue}
 use Rattle.lay_content.specs.SeenLines.{has_seen_line, is_seen as is_seen_part}
 use Rattle.lay_content.specs.Stretches.{parts_at as line_parts_at, parts_of as line_parts_of, stretches_of}
-use Rattle.lay_content.specs.TextParts.{advance, cluster_parts, linefeed_parts, parts_between, text_parts as line_text_parts}
+use Rattle.lay_content.specs.TextParts.{advance, cluster_parts, linefeed_parts, text_parts as line_text_parts}
 use Rattle.lay_content.proofs.Disjunctions.{or_false, or_left}
 use Rattle.lay_content.proofs.SeenPens.{seen_at, take_more}
 use Rattle.lay_measure.specs.declared.line_parts.LinePart.{LinePart}
@@ -54,7 +54,8 @@ linefeed_seen node true w h = refl
 linefeed_seen node false w h = refl
 
 cluster_seen : (node : ℕ) (m : Mode) (k : ClusterKind) (lone : Bool) (w : Length)
-    → list_any is_seen_part (cluster_parts (record { node = node; mode = m }) k lone w) ≡ true → list_any is_seen (cluster_part m k lone w ∷ []) ≡ true
+    → list_any is_seen_part (cluster_parts (record { node = node; mode = m }) k lone w) ≡ true
+    → list_any is_seen (cluster_part m k lone w ∷ []) ≡ true
 cluster_seen node m CollapsibleSpace lone w h = h
 cluster_seen node m PreservedSpace lone w h = preserved_seen node (wraps m) w h
 cluster_seen node m Linefeed lone w h = linefeed_seen node lone w h
@@ -63,16 +64,19 @@ cluster_seen node m ZeroWidthSpace lone w h = refl
 cluster_seen node m Other lone w h = refl
 
 text_seen : (node : ℕ) (m : Mode) (text : List ℕ) (ws : List ClusterWidth)
-    → list_any is_seen_part (line_text_parts (record { node = node; mode = m }) text ws) ≡ true → list_any is_seen (text_parts m text ws) ≡ true
+    → list_any is_seen_part (line_text_parts (record { node = node; mode = m }) text ws) ≡ true
+    → list_any is_seen (text_parts m text ws) ≡ true
 text_seen node m text [] h = h
 text_seen node m text (w ∷ ws) h =
     let to = next_place text ws in
     let k = kind_of m text w.place to in
     let lone = to == w.place + 1 in
-    any_of_both is_seen_part is_seen (cluster_parts (record { node = node; mode = m }) k lone w.width) (line_text_parts (record { node = node; mode = m }) text ws)
+    any_of_both is_seen_part is_seen (cluster_parts (record { node = node; mode = m }) k lone w.width)
+    (line_text_parts (record { node = node; mode = m }) text ws)
     (cluster_part m k lone w.width ∷ []) (text_parts m text ws) (cluster_seen node m k lone w.width) (text_seen node m text ws) h
 
-edge_seen : (x : LinePart) (w : Length) (b seen : Bool) → x ≡ part.Edge w b → (IsTrue seen → IsTrue b) → (seen || false) ≡ true → list_any is_seen (x ∷ []) ≡ true
+edge_seen : (x : LinePart) (w : Length) (b seen : Bool) → x ≡ part.Edge w b → (IsTrue seen → IsTrue b)
+    → (seen || false) ≡ true → list_any is_seen (x ∷ []) ≡ true
 edge_seen x w b seen e means h = ap (λ (y : LinePart). list_any is_seen (y ∷ [])) e ∙ or_left b false (means (sym (or_false seen) ∙ h))
 
 item_seen : (how : Breaking) (m : BoxMeasuresValue) (by : MeasureInValue) (x : Item) → IsAsMeasured how m by x
@@ -89,14 +93,18 @@ items_seen : (how : Breaking) (m : BoxMeasuresValue) (by : MeasureInValue) (xs :
 items_seen how m by [] are h = h
 items_seen how m by (x ∷ xs) are h =
     any_of_both is_seen_part is_seen (line_parts_at m x) (line_parts_of m xs) (parts_at by x) (parts_of by xs)
-    (item_seen how m by x (All-head (IsAsMeasured how m by) x xs are)) (items_seen how m by xs (All-tail (IsAsMeasured how m by) x xs are)) h
+    (item_seen how m by x (All-head (IsAsMeasured how m by) x xs are))
+    (items_seen how m by xs (All-tail (IsAsMeasured how m by) x xs are)) h
 
 -- content whose first segment is seen
-pub first_seen : (how : Breaking) (m : BoxMeasuresValue) (by : MeasureInValue) (c : Container) (begins : Bool) (ss : List Segment) → AreAsMeasured how m by ss
+pub first_seen : (how : Breaking) (m : BoxMeasuresValue) (by : MeasureInValue) (c : Container) (begins : Bool) (ss : List Segment)
+    → AreAsMeasured how m by ss
     → has_seen_line (take 1 (stretches_of m c begins ss)) ≡ true → list_any is_seen (line_parts by ss) ≡ true
 first_seen how m by c begins [] are h = absurd cc
 first_seen how m by c begins (s ∷ ss) are h =
-    let here = items_seen how m by s.items (All-head (λ (t : Segment). All (IsAsMeasured how m by) t.items) s ss are) (sym (or_false (list_any is_seen_part (line_parts_of m s.items))) ∙ h) in
+    let here = items_seen how m
+    by s.items (All-head (λ (t : Segment). All (IsAsMeasured how m by) t.items) s ss are)
+    (sym (or_false (list_any is_seen_part (line_parts_of m s.items))) ∙ h) in
     list_any-append is_seen (parts_of by s.items) (part.Break s.forced ∷ line_parts by ss)
     ∙ or_left (list_any is_seen (parts_of by s.items)) (list_any is_seen (part.Break s.forced ∷ line_parts by ss)) here
 

@@ -1,5 +1,6 @@
 -- Lines as preferred widths see them (CSS 2.2, 10.3.5): beside no float, of boxes that are as wide as preferred widths count them.
-use Rattle.std.specs.Prelude.{ℕ, suc, ⊤, ◌≡◌, ◌⊎◌, ℤ, pos, ◌≤ℤ◌, Bool, IsTrue, List, [], ◌∷◌, All, length, take, drop, slice_get, Some}
+use Rattle.std.specs.Prelude.{ℕ, suc, ⊤, ◌≡◌, ◌<◌, ◌⊎◌, ℤ, pos, ◌≤ℤ◌, Bool, IsTrue, IsFalse}
+use Rattle.std.specs.Prelude.{List, [], ◌∷◌, All, length, take, drop, slice_get, Some}
 use Rattle.lay_units.specs.declared.length.Unit.{Unit as Length}
 use Rattle.lay_floats.specs.declared.placed.Placed.{Placed}
 use Rattle.lay_floats.specs.SolidPlace.{IsAlone}
@@ -84,7 +85,8 @@ AreBesideNone floats c rows = All (λ (r : Ended). IsAlone floats r.top.0 (heigh
 -- beside them, and they are as preferred widths count them: the `text-indent` isn't a percentage, or one that comes to 0, and
 -- the first segment is seen where there is an indent, since a line that isn't seen isn't there (9.4.2).
 pub record AreAlone
-    (how : Breaking) (m : BoxMeasuresValue) (by : MeasureInValue) (c : Container) (b : BoxNode) (segments : List Segment) (left right : Length)
+    (how : Breaking) (m : BoxMeasuresValue) (by : MeasureInValue) (c : Container) (b : BoxNode)
+    (segments : List Segment) (left right : Length)
     (top : ℤ) (floats : List Placed) (v : LinesValue) : Type 0 where
   pub box : slice_get m.boxes c.place ≡ Some b
   pub face : m.face ≡ by.face
@@ -99,7 +101,12 @@ pub record AreAlone
 abbrev pub HasToEnd : List Stretch → ℕ → Type 0
 HasToEnd ss n = (n ≡ length ss) ⊎ ((k : ℕ) × (s : Stretch) × (n ≡ suc k) × (slice_get ss k ≡ Some s) × IsTrue s.forced)
 
--- each of these lines takes of the content what is left of it up to the first place where it has to end, and nothing is left
+-- the first n, up to the first place where a line has to end
+pub record IsForcedLine (ss : List Stretch) (n : ℕ) : Type 0 where
+  pub ends : HasToEnd ss n
+  pub before : (k : ℕ) (s : Stretch) → suc k < n → slice_get ss k ≡ Some s → IsFalse s.forced
+
+-- each of these lines takes just so much of the content that is left, and nothing is left in the end
 abbrev pub BreakWhereForced : List Stretch → List Ended → Type 0
 BreakWhereForced ss [] = ss ≡ []
-BreakWhereForced ss (r ∷ rows) = HasToEnd ss r.reach.count × BreakWhereForced (drop r.reach.count ss) rows
+BreakWhereForced ss (r ∷ rows) = IsForcedLine ss r.reach.count × BreakWhereForced (drop r.reach.count ss) rows

@@ -33,7 +33,8 @@ use Rattle.lay_word_laws.specs.LinesAlone.{AreAlone, BreakWhereForced, IsAsMeasu
 -- advances and the same tab stops, and with the same spaces at the end not counted.
 abbrev pub LinesComeAsFarAsMeasured : Type 0
 LinesComeAsFarAsMeasured =
-    (how : Breaking) (m : BoxMeasuresValue) (by : MeasureInValue) (fr : Frame) (p : LinePen) (items : List Item) → All (IsAsMeasured how m by) items
+    (how : Breaking) (m : BoxMeasuresValue) (by : MeasureInValue) (fr : Frame) (p : LinePen) (items : List Item)
+    → All (IsAsMeasured how m by) items
     → over_all how fr.tab.0 (measuring_pen p) (parts_of by items) ≡ measuring_pen (over_line fr p (line_parts_of m items))
 
 -- In a width that is no less than the preferred one lines break only where they have to.
