@@ -11,6 +11,8 @@
 //!     lay LIMIT WORKERS              these three in turn, until no claim is handed out, and why that is
 //!     drive WORKERS                  runs the document, and its editors if it has any, with so many workers: `driven`; its core is the
 //!                                    one that is called from then on
+//!     close-early                    starts an engine of two editors, closes it while a pass is out, and once more when that has made its
+//!                                    call (`closing.rt`)
 //!     span                           how many microseconds passed in the last of these two calls from the start of the first claim that
 //!                                    was worked out to the end of the last one; what `bench/threads` reads
 //!     laid, draws
@@ -19,6 +21,7 @@
 //! Where `claim` or `compute` lacks memory the answer is `no memory`, and where another call does the program ends.
 
 use crate::batches::{Batch, computed, joined, lay, number, shared};
+use crate::closing::closed_early;
 use crate::core_calls::{claim_some, driven, finish_all, publish};
 use crate::gates::{CaseGate, gate};
 use crate::shown;
@@ -76,6 +79,7 @@ impl OneCore {
             "finish" => self.finish(alloc),
             "lay" => self.lay(rt, alloc, rest),
             "drive" => self.drive(rt, alloc, rest),
+            "close-early" => self.close_early(rt, alloc),
             "span" => Ok(Some(format!(in alloc; "{}", self.span)?)),
             "laid" => Ok(Some(format!(in alloc; "{}", self.core.laid())?)),
             "draws" => Ok(Some(format!(in alloc; "{}", self.core.draws())?)),
@@ -170,6 +174,13 @@ impl OneCore {
         self.core = driven(rt, alloc, run, workers, &span)?;
         self.span = span.micros();
         Ok(Some(String::from_str(alloc, "driven")?))
+    }
+
+    fn close_early<R: Wait>(&self, rt: &R, alloc: Global) -> Result<Option<String>, NoMemory> {
+        match run_of(alloc, &self.bytes) {
+            Some(run) => closed_early(rt, alloc, run),
+            None => Ok(None),
+        }
     }
 
     fn share<R: Threads + Sync>(

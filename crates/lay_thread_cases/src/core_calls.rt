@@ -1,15 +1,18 @@
-//! The calls on a core and on those who work on its cells, without what is promised of them: a case asks for the answers alone, and each
-//! function that has the promises at hand takes long to prove.
+//! The calls on a core, on those who work on its cells and on an engine, without most of what is promised of them: a case asks for the
+//! answers alone, and each function that has the promises at hand takes long to prove.
 
-ghost use Rattle.std.specs.Prelude.{◌≡◌, ◌<◌, ◌≤◌, []};
+ghost use Rattle.std.specs.Prelude.{◌≡◌, ◌<◌, ◌≤◌, [], IfErr};
+ghost use Rattle.std.specs.List.{All};
 
+use lay_board::{Engine, Pass, Passes};
 use lay_drive::claim_lists::{ClaimList, Outcomes};
 use lay_drive::drive;
 use lay_drive::editing_core::{Core, Idle, Publish, Tally};
 use lay_drive::pool::run_batch;
+use lay_layout::edit_lists::Reply;
 use lay_layout::run::RunDoc;
 use lay_layout::units::NoMemory;
-use lay_outside::Gate;
+use lay_outside::{Gate, OpenGate};
 use std::alloc::Global;
 use std::sync::Wait;
 use std::thread::Threads;
@@ -61,4 +64,30 @@ pub(crate) fn driven<R: Threads + Wait + Sync, G: Gate + Sync>(
     requires { (0 < workers) × (workers ≤ 16) }
 {
     drive(rt, alloc, run, workers, gate)
+}
+
+/// The core of an engine that was closed; where a pass is out all comes back.
+pub(crate) fn closed<R: Wait>(
+    rt: &R,
+    engine: Engine,
+    passes: Passes,
+) -> Result<Core, (Engine, Passes)>
+    requires closer { passes.closer.table ≡ engine.table }
+    requires of { All (λ p. p.table ≡ engine.table) passes.items.items }
+    ensures { IfErr result (λ r. (r.0 ≡ engine) × (r.1.closer ≡ passes.closer) × (r.1.items.items ≡ passes.items.items)) }
+{
+    engine.close(rt, passes)
+}
+
+/// A call of an editor that asks for the version that was published last.
+pub(crate) fn latest<R: Wait>(rt: &R, alloc: Global, engine: &Engine, pass: Pass) -> (Reply, Pass)
+    requires of { pass.table ≡ engine.now.table }
+    requires left { 0 < pass.knows.left }
+    ensures { result.1.table ≡ pass.table }
+{
+    engine.latest(rt, alloc, pass, &OpenGate)
+}
+
+pub(crate) fn entries(core: &Core) -> usize {
+    core.history().len()
 }

@@ -10,6 +10,7 @@
 mod batches;
 mod calls;
 mod case;
+mod closing;
 mod core_calls;
 mod gates;
 mod shown;
