@@ -39,17 +39,17 @@ same_margin containing (or_auto.Percent h) is = absurd is
 held_twice : (v : ℤ) → clamp_of (clamp_of v) ≡ clamp_of v
 held_twice v = omega (arith, ints, clamps)
 
-held_margin : (v : LengthPercentageOrAuto) → clamp_of (margin_or_zero v).0 ≡ (margin_or_zero v).0
+pub held_margin : (v : LengthPercentageOrAuto) → clamp_of (margin_or_zero v).0 ≡ (margin_or_zero v).0
 held_margin or_auto.Auto = omega (arith, ints, clamps)
 held_margin (or_auto.Length u) = held_twice u.0
 held_margin (or_auto.Percent h) = omega (arith, ints, clamps)
 
-same_padding : (containing : Length) (v : LengthPercentage) → IsLength v → used_size containing v ≡ size_or_zero v
+pub same_padding : (containing : Length) (v : LengthPercentage) → IsLength v → used_size containing v ≡ size_or_zero v
 same_padding containing (measure.Length u) is = refl
 same_padding containing (measure.Percent h) is = absurd is
 
 -- a border and a padding
-same_edge : (containing border : Length) (v : LengthPercentage) (edge : Length) → edge ≡ edge_of containing border v → IsLength v
+pub same_edge : (containing border : Length) (v : LengthPercentage) (edge : Length) → edge ≡ edge_of containing border v → IsLength v
     → edge.0 ≡ (size_of border.0).0 +ℤ (size_or_zero v).0
 same_edge containing border v edge e is =
     ap (λ (l : Length). l.0) e ∙ ap (λ (l : Length). (size_of border.0).0 +ℤ l.0) (same_padding containing v is)

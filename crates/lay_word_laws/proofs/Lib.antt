@@ -10,3 +10,4 @@ pub mod LinesWithoutFloats
 pub mod RowsAlone
 pub mod PreferredRows
 pub mod InlineEdges
+pub mod ShrinkingBoxes

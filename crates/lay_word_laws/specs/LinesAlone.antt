@@ -40,7 +40,8 @@ AreEdges x width seen = (b : Bool) × (x ≡ part.Edge width b) × (IsTrue seen 
 
 -- An inline box of lines has the edges that preferred widths count, as it has where none of its margins and paddings is a
 -- percentage (law `inline_edges_are_as_measured`). And an atomic box takes its preferred width, or its preferred minimum width, as
--- preferred widths count it.
+-- preferred widths count it. In its preferred width it does so where there is room for it and no percentage is in the way (law
+-- `shrinking_boxes_take_what_is_measured`).
 abbrev pub IsAsMeasured : Breaking → BoxMeasuresValue → MeasureInValue → Item → Type 0
 IsAsMeasured how m by (item.Text k text mode widths) = ⊤
 IsAsMeasured how m by (item.Start k takes) = AreEdges (start_in by k (slice_get by.boxes k)) (start_at m k).width (start_at m k).seen

@@ -3,13 +3,14 @@
 //! (CSS 2.2, 9.4.2, 10.3.5 and 16.6). And preferred widths are those of lines: content breaks in its preferred width only where it
 //! must, and reaches nowhere past its preferred minimum width (10.3.5).
 //!
-//! The functions do nothing; what they ensure are the laws of `specs/Laws.antt`, `specs/PreferredLines.antt` and
-//! `specs/InlineEdges.antt`.
+//! The functions do nothing; what they ensure are the laws of `specs/Laws.antt`, `specs/PreferredLines.antt`,
+//! `specs/InlineEdges.antt` and `specs/ShrinkingBoxes.antt`.
 #![tactic(auto)]
 
 ghost use Rattle.lay_word_laws.specs.Laws.{WordsAreTheirClusters, WordsMeasureAsTheirClusters};
 ghost use Rattle.lay_word_laws.specs.InlineEdges.{InlineEdgesAreAsMeasured};
 ghost use Rattle.lay_word_laws.specs.PreferredLines.{LinesComeAsFarAsMeasured, MinimumWidthHoldsEachLine, PreferredWidthBreaksNothing};
+ghost use Rattle.lay_word_laws.specs.ShrinkingBoxes.{ShrinkingBoxesTakeWhatIsMeasured};
 
 /// In a line the pen comes as far over words as over their clusters.
 pub fn words_are_their_clusters()
@@ -39,4 +40,9 @@ pub fn minimum_width_holds_each_line()
 /// Where no margin and no padding of an inline box is a percentage, lines have the edges of it that preferred widths count.
 pub fn inline_edges_are_as_measured()
     ensures { InlineEdgesAreAsMeasured }
+{}
+
+/// A box that shrinks to fit takes what preferred widths count of it, where its containing block has room for that.
+pub fn shrinking_boxes_take_what_is_measured()
+    ensures { ShrinkingBoxesTakeWhatIsMeasured }
 {}
