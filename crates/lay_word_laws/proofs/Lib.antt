@@ -1,3 +1,13 @@
 pub mod Plain
 pub mod Words
 pub mod Pens
+pub mod MeasuredPens
+pub mod GrowingPens
+pub mod MeasuredContent
+pub mod MeasuredWidths
+pub mod SeenContent
+pub mod LinesWithoutFloats
+pub mod RowsAlone
+pub mod PreferredRows
+pub mod InlineEdges
+pub mod ShrinkingBoxes

@@ -29,7 +29,7 @@ line_step fr node m text p w to = over_parts fr p (parts_between (record { node 
 abbrev line_wide : LinePen → ℤ → LinePen
 line_wide p a = went_on (p.at.0 +ℤ a)
 
-over_both : (fr : Frame) (p : LinePen) (xs ys : List Part) → over_parts fr p (xs ++ ys) ≡ over_parts fr (over_parts fr p xs) ys
+pub over_both : (fr : Frame) (p : LinePen) (xs ys : List Part) → over_parts fr p (xs ++ ys) ≡ over_parts fr (over_parts fr p xs) ys
 over_both fr p [] ys = refl
 over_both fr p (x ∷ xs) ys = over_both fr (over fr p x) xs ys
 
@@ -37,12 +37,16 @@ line_go : (fr : Frame) (node : ℕ) (m : Mode) (text : List ℕ) (p : LinePen) (
     → over_parts fr p (text_parts (record { node = node; mode = m }) text ws) ≡ go (line_step fr node m text) text p ws
 line_go fr node m text p [] = refl
 line_go fr node m text p (w ∷ ws) =
-    over_both fr p (parts_between (record { node = node; mode = m }) text w (next_place text ws)) (text_parts (record { node = node; mode = m }) text ws)
+    over_both fr p (parts_between (record { node = node; mode = m }) text w (next_place text ws))
+    (text_parts (record { node = node; mode = m }) text ws)
     ∙ line_go fr node m text (line_step fr node m text p w (next_place text ws)) ws
 
 line_by_width : (fr : Frame) (node : ℕ) (m : Mode) (text : List ℕ) → GoesByWidth (line_step fr node m text) text line_wide
 line_by_width fr node m text = record {
-  plain = λ p w to is. ap (λ (k : ClusterKind). over_parts fr p (cluster_parts (record { node = node; mode = m }) k (to == w.place + 1) w.width)) (plain_kind m text w.place to is);
+  plain =
+      λ p w to is.
+      ap (λ (k : ClusterKind). over_parts fr p (cluster_parts (record { node = node; mode = m }) k (to == w.place + 1) w.width))
+      (plain_kind m text w.place to is);
   adds = λ p a b. ap went_on (sum_same p.at.0 a b);
 }
 
@@ -66,7 +70,9 @@ part_go how tab m text p (w ∷ ws) = part_go how tab m text (part_step how tab 
 
 part_by_width : (how : Breaking) (tab : ℤ) (m : Mode) (text : List ℕ) → GoesByWidth (part_step how tab m text) text part_wide
 part_by_width how tab m text = record {
-  plain = λ p w to is. ap (λ (k : ClusterKind). over_part how tab p (cluster_part m k (to == w.place + 1) w.width)) (plain_kind m text w.place to is);
+  plain =
+      λ p w to is.
+      ap (λ (k : ClusterKind). over_part how tab p (cluster_part m k (to == w.place + 1) w.width)) (plain_kind m text w.place to is);
   adds = λ p a b. ap went (sum_same p.at.0 a b);
 }
 

@@ -1,1 +1,5 @@
 pub mod Laws
+pub mod LinesAlone
+pub mod PreferredLines
+pub mod InlineEdges
+pub mod ShrinkingBoxes
