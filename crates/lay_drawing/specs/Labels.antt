@@ -14,6 +14,7 @@ use Rattle.lay_drawing.specs.declared.label.Label.{Label}
 use Rattle.lay_drawing.specs.declared.mark.Marked.{Marked}
 use Rattle.lay_drawing.specs.Changes.{is_box}
 use Rattle.lay_drawing.specs.Frames.{edges, IsWithin}
+use Rattle.lay_drawing.specs.Reading.{◌>>=◌}
 
 abbrev pub label_width : ℕ → ℤ
 label_width node = pos (384 * length (decimal node) + 384)
