@@ -116,14 +116,14 @@ def used_widths(box, equation, containing_width):
     if box.table and box.table.is_automatic:
         used = automatic_width(box.table, width, room_for_table(box, containing_width), least, most)
         box.table.column_widths = used_columns(automatic_column_widths(box.table, used))
-        return equation(used)
+        return equation(size_within_limit(used))
     widths = within_bounds(equation, width, least, most)
     if not box.table:
         return widths
     wanted = size_within_limit(widths.size)
     columns = column_widths(box.table, wanted)
     box.table.column_widths = used_columns(columns)
-    return equation(max(wanted, sum(columns) + all_spacings_across(box.table)))
+    return equation(size_within_limit(max(wanted, sum(columns) + all_spacings_across(box.table))))
 
 
 def height_within(height, least, most):
