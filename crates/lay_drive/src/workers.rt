@@ -13,8 +13,11 @@ use std::sync::Wait;
 use std::thread;
 use std::thread::Threads;
 
-/// How many turns of a worker may get claims or meet want of memory.
+/// How many turns of a worker may get claims.
 const COUNTED_TURNS: u32 = 1_048_576;
+
+/// How many turns of a worker may come to nothing in a row for want of memory: what lacks it is tried again so often, and not for ever.
+const LACKING_TURNS: u32 = 64;
 
 /// How many claims are taken at a time.
 const BATCH: u32 = 64;
@@ -22,8 +25,10 @@ const BATCH: u32 = 64;
 /// What a turn of a worker came to.
 #[derive(Clone, Copy)]
 enum Turn {
-    /// There were claims, or memory was wanting.
+    /// There were claims.
     Counted,
+    /// Nothing was done, since memory was wanting.
+    Lacking,
     /// There was nothing to do, and something has changed since.
     Quiet,
     /// There is nothing to do, and nothing is left that could make work.
@@ -41,17 +46,22 @@ pub(crate) fn work_all<R: Threads + Wait + Sync, G: Gate + Sync>(
     let _ended = thread::map_vec(rt, hands, &one);
 }
 
-/// A worker, until all editors have ended and nothing is left to claim or to steal, no claim can be numbered any more, or so many turns
-/// have passed.
+/// A worker, until all editors have ended and nothing is left to claim or to steal, no claim can be numbered any more, memory was wanting
+/// for so many turns, or so many have passed.
 fn work<R: Wait, G: Gate>(rt: &R, session: &Session, mut hand: Hand, gate: &G) {
     let mut counted = 0;
+    let mut lacking = 0;
     session.progress.come(rt);
     for _ in rt.forever() {
-        if counted >= COUNTED_TURNS {
+        if counted >= COUNTED_TURNS || lacking >= LACKING_TURNS {
             break;
         }
         match take_turn(rt, session, &mut hand, gate) {
-            Turn::Counted => counted += 1,
+            Turn::Counted => {
+                counted += 1;
+                lacking = 0;
+            }
+            Turn::Lacking => lacking += 1,
             Turn::Quiet => {}
             Turn::Over => break,
         }
@@ -64,46 +74,62 @@ fn take_turn<R: Wait, G: Gate>(rt: &R, session: &Session, hand: &mut Hand, gate:
     // read before anything is looked for, so that a change behind that wakes the worker
     let seen = session.progress.changes(rt);
     let Ok(room) = Vec::with_capacity(session.alloc, BATCH as usize) else {
-        return Turn::Counted;
+        return Turn::Lacking;
     };
     match session.engine.claim_batch(rt, session.alloc, BATCH) {
         Ok(Batch::Claims(claims)) => {
-            deal(rt, session, hand, claims, room);
-            let _turn = finish(rt, session, hand.work(session.alloc, gate));
-            Turn::Counted
+            let all_dealt = deal(rt, session, hand, claims, room);
+            match finish(rt, session, hand.work(session.alloc, gate)) {
+                Turn::Quiet if all_dealt => Turn::Counted,
+                Turn::Quiet => Turn::Lacking,
+                turn => turn,
+            }
         }
         Ok(Batch::Idle(idle)) if matches!(idle.kind(), IdleKind::Spent) => Turn::Over,
         Ok(Batch::Idle(_)) => match finish(rt, session, hand.work(session.alloc, gate)) {
             Turn::Quiet => stand_by(rt, session, seen),
             turn => turn,
         },
-        Err(_) => Turn::Counted,
+        Err(_) => Turn::Lacking,
     }
 }
 
-/// A worker is dealt claims, which others may steal. Those that there is no memory for are given back.
-fn deal<R: Wait>(rt: &R, session: &Session, hand: &mut Hand, claims: ClaimList, room: Vec<Outcome>)
+/// A worker is dealt claims, which others may steal. Those that there is no memory for are given back; true where there are none.
+fn deal<R: Wait>(
+    rt: &R,
+    session: &Session,
+    hand: &mut Hand,
+    claims: ClaimList,
+    room: Vec<Outcome>,
+) -> bool
     requires { (room.items ≡ []) × (64 ≤ vec_capacity room) }
 {
     let several = claims.len() > 1;
     let refused = hand.deal(claims, room);
-    if refused.len() > 0 {
+    let all_dealt = refused.len() == 0;
+    if !all_dealt {
         let _tally = session.engine.finish_all(rt, refused);
     }
     if several {
         session.progress.share(rt);
     }
+    all_dealt
 }
 
-/// What came of claims is finished. Quiet where there were none.
+/// What came of claims is finished. Quiet where there were none, and lacking where all lacked memory.
 fn finish<R: Wait>(rt: &R, session: &Session, outcomes: Result<Outcomes, NoMemory>) -> Turn {
     match outcomes {
         Ok(outcomes) if outcomes.len() == 0 => Turn::Quiet,
         Ok(outcomes) => {
-            let _tally = session.engine.finish_all(rt, outcomes);
-            Turn::Counted
+            let all = outcomes.len();
+            let back = session.engine.finish_all(rt, outcomes).back();
+            if back as usize == all {
+                Turn::Lacking
+            } else {
+                Turn::Counted
+            }
         }
-        Err(_) => Turn::Counted,
+        Err(_) => Turn::Lacking,
     }
 }
 
