@@ -17,6 +17,8 @@ use Rattle.lay_contexts.specs.ContextTree.{boxes_of_place}
 use Rattle.lay_contexts.specs.DocumentContexts.{root_spot, spot_at}
 use Rattle.lay_contexts.specs.declared.context_spot.ContextSpot.{ContextSpot}
 use Rattle.lay_contexts.proofs.ContextNumbers.{are_contexts}
+use Rattle.lay_contexts.proofs.ListedSteps.{context_within}
+use Rattle.lay_later_contexts.specs.Anchored.{IsAnchored, IsNarrowed}
 use Rattle.lay_later_contexts.specs.Building.{AreBuiltTo, IsBuilt}
 use Rattle.lay_later_contexts.specs.Edited.{IsEdited}
 use Rattle.lay_later_contexts.specs.Reach.{ArePlacesOf, AreReachFlags, IsReach, IsReachedContext, IsRestyled}
@@ -24,10 +26,11 @@ use Rattle.lay_later_contexts.specs.Rebuilt.{AreRebuilt, SameBoxes}
 use Rattle.lay_later_contexts.specs.declared.reach.Reach.{Reach}
 use Rattle.lay_later_contexts.specs.Unstyled.{all_unstyled}
 use Rattle.lay_later_contexts.proofs.AlikeBoxes.{AlikeNode}
+use Rattle.lay_later_contexts.proofs.AnchoredContexts.{anchored-boxes}
 use Rattle.lay_later_contexts.proofs.Flags.{flag-before, flag-last}
 use Rattle.lay_later_contexts.proofs.LaterList.{later-are}
 use Rattle.lay_later_contexts.proofs.Outward.{kept-boxes}
-use Rattle.lay_later_contexts.proofs.Restyling.{Restyling, restyling-of, same-boxes, subject-alike}
+use Rattle.lay_later_contexts.proofs.Restyling.{Restyling, not-under, restyling-of, same-boxes, subject-alike}
 use Rattle.lay_later_contexts.proofs.SameBoxes.{same-context}
 
 pub from-within : (d : Document) (styles : List Style) (places : List ℕ) (id : ℕ) (r : Reach) → IsReach d.nodes styles places id r → r.from < length d.nodes
@@ -81,13 +84,36 @@ module _ (d e : Document) (ss ts : List Style) (edit : Edit) (contexts : List Co
       (context-before d ss contexts of places places_are i lt)
       (λ b. apart (inr b)) (λ around. apart (inl (is.reach.around_is i (omega (arith, lt, places_are.count)) around))))
 
-  pub rebuilt-of : (flags : List Bool) (n : ℕ) → n ≡ length places → AreReachFlags r places flags n → AreRebuilt d.nodes e.nodes ss ts contexts places flags
-  rebuilt-of flags n n_is reached = record {
+  anchored-context : IsAnchored edit d.nodes ss r.from → (i : ℕ) → i < length contexts → ((r.from ≤ slice_index places i) × (slice_index places i < r.until) → ⊥)
+      → boxes_in contexts i ≡ boxes_of_place e.nodes ts (slice_index places i)
+  anchored-context anchored i lt apart =
+      let context = context-before d ss contexts of places places_are i lt in
+      let within = context_within d.nodes ss (slice_index places i) context in
+      boxes-before d ss contexts of places places_are i lt
+      ∙ sym (anchored-boxes d e ss ts edit doc edited is.id r.from is.change is.reach.subject restyling.ids same anchored (slice_index places i) within context
+      (not-under d e ss ts r.from r.until doc has restyling subject is.reach.until_is is.alike (slice_index places i) within apart))
+
+  narrowed-context : (narrow : Reach) → IsNarrowed edit d.nodes ss r narrow → (i : ℕ) → i < length contexts → (IsReachedContext narrow i (slice_index places i) → ⊥)
+      → boxes_in contexts i ≡ boxes_of_place e.nodes ts (slice_index places i)
+  narrowed-context narrow narrowed i lt apart =
+      let inside : (r.from ≤ slice_index places i) × (slice_index places i < r.until) → ⊥ =
+      λ b. (let low = b.0 in let high = b.1 in apart (inr (omega (arith, low, narrowed.from_is), omega (arith, high, narrowed.until_is)))) in
+      elim narrowed.around_is [
+        | inl around ↦ kept-context i lt (λ reached. elim reached [
+          | inl is_around ↦ apart (inl (around ∙ is_around))
+          | inr is_inside ↦ inside is_inside
+        ])
+        | inr anchored ↦ anchored-context anchored i lt inside
+      ]
+
+  pub rebuilt-of : (narrow : Reach) → IsNarrowed edit d.nodes ss r narrow → (flags : List Bool) (n : ℕ) → n ≡ length places → AreReachFlags narrow places flags n
+      → AreRebuilt d.nodes e.nodes ss ts contexts places flags
+  rebuilt-of narrow narrowed flags n n_is reached = record {
     places_are = places_are;
     flags = reached.count ∙ (n_is ∙ places_are.count);
     ids = restyling.ids;
     same = same;
-    kept = λ i lt is_not. kept-context i lt (reached.each i (omega (arith, lt, n_is, places_are.count)) is_not);
+    kept = λ i lt is_not. narrowed-context narrow narrowed i lt (reached.each i (omega (arith, lt, n_is, places_are.count)) is_not);
   }
 
 -- contexts that are built of them

@@ -2,6 +2,7 @@ pub mod SameBoxes
 pub mod AlikeBoxes
 pub mod Restyling
 pub mod Outward
+pub mod AnchoredContexts
 pub mod LaterList
 pub mod ElementPlaces
 pub mod Climbing

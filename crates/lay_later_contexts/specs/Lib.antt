@@ -2,6 +2,7 @@ pub mod Unstyled
 pub mod Links
 pub mod Edited
 pub mod Reach
+pub mod Anchored
 pub mod Building
 pub mod Marks
 pub mod Changed

@@ -7,6 +7,7 @@ ghost use Rattle.lay_later_contexts.specs.Links.{AreRestyled};
 ghost use Rattle.lay_later_contexts.specs.Reach.{IsChange};
 
 use crate::alike::are_alike;
+use crate::anchored::narrowed;
 use crate::building::{LaterContexts, built};
 use crate::doc_pair::DocPair;
 use crate::edited_doc::EditedDoc;
@@ -76,6 +77,6 @@ fn restyled_contexts(
     if !stays_seen(of, reach.from) {
         return Ok(None);
     }
-    let reached = reached_flags(alloc, reach, &places)?;
+    let reached = reached_flags(alloc, narrowed(of, &places, reach), &places)?;
     built(alloc, &pair, before, &places, reached)
 }

@@ -9,6 +9,7 @@
 mod after_all;
 mod alike;
 mod alike_nodes;
+mod anchored;
 mod building;
 mod changed;
 mod doc_pair;

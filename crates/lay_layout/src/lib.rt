@@ -30,7 +30,7 @@ pub use lay_run as run;
 pub use lay_same as same;
 pub use lay_sizes as sizes;
 pub use lay_style as style;
-pub use lay_table_borders as table_borders;
 pub use lay_table as table;
+pub use lay_table_borders as table_borders;
 pub use lay_table_sizes as table_sizes;
 pub use lay_units as units;

@@ -7,7 +7,8 @@ ghost use Rattle.lay_report.specs.Writing.{Pushes};
 
 use crate::buffer::hand_on_much;
 use crate::fault::ReportFault;
-use lay_frag::{Frag, Placed, Tree, push_frag};
+use crate::piece_line::push_line;
+use lay_frag::{Frag, Placed, Tree};
 use lay_outside::Sink;
 
 /// Writes the lines of a tree: one for each piece, in the tree's order.
@@ -57,6 +58,6 @@ fn push_piece<K: Sink>(frag: &Frag, buffer: &mut String, sink: &mut K) -> Result
     ensures { Pushes (record { taken = K.taken sink.old; faults = K.faults sink.old; held = string_bytes buffer.old })
         (record { taken = K.taken sink.new; faults = K.faults sink.new; held = string_bytes buffer.new }) (frag_line frag.now) result }
 {
-    push_frag(buffer, frag)?;
+    push_line(buffer, frag)?;
     hand_on_much(buffer, sink)
 }

@@ -14,6 +14,7 @@
 #![tactic(auto)]
 
 mod bound_laws;
+mod bounds;
 mod caption_widths;
 mod cell_bounds;
 mod cell_boxes;
@@ -34,7 +35,6 @@ mod preferred_widths;
 mod sizes;
 mod sizing;
 mod spaces;
-mod table_bounds;
 mod table_box;
 mod table_rule;
 mod used_width;
@@ -45,6 +45,7 @@ pub use bound_laws::{
     auto_tables_have_room, auto_widths_fit_the_room, cell_bounds_have_order,
     given_widths_are_greatest, one_auto_width, one_list_of_table_bounds,
 };
+pub use bounds::TableBounds;
 pub use cell_boxes::cell_sizes;
 pub use cell_size::CellSize;
 pub use column_bounds::{auto_columns, table_bounds};
@@ -54,6 +55,5 @@ pub use layouts::is_fixed;
 pub use measuring::{MeasuredTable, measure_table};
 pub use sizes::TableSizes;
 pub use sizing::{SizedTable, table_sizes};
-pub use table_bounds::TableBounds;
 pub use table_rule::TableRule;
 pub use used_width::auto_width;

@@ -6,11 +6,11 @@ ghost use Rattle.lay_table_borders.specs.TableGrid.{IsTableGrid};
 ghost use Rattle.lay_table_sizes.specs.Bounds.{most_columns};
 ghost use Rattle.lay_table_sizes.specs.TableWidths.{HasAutoWidths, HasTableWidths, auto_part};
 
+use crate::bounds::{TableBounds, bounds_of};
 use crate::contents::{greatest_content, least_content};
 use crate::grid::grid_of;
 use crate::layouts::is_fixed;
 use crate::preferred_widths::{bounded_content, fixed_widths};
-use crate::table_bounds::{TableBounds, bounds_of};
 use crate::table_box::{preferred_edges, style_of_box};
 use lay_box_tree::BoxNode;
 use lay_measure::{PreferredWidths, greater, sum};

@@ -10,13 +10,13 @@ ghost use Rattle.lay_table_sizes.specs.Bounds.{most_columns};
 ghost use Rattle.lay_table_sizes.specs.TableSizes.{AreAutoWidths, AreFixedWidths, AreTableWidths, AreTableWidthsAs, HasTableSizes};
 ghost use Rattle.lay_table_sizes.specs.TableSizes.{held, held_width, sizes_of_box, table_box, table_width};
 
+use crate::bounds::TableBounds;
 use crate::cells::{cells_of, sum_of};
 use crate::column_widths::columns_in;
 use crate::grid::grid_of;
 use crate::layouts::is_fixed;
 use crate::sizes::TableSizes;
 use crate::spaces::with_spacings;
-use crate::table_bounds::TableBounds;
 use crate::table_box::{style_of_box, table_edges};
 use crate::table_rule::TableRule;
 use crate::wanted_width::{fixed_width, shrunk_width};

@@ -5,8 +5,8 @@ ghost use Rattle.lay_units.specs.Units.{IsPosition, IsUsedSize, IsSize};
 ghost use Rattle.lay_table_borders.specs.GridBounds.{PlacesAreBelow};
 ghost use Rattle.lay_table_sizes.specs.WantedWidth.{HasAutoWidth, IsFixedWidth};
 
+use crate::bounds::TableBounds;
 use crate::contents::{greatest_content, least_content};
-use crate::table_bounds::TableBounds;
 use crate::table_box::{style_of_box, table_block};
 use crate::used_width::auto_width;
 use lay_box_tree::BoxNode;

@@ -37,6 +37,17 @@ reach_of-reach-requires-clause-node c = subject-there c.args.of.now.doc.now c.ar
 pub stays_seen-requires : goal.stays_seen-requires
 stays_seen-requires c = from-within c.args.of.now.doc.now c.args.of.now.was.now c.deref.result.now c.args.node.0 c.reach_of-reach.result c.reach_of-reach.ensures
 
+pub narrowed-requires-clause-places : goal.narrowed-requires-clause-places
+narrowed-requires-clause-places c =
+    subst (AreContextPlaces c.args.of.now.doc.now.nodes c.args.of.now.was.now) (sym c.deref-2.ensures.value)
+    (context-places c.args.of.now.doc.now c.args.of.now.was.now c.args.before.now c.nodes.ensures.valid c.requires.before c.in_ok-places.places.items (c.in_ok-places.ensures {u = tt}))
+
+pub narrowed-requires-clause-within : goal.narrowed-requires-clause-within
+narrowed-requires-clause-within c = from-within c.args.of.now.doc.now c.args.of.now.was.now c.deref.result.now c.args.node.0 c.reach_of-reach.result c.reach_of-reach.ensures
+
+pub narrowed-requires-clause-styles : goal.narrowed-requires-clause-styles
+narrowed-requires-clause-styles c = c.requires.edited.before.length_is ∙ length-parents c.args.of.now.doc.now.nodes
+
 pub built-requires-clause-rebuilt : goal.built-requires-clause-rebuilt
 built-requires-clause-rebuilt c =
     let d = c.args.of.now.doc.now in
@@ -50,12 +61,12 @@ built-requires-clause-rebuilt c =
     let alike : AreAlike ss ts r.from r.until =
     subst (λ (xs : List Style). AreAlike xs ts r.from r.until) c.as_slice.ensures
     (subst (λ (ys : List Style). AreAlike c.as_slice.result.now ys r.from r.until) c.as_slice-2.ensures (c.are_alike.ensures c.if-not-are_alike.false)) in
-    subst (λ (places : List ℕ). AreRebuilt d.nodes e.nodes ss ts c.args.before.now places c.in_ok-reached.reached.items) (sym c.deref-3.ensures.value)
+    subst (λ (places : List ℕ). AreRebuilt d.nodes e.nodes ss ts c.args.before.now places c.in_ok-reached.reached.items) (sym c.deref-4.ensures.value)
     (rebuilt-of d e ss ts c.args.of.now.edit.now c.args.before.now c.nodes.ensures.valid c.nodes-2.ensures.valid c.requires.edited c.requires.before
     c.in_ok-places.places.items (c.in_ok-places.ensures {u = tt}) r
     (record { id = c.args.node.0; change = c.requires.node; reach = reach; alike = alike; text = c.stays_seen.ensures c.if-not-stays_seen.false })
-    c.in_ok-reached.reached.items (length c.deref-2.result.now) (ap length c.deref-2.ensures.value)
-    (subst (λ (places : List ℕ). AreReachFlags r places c.in_ok-reached.reached.items (length c.deref-2.result.now)) c.deref-2.ensures.value (c.in_ok-reached.ensures {u = tt})))
+    c.narrowed.result c.narrowed.ensures c.in_ok-reached.reached.items (length c.deref-3.result.now) (ap length c.deref-3.ensures.value)
+    (subst (λ (places : List ℕ). AreReachFlags c.narrowed.result places c.in_ok-reached.reached.items (length c.deref-3.result.now)) c.deref-3.ensures.value (c.in_ok-reached.ensures {u = tt})))
 
 pub places_of-requires-clause-styles : goal.places_of-requires-clause-styles
 places_of-requires-clause-styles c = c.requires.edited.before.length_is ∙ length-parents c.args.of.now.doc.now.nodes
