@@ -14,6 +14,7 @@ use lay_layout::run::RunDoc;
 use lay_outside::{Sink, Source};
 use lay_report::write_scratch;
 use std::alloc::Global;
+use std::mem::forget;
 
 /// Lays out the run document that the source has left, its editors taken as none, and writes the report.
 pub fn scratch<S: Source, K: Sink>(alloc: Global, source: &mut S, sink: &mut K) -> Status
@@ -42,11 +43,14 @@ fn laid_out<K: Sink>(alloc: Global, run: &RunDoc, sink: &mut K) -> Status
     ensures never_usage { result ≢ Status.Usage }
     ensures never_read_fault { result ≢ Status.ReadFault }
 {
-    let tree = match lay_layout::context::scratch(alloc, run.doc(), run.face()) {
+    let tree = match lay_layout::context::last_scratch(alloc, run.doc(), run.face()) {
         Ok(tree) => tree,
         Err(_) => return Status::NoMemory,
     };
-    match write_scratch(alloc, &tree, sink) {
+    let written = write_scratch(alloc, &tree, sink);
+    // The program ends, and the system takes the tree with all its memory.
+    forget(tree);
+    match written {
         Ok(()) => Status::Ok,
         Err(fault) => status_of(fault),
     }

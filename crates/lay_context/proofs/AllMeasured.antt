@@ -51,7 +51,7 @@ absolute_shrinks (b ∷ boxes) is = by b.flow is
   where
     by : (flow : Flow) → is_absolute_flow flow ≡ true → shrinks flow b.kind b.style ≡ true
     by absolute e = refl
-    by floating e = refl
+    by floating e = cc
     by in_flow e = cc
 
 in_table : (sizes : List BoxSizes) (table : TableSizesValue) (cell : Option CellSize) → is_absolute_setting (setting_in_table sizes table cell) ≡ false

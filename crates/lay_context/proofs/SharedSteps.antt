@@ -1,12 +1,12 @@
 -- The content of lines that tasks share, context by context.
-use Rattle.std.proofs.Common.{◌≡◌, ◌∙◌, ℕ, ◌+◌, ◌<◌, ◌++◌, ◌∷◌, ◌&&◌, [], Bool, true, false, List, arith, inl, inr, length, refl, subst, sym, if◌then◌else◌}
+use Rattle.std.proofs.Common.{◌≡◌, ◌∙◌, ℕ, ◌+◌, ◌<◌, ◌++◌, ◌∷◌, [], Bool, true, false, List, arith, inl, inr, length, refl, subst, sym, if◌then◌else◌}
 use Rattle.std.proofs.lemmas.Bool.{cases_lt}
 use Rattle.std.proofs.lemmas.Grind.{elements}
 use Rattle.lay_face.specs.FaceValue.{FaceValue}
 use Rattle.lay_items.specs.InlineContents.{KeptSegments}
 use Rattle.lay_flow_boxes.specs.AskedContents.{AreAskedContents, is_any_asked}
 use Rattle.lay_flow_boxes.specs.declared.asked_contents.Asked.{Asked}
-use Rattle.lay_flow_boxes.specs.declared.asked_contents.Asked.TheVariants.{Texts as texts, Anchors as anchors}
+use Rattle.lay_flow_boxes.specs.declared.asked_contents.Asked.TheVariants.{Texts as texts, Anchors as anchors, Nothing as nothing}
 use Rattle.lay_flow_boxes.proofs.AskedSteps.{asked_any, asked_contents}
 use Rattle.lay_contexts.specs.FormattingContexts.{FormattingContext, boxes_in}
 use Rattle.lay_context.specs.Measured.{is_measured}
@@ -18,7 +18,7 @@ read_before contents kept k lt = grind (arith, elements)
 read_last : (contents : List KeptSegments) (kept : KeptSegments) (k : ℕ) → k ≡ length contents → contents_in (contents ++ kept ∷ []) k ≡ kept
 read_last contents kept k is = grind (arith, elements)
 
-both_true : (a b : Bool) → a ≡ true → b ≡ true → (if a && b then texts else anchors) ≡ texts
+both_true : (a b : Bool) → a ≡ true → b ≡ true → (if a then (if b then texts else anchors) else nothing) ≡ texts
 both_true true true p q = refl
 both_true true false p q = absurd cc
 both_true false b p q = absurd cc

@@ -1,13 +1,13 @@
 -- The content of lines that the tasks of a layout share: of each formatting context what more than one task asks for. Where a
 -- formatting context is measured, both its preferred widths and its lines are of the content of its lines. Where an anchor stands
 -- in lines, its line is looked up beside them.
-use Rattle.std.specs.Prelude.{ℕ, ◌≡◌, ◌<◌, ◌&&◌, true, List, [], Some, length, slice_index_or, if◌then◌else◌}
+use Rattle.std.specs.Prelude.{ℕ, ◌≡◌, ◌<◌, true, List, [], Some, length, slice_index_or, if◌then◌else◌}
 use Rattle.lay_face.specs.FaceValue.{FaceValue}
 use Rattle.lay_items.specs.InlineContents.{AreContents, KeptSegments, kept_at}
 use Rattle.lay_items.specs.InlineSegments.{segments_in}
 use Rattle.lay_flow_boxes.specs.AskedContents.{AreAskedContents, HoldsAsked, is_any_asked}
 use Rattle.lay_flow_boxes.specs.declared.asked_contents.Asked.{Asked}
-use Rattle.lay_flow_boxes.specs.declared.asked_contents.Asked.TheVariants.{Texts as texts, Anchors as anchors}
+use Rattle.lay_flow_boxes.specs.declared.asked_contents.Asked.TheVariants.{Texts as texts, Anchors as anchors, Nothing as nothing}
 use Rattle.lay_contexts.specs.FormattingContexts.{FormattingContext, boxes_in}
 use Rattle.lay_context.specs.Measured.{is_measured}
 
@@ -15,9 +15,9 @@ use Rattle.lay_context.specs.Measured.{is_measured}
 abbrev pub contents_in : List KeptSegments → ℕ → KeptSegments
 contents_in contents i = slice_index_or contents i []
 
--- for which boxes of the formatting context with this number more than one task asks
+-- for which boxes of the formatting context with this number more than one task asks, where a text stands in its lines
 abbrev pub asked_in : List FormattingContext → ℕ → Asked
-asked_in contexts i = if is_any_asked texts (boxes_in contexts i) && is_measured contexts i then texts else anchors
+asked_in contexts i = if is_any_asked texts (boxes_in contexts i) then (if is_measured contexts i then texts else anchors) else nothing
 
 -- it is the content of the lines that have such boxes, in this face, and no other
 pub record AreShared (face : FaceValue) (contexts : List FormattingContext) (contents : List KeptSegments) : Type 0 where

@@ -13,8 +13,9 @@ use crate::placed_context::PlacedContext;
 use crate::table_parts::TableParts;
 use crate::value::Value;
 use lay_abspos::{StandInput, own_offset};
+use lay_box_tree::ContextBoxes;
 use lay_context_sizes::{MeasureInput, MeasuredContext, SizeInput, context_sizes, context_widths};
-use lay_flow_boxes::{Asked, PlaceInput, contents_of};
+use lay_flow_boxes::{Asked, PlaceInput, contents_of, is_any_asked};
 use lay_items::InlineContents;
 use lay_pieces::Placement;
 use lay_placement::placement;
@@ -51,12 +52,22 @@ pub fn value_of_size(alloc: Global, input: &SizeInput) -> Result<Value, NoMemory
 }
 
 /// The placement of a formatting context in block flow. The line of each of its anchors is looked up, so the content of these
-/// lines is made once before.
+/// lines is made once before, where a text stands in some.
 pub fn value_of_flow(alloc: Global, parts: FlowParts, stand: &StandInput) -> Result<Value, NoMemory>
     ensures { IfOk result (IsLocal (Place parts stand.now)) }
 {
-    let contents = contents_of(alloc, parts.boxes(), parts.face(), Asked::Anchors)?;
+    let asked = asked_in(parts.boxes());
+    let contents = contents_of(alloc, parts.boxes(), parts.face(), asked)?;
     placed_in_flow(alloc, &parts.into_input(contents), stand)
+}
+
+/// For which of these boxes a placement asks more than once.
+fn asked_in(boxes: &ContextBoxes) -> Asked {
+    if is_any_asked(boxes.as_slice(), Asked::Texts) {
+        Asked::Anchors
+    } else {
+        Asked::Nothing
+    }
 }
 
 /// That of a table's.

@@ -20,41 +20,99 @@ use crate::medium::Medium;
 use crate::plan::Plan;
 use crate::shared_contents::shared_contents;
 use crate::task::{Phase, Task};
-use lay_contexts::{FormattingContexts, contexts_of, formatting_contexts};
+use lay_contexts::{Contexts, FormattingContexts, contexts_of, formatting_contexts};
 use lay_doc::Doc;
 use lay_face::Face;
 use lay_frag::Tree;
 use lay_inherit::computed;
+use lay_items::InlineContents;
 use lay_positioned::{level_count, levels};
 use lay_sizes::ContainingBlock;
 use lay_style::Computed;
 use lay_table_borders::grids_are_of_boxes;
 use lay_units::{Len, NoMemory, Unit};
 use std::alloc::Global;
+use std::mem::forget;
 use std::sync::Arc;
+
+/// A tree, and what it was worked out of.
+#[derive(Drop)]
+struct LaidDocument {
+    tree: Tree,
+    used: Used,
+}
+
+/// What a tree was worked out of.
+#[derive(Drop)]
+struct Used {
+    computed: Computed,
+    contexts: Contexts,
+    formatting_contexts: FormattingContexts,
+    values: UsedValues,
+}
+
+/// The values that it was put together of, and the content of lines that these shared.
+#[derive(Drop)]
+struct UsedValues {
+    known: Known,
+    contents: Vec<InlineContents>,
+}
+
+/// A tree of formatting contexts, and the values that it was put together of.
+#[derive(Drop)]
+struct LaidContextTree {
+    tree: Tree,
+    values: UsedValues,
+}
 
 /// The layout of a document in a face: the tree that solves it.
 pub fn scratch(alloc: Global, doc: &Doc, face: &Arc<Face>) -> Result<Tree, NoMemory>
     ensures { IfOk result (Solves doc.now face.now.value) }
 {
+    let laid = laid_document(alloc, doc, face)?;
+    Ok(laid.tree)
+}
+
+/// The same for a program that ends behind it. What the tree was worked out of isn't given back list by list, as the system takes
+/// all memory of a program that ends.
+pub fn last_scratch(alloc: Global, doc: &Doc, face: &Arc<Face>) -> Result<Tree, NoMemory>
+    ensures { IfOk result (Solves doc.now face.now.value) }
+{
+    let laid = laid_document(alloc, doc, face)?;
+    forget(laid.used);
+    Ok(laid.tree)
+}
+
+fn laid_document(alloc: Global, doc: &Doc, face: &Arc<Face>) -> Result<LaidDocument, NoMemory>
+    ensures { IfOk result (λ l. Solves doc.now face.now.value l.tree) }
+{
     let computed = computed(alloc, doc)?;
-    scratch_styled(alloc, doc, face, &computed)
+    laid_styled(alloc, doc, face, computed)
 }
 
 /// The same, where the computed styles of the document are known.
-fn scratch_styled(
+fn laid_styled(
     alloc: Global,
     doc: &Doc,
     face: &Arc<Face>,
-    computed: &Computed,
-) -> Result<Tree, NoMemory>
-    requires styles { HasStyles (parents_of doc.now.nodes) (declarations_of doc.now.nodes) computed.now }
-    ensures { IfOk result (Solves doc.now face.now.value) }
+    computed: Computed,
+) -> Result<LaidDocument, NoMemory>
+    requires styles { HasStyles (parents_of doc.now.nodes) (declarations_of doc.now.nodes) computed }
+    ensures { IfOk result (λ l. Solves doc.now face.now.value l.tree) }
 {
-    let contexts = contexts_of(alloc, doc, computed)?;
+    let contexts = contexts_of(alloc, doc, &computed)?;
     let formatting_contexts = formatting_contexts(alloc, &contexts)?;
     let medium = Medium::new(viewport_of(doc), face.clone()?);
-    lay_contexts(alloc, &medium, &formatting_contexts)
+    let laid = lay_contexts(alloc, &medium, &formatting_contexts)?;
+    Ok(LaidDocument {
+        tree: laid.tree,
+        used: Used {
+            computed,
+            contexts,
+            formatting_contexts,
+            values: laid.values,
+        },
+    })
 }
 
 /// The viewport as the root's containing block.
@@ -74,8 +132,8 @@ fn lay_contexts(
     alloc: Global,
     medium: &Medium,
     contexts: &FormattingContexts,
-) -> Result<Tree, NoMemory>
-    ensures { IfOk result (SolvesContexts medium.now contexts.now) }
+) -> Result<LaidContextTree, NoMemory>
+    ensures { IfOk result (λ l. SolvesContexts medium.now contexts.now l.tree) }
 {
     grids_are_of_boxes();
     let levels = levels(alloc, contexts)?;
@@ -97,7 +155,9 @@ fn lay_contexts(
         contexts,
         known: &known,
     };
-    assemble(alloc, &laid)
+    let tree = assemble(alloc, &laid)?;
+    let values = UsedValues { known, contents };
+    Ok(LaidContextTree { tree, values })
 }
 
 /// Measures all formatting contexts, from the last one to the first.

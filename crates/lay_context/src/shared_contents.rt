@@ -32,13 +32,16 @@ pub(crate) fn shared_contents(
     Ok(contents)
 }
 
-/// For which boxes of the formatting context with this number more than one task asks.
+/// For which boxes of the formatting context with this number more than one task asks. Lines without a text are made by each.
 fn asked_in(contexts: &FormattingContexts, i: usize) -> Asked
     requires { i < length contexts.now }
     ensures { result ≡ asked_in contexts.now i }
 {
     let boxes = contexts.at(i).boxes().as_slice();
-    if is_any_asked(boxes, Asked::Texts) && is_measured(contexts, i) {
+    if !is_any_asked(boxes, Asked::Texts) {
+        return Asked::Nothing;
+    }
+    if is_measured(contexts, i) {
         Asked::Texts
     } else {
         Asked::Anchors

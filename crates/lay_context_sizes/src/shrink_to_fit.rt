@@ -1,10 +1,11 @@
 //! Which own boxes may shrink to fit.
 
 ghost use Rattle.std.specs.Prelude.{◌≡◌};
-ghost use Rattle.lay_context_sizes.specs.ShrinkToFit.{shrinks, shrinks_in_flow, shrinks_to_fit};
+ghost use Rattle.lay_context_sizes.specs.ShrinkToFit.{shrinks, shrinks_floating, shrinks_in_flow, shrinks_to_fit};
+ghost use Rattle.lay_table_sizes.specs.TableLayouts.{has_width};
 
 use lay_box_tree::{BoxKind, BoxNode, Flow};
-use lay_style::Style;
+use lay_style::{LengthPercentageOrAuto, Style};
 use lay_table_sizes::is_fixed;
 
 /// Whether the own box of these boxes, the first one, may shrink to fit its content (CSS 2.2, 10.3.5, 10.3.7, 10.3.9 and
@@ -23,7 +24,8 @@ fn shrinks(flow: Flow, kind: &BoxKind, style: &Style) -> bool
 {
     match flow {
         Flow::InFlow => shrinks_in_flow(kind, style),
-        Flow::Floating | Flow::Absolute => true,
+        Flow::Floating => shrinks_floating(kind, style),
+        Flow::Absolute => true,
     }
 }
 
@@ -31,8 +33,26 @@ fn shrinks_in_flow(kind: &BoxKind, style: &Style) -> bool
     ensures { result ≡ shrinks_in_flow kind.now style.now }
 {
     match kind {
-        BoxKind::InlineBlock => true,
+        BoxKind::InlineBlock => !has_width(style.sizing.width),
         BoxKind::Wrapper | BoxKind::InlineWrapper => !is_fixed(style),
         _ => false,
+    }
+}
+
+fn shrinks_floating(kind: &BoxKind, style: &Style) -> bool
+    ensures { result ≡ shrinks_floating kind.now style.now }
+{
+    match kind {
+        BoxKind::Wrapper | BoxKind::InlineWrapper => true,
+        _ => !has_width(style.sizing.width),
+    }
+}
+
+fn has_width(width: LengthPercentageOrAuto) -> bool
+    ensures { result ≡ has_width width }
+{
+    match width {
+        LengthPercentageOrAuto::Auto => false,
+        LengthPercentageOrAuto::Length(_) | LengthPercentageOrAuto::Percent(_) => true,
     }
 }

@@ -17,6 +17,8 @@ pub enum Asked {
     Texts,
     /// For anchors alone.
     Anchors,
+    /// For none.
+    Nothing,
 }
 
 /// The content of the lines of those of these boxes that hold such a box.
@@ -78,5 +80,6 @@ fn is_asked(node: &BoxNode, asked: Asked) -> bool
     match asked {
         Asked::Texts => matches!(node.kind, BoxKind::Text(_)),
         Asked::Anchors => matches!(node.kind, BoxKind::Anchor),
+        Asked::Nothing => false,
     }
 }

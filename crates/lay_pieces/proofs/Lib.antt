@@ -3,3 +3,4 @@ pub mod PieceCountSteps
 pub mod PieceSteps
 pub mod SplicedPieces
 pub mod StandingColumns
+pub mod NodeCountSteps

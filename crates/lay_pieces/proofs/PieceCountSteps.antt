@@ -1,13 +1,13 @@
 -- How many pieces are of a kind and a node, with one more.
 use Rattle.std.proofs.Common.{◌≡◌, ◌∙◌, ◌≢◌, ℕ, zero, suc, take, drop, ap, ◌+◌, ◌<◌, ◌≤◌, ◌==◌, ◌&&◌, List, [], ◌∷◌, ◌++◌, length, length-append, refl, sym, arith, inl, inr, Bool, true, false, if◌then◌else◌}
-use Rattle.std.specs.BTreeMap.{BTreeMap}
 use Rattle.std.proofs.lemmas.Bool.{cases_eq, eq-eqb, ne_eqb}
 use Rattle.lay_frag.specs.declared.frag.Frag.{Frag}
 use Rattle.lay_frag.specs.declared.frag.FragKind.{FragKind}
 use Rattle.lay_frag.specs.declared.frag.FragKind.TheVariants.{Box, Line, Text}
 use Rattle.lay_pieces.specs.declared.piece_list.TheConstants.{FIRST_PIECES}
-use Rattle.lay_pieces.specs.declared.piece_list.Counts.{Counts}
-use Rattle.lay_pieces.specs.PieceCounts.{AreCounted, behind_first, count_in, counts_in, first_of, with_one}
+use Rattle.lay_pieces.specs.declared.node_counts.Counts.{Counts}
+use Rattle.lay_pieces.specs.declared.node_counts.NodeCounts.{NodeCounts}
+use Rattle.lay_pieces.specs.PieceCounts.{AreCounted, behind_first, count_in, counts_of, first_of, with_one}
 use Rattle.lay_pieces.specs.PieceParts.{count_of, is_kind, numbered}
 
 pub count_more : (kind : FragKind) (id : ℕ) (fs : List Frag) (f : Frag) → count_of kind id (fs ++ f ∷ []) ≡ count_of kind id fs + (if is_kind f.kind kind && f.node.0 == id then 1 else 0)
@@ -81,7 +81,7 @@ all_first kind id fs few =
     omega (arith, both, none)
 
 -- a piece among the first isn't counted
-pub one_first : (fs : List Frag) (f : Frag) (map : BTreeMap ℕ Counts) → AreCounted fs map → length fs < FIRST_PIECES → AreCounted (fs ++ f ∷ []) map
+pub one_first : (fs : List Frag) (f : Frag) (map : NodeCounts) → AreCounted fs map → length fs < FIRST_PIECES → AreCounted (fs ++ f ∷ []) map
 one_first fs f map so_far few = record {
   each = λ kind id. let was = so_far.each kind id in let old : behind_first fs ≡ [] = none_before FIRST_PIECES fs few in
       let new : behind_first (fs ++ f ∷ []) ≡ [] = none_behind FIRST_PIECES fs f few in rw new (was ∙ ap (count_of kind id) old);
@@ -89,22 +89,22 @@ one_first fs f map so_far few = record {
 }
 
 -- a map that says the same counts the same pieces
-pub same_counts : (fs : List Frag) (map next : BTreeMap ℕ Counts) → AreCounted fs map → ((id : ℕ) → counts_in next id ≡ counts_in map id) → AreCounted fs next
+pub same_counts : (fs : List Frag) (map next : NodeCounts) → AreCounted fs map → ((id : ℕ) → counts_of next id ≡ counts_of map id) → AreCounted fs next
 same_counts fs map next so_far same = record {
   each = λ kind id. ap (λ counts. count_in counts kind) (same id) ∙ so_far.each kind id;
   few = so_far.few;
 }
 
 -- a map in which the counts of a piece's node have one more of its kind counts it too
-pub one_more : (fs : List Frag) (f : Frag) (map next : BTreeMap ℕ Counts) → AreCounted fs map → FIRST_PIECES ≤ length fs → length fs < 2147483648
-    → counts_in next f.node.0 ≡ with_one (counts_in map f.node.0) f.kind → ((id : ℕ) → id ≢ f.node.0 → counts_in next id ≡ counts_in map id)
+pub one_more : (fs : List Frag) (f : Frag) (map next : NodeCounts) → AreCounted fs map → FIRST_PIECES ≤ length fs → length fs < 2147483648
+    → counts_of next f.node.0 ≡ with_one (counts_of map f.node.0) f.kind → ((id : ℕ) → id ≢ f.node.0 → counts_of next id ≡ counts_of map id)
     → AreCounted (fs ++ numbered fs f ∷ []) next
 one_more fs f map next so_far many room here others = record {
   each = λ kind id. elim (cases_eq id f.node.0) [
     | inl same ↦ (let is : (f.node.0 == id) ≡ true = rw same (same_eq f.node.0) in
         let more = count_more kind id (behind_first fs) (numbered fs f) in
         let all : behind_first (fs ++ numbered fs f ∷ []) ≡ behind_first fs ++ numbered fs f ∷ [] = one_behind FIRST_PIECES fs (numbered fs f) many in
-        let one = more_in (counts_in map f.node.0) f.kind kind in
+        let one = more_in (counts_of map f.node.0) f.kind kind in
         let was = so_far.each kind f.node.0 in
         let both = both_true (is_kind f.kind kind) (f.node.0 == id) is in
         rw (all, more, both, same, here) (rw (one, was) refl))

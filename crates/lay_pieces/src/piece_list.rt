@@ -1,15 +1,15 @@
 //! The pieces of a formatting context as they come, each with its part.
 
-ghost use Rattle.std.specs.Prelude.{ℕ, ◌≡◌, ◌≢◌, ◌<◌, ◌≤◌, ◌∷◌, ◌++◌, [], length, IfOk, OnErr, OnOk};
+ghost use Rattle.std.specs.Prelude.{◌≡◌, ◌<◌, ◌≤◌, ◌∷◌, ◌++◌, [], length, IfOk, OnErr, OnOk};
 ghost use Rattle.lay_pieces.specs.NearPieces.{AreNearPieces, IsRectNear};
 ghost use Rattle.lay_pieces.specs.PieceParts.{count_of, is_kind, numbered};
-ghost use Rattle.lay_pieces.specs.PieceCounts.{AreCounted, behind_first, count_in, counts_in, first_of, with_one};
+ghost use Rattle.lay_pieces.specs.PieceCounts.{AreCounted, behind_first, count_in, first_of, with_one};
 
 use crate::corner::near_position;
+use crate::node_counts::{Counts, NodeCounts};
 use lay_frag::{Frag, FragKind};
 use lay_units::{NoMemory, Rect};
 use std::alloc::Global;
-use std::collections::BTreeMap;
 use std::marker::Model;
 
 /// The most pieces of a context.
@@ -18,21 +18,13 @@ const MOST_PIECES: usize = 2147483648;
 /// How many pieces are looked at one by one. Most contexts have no more.
 const FIRST_PIECES: usize = 8;
 
-/// How many pieces a node has of each kind.
-#[derive(Clone, Copy)]
-pub struct Counts {
-    pub boxes: u32,
-    pub lines: u32,
-    pub texts: u32,
-}
-
 /// Pieces of one formatting context, each with its part. They are at most 2^31, and their edges and sizes are at most 2^60
 /// units from 0.
 #[derive(Drop)]
 pub struct PieceList {
     items: Vec<Frag>,
     /// How many each node has behind the first.
-    counts: BTreeMap<u32, Counts>,
+    counts: NodeCounts,
 }
 
 impl Model for PieceList {
@@ -53,9 +45,17 @@ impl PieceList {
     pub fn new(alloc: Global) -> PieceList
         ensures { result ≡ [] }
     {
+        PieceList::of_ids(alloc, 0, 0)
+    }
+
+    /// No piece, where most will be of nodes with ids from the first on, of which there are so many. These are counted without a
+    /// search.
+    pub fn of_ids(alloc: Global, first: u32, span: usize) -> PieceList
+        ensures { result ≡ [] }
+    {
         PieceList {
             items: Vec::new(alloc),
-            counts: BTreeMap::new(alloc),
+            counts: NodeCounts::new(alloc, first, span),
         }
     }
 
@@ -81,11 +81,7 @@ impl PieceList {
 }
 
 /// Puts one more piece behind these, of which the counts are these. On an error all stays as it is.
-fn add(
-    items: &mut Vec<Frag>,
-    counts: &mut BTreeMap<u32, Counts>,
-    piece: Frag,
-) -> Result<(), NoMemory>
+fn add(items: &mut Vec<Frag>, counts: &mut NodeCounts, piece: Frag) -> Result<(), NoMemory>
     requires counted { AreCounted items.old.items counts.old }
     requires all_near { AreNearPieces items.old.items }
     requires near { IsRectNear piece.rect }
@@ -108,7 +104,7 @@ fn add(
 /// The same behind the first pieces, of which so many are of its kind and node.
 fn add_behind(
     items: &mut Vec<Frag>,
-    counts: &mut BTreeMap<u32, Counts>,
+    counts: &mut NodeCounts,
     piece: Frag,
     first: u32,
 ) -> Result<(), NoMemory>
@@ -136,11 +132,7 @@ fn add_behind(
 }
 
 /// Counts a piece that comes behind these. How many of its kind and node were counted before.
-fn take_note(
-    counts: &mut BTreeMap<u32, Counts>,
-    items: &[Frag],
-    piece: Frag,
-) -> Result<u32, NoMemory>
+fn take_note(counts: &mut NodeCounts, items: &[Frag], piece: Frag) -> Result<u32, NoMemory>
     requires counted { AreCounted items.now counts.old }
     requires many { FIRST_PIECES ≤ length items.now }
     requires room { length items.now < 2147483648 }
@@ -149,8 +141,8 @@ fn take_note(
     ensures err { OnErr result (AreCounted items.now counts.new) }
 {
     let _ = items;
-    let node = counts_in(counts, piece.node.0);
-    put(counts, piece.node.0, with_one(node, piece.kind))?;
+    let node = counts.at(piece.node.0);
+    counts.put(piece.node.0, with_one(node, piece.kind))?;
     Ok(count_in(node, piece.kind))
 }
 
@@ -195,30 +187,6 @@ fn near_rect(rect: Rect) -> Result<Rect, NoMemory>
     let w = near_position(rect.w)?;
     let h = near_position(rect.h)?;
     Ok(Rect { x, y, w, h })
-}
-
-/// What these say of the node with this id.
-fn counts_in(counts: &BTreeMap<u32, Counts>, id: u32) -> Counts
-    ensures { result ≡ counts_in counts.now id }
-{
-    match counts.get(&id) {
-        Some(counts) => *counts,
-        None => Counts {
-            boxes: 0,
-            lines: 0,
-            texts: 0,
-        },
-    }
-}
-
-/// Notes these for the node with this id.
-fn put(counts: &mut BTreeMap<u32, Counts>, id: u32, node: Counts) -> Result<(), NoMemory>
-    ensures here { OnOk result (counts_in counts.new id ≡ node) }
-    ensures others { OnOk result ((other : ℕ) → other ≢ id → counts_in counts.new other ≡ counts_in counts.old other) }
-    ensures err { OnErr result ((other : ℕ) → counts_in counts.new other ≡ counts_in counts.old other) }
-{
-    counts.insert(id, node)?;
-    Ok(())
 }
 
 fn count_in(counts: Counts, kind: FragKind) -> u32

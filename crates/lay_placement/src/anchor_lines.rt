@@ -100,7 +100,7 @@ fn anchor_holders(alloc: Global, boxes: &ContextBoxes) -> Result<Vec<bool>, NoMe
     Ok(holders)
 }
 
-/// Gives the anchors in the box at c the tops of their lines.
+/// Gives the anchors in the box at c the tops of their lines, if it has any.
 fn put_lines(
     alloc: Global,
     tops: &mut [Option<Unit>],
@@ -120,6 +120,9 @@ fn put_lines(
         container: c,
     };
     let rows = rows_at(&places.places, c);
+    if rows.is_empty() {
+        return Ok(());
+    }
     if let Some(segments) = input.segments_at(c) {
         put_rows(tops, &of, rows, segments);
         return Ok(());

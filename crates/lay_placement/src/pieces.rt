@@ -1,6 +1,6 @@
 //! The pieces of the boxes of one formatting context.
 
-ghost use Rattle.std.specs.Prelude.{◌≡◌, ◌<◌, ◌≤◌, length, IfOk, OnOk};
+ghost use Rattle.std.specs.Prelude.{◌≡◌, ◌<◌, ◌≤◌, [], length, IfOk, OnOk};
 ghost use Rattle.std.specs.List.{flat_map};
 ghost use Rattle.lay_box_tree.specs.InlineParts.{id_at};
 ghost use Rattle.lay_sizes.specs.BoxSizes.{border_width};
@@ -46,11 +46,27 @@ pub(crate) fn pieces_of(alloc: Global, of: &Painting<'_>) -> Result<Vec<Frag>, N
     ensures near { IfOk result (λ v. AreNearPieces v.items) }
     ensures few { IfOk result (λ v. length v.items ≤ 2147483648) }
 {
-    let mut pieces = PieceList::new(alloc);
+    let mut pieces = no_pieces(alloc, of.input.boxes());
     for k in 0..of.input.boxes().len() {
         push_box(&mut pieces, of, k)?;
     }
     Ok(pieces.into_vec())
+}
+
+/// The ids of nodes lie so close together where there are at most so many for each box.
+const CLOSE: usize = 4;
+
+/// No piece of these boxes. Where the ids of their nodes lie close together, pieces are counted without a search.
+fn no_pieces(alloc: Global, boxes: &[BoxNode]) -> PieceList
+    ensures { result ≡ [] }
+{
+    let first = id_at(boxes, 0);
+    let last = id_at(boxes, boxes.len().saturating_sub(1));
+    let span = last.saturating_sub(first) as usize;
+    if span > boxes.len().saturating_mul(CLOSE) {
+        return PieceList::new(alloc);
+    }
+    PieceList::of_ids(alloc, first, span + 1)
 }
 
 /// Puts the pieces of the box at k behind these.

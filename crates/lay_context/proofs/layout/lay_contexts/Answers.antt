@@ -1,7 +1,5 @@
 use Rattle.std.proofs.Common.{◌≡◌, arith, sym, ◌∙◌}
-use Rattle.std.proofs.lemmas.Result.{IfOk-weaker}
 use Rattle.lay_positioned.specs.Levels.{HasLevels}
-use Rattle.lay_context.specs.Solves.{IsAssembled, SolvesContexts}
 use Rattle.lay_context.proofs.TaskSteps.{known, solved}
 use Rattle.lay_context.proofs.layout.lay_contexts.Goals as goal
 
@@ -23,5 +21,4 @@ returns c =
     let counted = rw same at c.level_count-level-end.ensures.count in
     let all : c.loop-level.level ≡ c.level_count-level-end.result = omega arith in
     let done = rw all at c.loop-level.invariant in
-    IfOk-weaker c.assemble.result (IsAssembled c.args.contexts.now c.loop-level.known) (SolvesContexts c.args.medium.now c.args.contexts.now)
-    (λ tree assembled. solved c.args.medium.now c.args.contexts.now c.deref.result.now c.len.ensures.are has c.grids_are_of_boxes.ensures c.loop-level.known c.level_count-level-end.result counted.above done tree assembled) c.assemble.ensures
+    solved c.args.medium.now c.args.contexts.now c.deref.result.now c.len.ensures.are has c.grids_are_of_boxes.ensures c.loop-level.known c.level_count-level-end.result counted.above done c.in_ok-tree.tree (c.in_ok-tree.ensures {u = tt})
