@@ -15,6 +15,7 @@ pub mod PlaceInputs
 pub mod SharedSteps
 pub mod ShrinkSteps
 pub mod SizedFacts
+pub mod StandingSteps
 pub mod TaskContents
 pub mod TaskInputs
 pub mod TaskOrder

@@ -28,6 +28,12 @@ abbrev pub standing_of : List FormattingContext → List PlacedContext → ℕ �
 standing_of contexts places i =
     if is_absolute contexts i then own_standing (placed_in places i) else flow_standing contexts places i
 
+-- how the first n formatting contexts stand
+pub record ArePageStandings (contexts : List FormattingContext) (places : List PlacedContext) (standings : List Standing) (n : ℕ)
+    : Type 0 where
+  pub count : length standings ≡ n
+  pub each : (i : ℕ) → i < n → standing_at standings i ≡ standing_of contexts places i
+
 -- a corner that is counted from another one
 abbrev pub beside : Corner → Corner → Corner
 beside outer inner = record { x = record { 0 = outer.x.0 +ℤ inner.x.0 }; y = record { 0 = outer.y.0 +ℤ inner.y.0 } }

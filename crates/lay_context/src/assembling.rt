@@ -3,11 +3,13 @@
 ghost use Rattle.std.specs.Prelude.{◌≡◌, ◌+◌, ◌^◌, ◌<◌, ◌≤◌, length, IfOk};
 ghost use Rattle.lay_frag.specs.Pieces.{IsContextInRange};
 ghost use Rattle.lay_pieces.specs.NearPieces.{IsRectNear};
+ghost use Rattle.lay_context.specs.PlacedContexts.{placement_in};
 ghost use Rattle.lay_context.specs.Solves.{IsAssembled, page_context, page_contexts, page_rect, page_width};
 
 use crate::known_context::KnownContext;
 use crate::laid_contexts::{ContextsOnPage, LaidContexts};
-use crate::page_corners::{corner_at, page_corners, standing_of};
+use crate::page_corners::{corner_at, page_corners};
+use crate::page_standings::{noted_standing, page_standings};
 use crate::settings::cell_of;
 use crate::values::Values;
 use lay_frag::{Placed, Tree};
@@ -24,13 +26,15 @@ const TOO_MANY_PIECES: usize = 4294967296;
 pub fn assemble<V: Values>(alloc: Global, laid: &LaidContexts<'_, V>) -> Result<Tree, NoMemory>
     ensures { IfOk result (IsAssembled laid.now.contexts.now (V.workings laid.now.known.now)) }
 {
-    let corners = page_corners(alloc, laid)?;
+    let standings = page_standings(alloc, laid)?;
+    let corners = page_corners(alloc, laid, &standings)?;
     let laid = LaidContexts {
         contexts: laid.contexts,
         known: laid.known,
     };
     let on_page = ContextsOnPage {
         laid,
+        standings: &standings,
         corners: &corners,
     };
     tree_of(alloc, &on_page)
@@ -84,17 +88,23 @@ fn page_context<V: Values>(
     ensures few { IfOk result (λ c. length c.pieces ≤ 2147483648) }
 {
     let laid = &on_page.laid;
-    let rect = page_rect(on_page, i)?;
-    let shift = standing_of(laid, i).shift;
-    let pieces = laid.known.placed(i).placement().pieces()?;
+    let placement = laid.known.placed(i).placement();
+    let rect = page_rect(on_page, i, placement.own())?;
+    let shift = noted_standing(laid, on_page.standings, i).shift;
+    let pieces = placement.pieces()?;
     let boxes = laid.contexts.at(i).boxes().as_slice();
     Ok(Placed::new(boxes[0].node, rect, shift, pieces))
 }
 
-/// The border box of the formatting context with this number on the page. NoMemory is the answer where it is wider than 2^60
-/// units, which it is in no document within the limits.
-fn page_rect<V: Values>(on_page: &ContextsOnPage<'_, '_, V>, i: usize) -> Result<Rect, NoMemory>
-    requires { i < length on_page.now.laid.contexts.now }
+/// The border box of the formatting context with this number, which has this own box, on the page. NoMemory is the answer where it
+/// is wider than 2^60 units, which it is in no document within the limits.
+fn page_rect<V: Values>(
+    on_page: &ContextsOnPage<'_, '_, V>,
+    i: usize,
+    own: OwnBox,
+) -> Result<Rect, NoMemory>
+    requires within { i < length on_page.now.laid.contexts.now }
+    requires own { own ≡ (placement_in (V.workings on_page.now.laid.known.now).places i).own }
     ensures rect { IfOk result
         (λ r. r ≡ page_rect on_page.now.laid.contexts.now (V.workings on_page.now.laid.known.now) on_page.now.corners.now i) }
     ensures near { IfOk result IsRectNear }
@@ -106,13 +116,13 @@ fn page_rect<V: Values>(on_page: &ContextsOnPage<'_, '_, V>, i: usize) -> Result
         number: i,
     };
     let corner = corner_at(on_page.corners, i);
-    let width = page_width(cell_of(&at), laid.known.placed(i).placement().own());
+    let width = page_width(cell_of(&at), own);
     let width = near_position(width)?;
     Ok(Rect {
         x: corner.x,
         y: corner.y,
         w: width,
-        h: standing_of(laid, i).height,
+        h: noted_standing(laid, on_page.standings, i).height,
     })
 }
 

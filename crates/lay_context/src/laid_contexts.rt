@@ -2,11 +2,13 @@
 
 ghost use Rattle.std.specs.Prelude.{◌≡◌, length};
 ghost use Rattle.lay_pieces.specs.Corners.{AreNearCorners};
+ghost use Rattle.lay_pieces.specs.Standings.{AreNearStandings};
+ghost use Rattle.lay_context.specs.PageCorners.{ArePageStandings};
 ghost use Rattle.lay_context.specs.Settling.{AreKnown};
 
 use crate::values::Values;
 use lay_contexts::FormattingContexts;
-use lay_pieces::Corner;
+use lay_pieces::{Corner, Standing};
 
 /// The formatting contexts of a document, with the values of all of them.
 #[derive(Drop)]
@@ -16,11 +18,14 @@ pub struct LaidContexts<'a, V: Values> {
     ghost are: { AreKnown contexts.now (V.workings known.now) },
 }
 
-/// The same, with the corner of each one's border box on the page.
+/// The same, with how each one stands, and the corner of its border box on the page.
 #[derive(Drop)]
 pub(crate) struct ContextsOnPage<'a, 'b, V: Values> {
     pub laid: LaidContexts<'a, V>,
+    pub standings: &'b [Standing],
     pub corners: &'b [Corner],
+    ghost noted: { ArePageStandings laid.contexts.now (V.workings laid.known.now).places standings.now (length laid.contexts.now) },
+    ghost standings_near: { AreNearStandings standings.now },
     ghost count: { length corners.now ≡ length laid.contexts.now },
     ghost near: { AreNearCorners corners.now },
 }

@@ -27,6 +27,7 @@ mod medium;
 mod nothing_known;
 mod own_heights;
 mod page_corners;
+mod page_standings;
 mod placed_context;
 mod plan;
 mod settings;

@@ -3,11 +3,13 @@
 ghost use Rattle.std.specs.Prelude.{◌≡◌, ◌<◌, ◌≤◌, ◌+ℤ◌, length, IfOk};
 ghost use Rattle.lay_units.specs.Units.{IsNear};
 ghost use Rattle.lay_pieces.specs.Corners.{AreNearCorners, IsCornerNear, corner_at};
-ghost use Rattle.lay_pieces.specs.Standings.{IsStandingNear, standing_at};
-ghost use Rattle.lay_context.specs.PageCorners.{HasPageCorners, beside, flow_standing, inner_corner, lowered, own_standing, standing_of};
+ghost use Rattle.lay_pieces.specs.Standings.{AreNearStandings, IsStandingNear, standing_at};
+ghost use Rattle.lay_context.specs.PageCorners.{ArePageStandings, HasPageCorners, beside, flow_standing, inner_corner, lowered};
+ghost use Rattle.lay_context.specs.PageCorners.{own_standing, standing_of};
 ghost use Rattle.lay_context.specs.PlacedContexts.{placed_in};
 
 use crate::laid_contexts::LaidContexts;
+use crate::page_standings::noted_standing;
 use crate::placed_context::PlacedContext;
 use crate::values::Values;
 use lay_pieces::{Corner, Standing, near_position};
@@ -15,18 +17,22 @@ use lay_positioned::is_absolute;
 use lay_units::{NoMemory, Unit};
 use std::alloc::Global;
 
-/// The corners of the border boxes of formatting contexts on the page, in their order.
+/// The corners of the border boxes of formatting contexts on the page, in their order, where it is noted how these stand.
 pub(crate) fn page_corners<V: Values>(
     alloc: Global,
     laid: &LaidContexts<'_, V>,
+    standings: &[Standing],
 ) -> Result<Vec<Corner>, NoMemory>
+    requires noted { ArePageStandings laid.now.contexts.now (V.workings laid.now.known.now).places standings.now
+        (length laid.now.contexts.now) }
+    requires standings_near { AreNearStandings standings.now }
     ensures corners { IfOk result (λ v. HasPageCorners laid.now.contexts.now (V.workings laid.now.known.now).places v.items) }
     ensures near { IfOk result (λ v. AreNearCorners v.items) }
 {
     let count = laid.contexts.len();
     let mut corners = Vec::with_capacity(alloc, count)?;
     for i in 0..count {
-        let corner = page_corner(laid, &corners, i)?;
+        let corner = page_corner(laid, standings, &corners, i)?;
         corners.push(corner)?;
     }
     Ok(corners)
@@ -35,9 +41,13 @@ pub(crate) fn page_corners<V: Values>(
 /// The corner of the formatting context with this number on the page, where those of the ones before it are known.
 fn page_corner<V: Values>(
     laid: &LaidContexts<'_, V>,
+    standings: &[Standing],
     corners: &[Corner],
     i: usize,
 ) -> Result<Corner, NoMemory>
+    requires noted { ArePageStandings laid.now.contexts.now (V.workings laid.now.known.now).places standings.now
+        (length laid.now.contexts.now) }
+    requires standings_near { AreNearStandings standings.now }
     requires within { i < length laid.now.contexts.now }
     requires before { i ≤ length corners.now }
     ensures first { IfOk result (λ c. i ≡ 0 → c ≡ (placed_in (V.workings laid.now.known.now).places 0).offset) }
@@ -47,16 +57,20 @@ fn page_corner<V: Values>(
     if i == 0 {
         return Ok(laid.known.placed(0).offset());
     }
-    inner_corner(laid, corners, i)
+    inner_corner(laid, standings, corners, i)
 }
 
 /// The corner of the formatting context with this number on the page, which isn't the root's, where those of the ones
 /// before it are known.
 fn inner_corner<V: Values>(
     laid: &LaidContexts<'_, V>,
+    standings: &[Standing],
     corners: &[Corner],
     i: usize,
 ) -> Result<Corner, NoMemory>
+    requires noted { ArePageStandings laid.now.contexts.now (V.workings laid.now.known.now).places standings.now
+        (length laid.now.contexts.now) }
+    requires standings_near { AreNearStandings standings.now }
     requires inner { 0 < i }
     requires within { i < length laid.now.contexts.now }
     requires before { i ≤ length corners.now }
@@ -64,9 +78,9 @@ fn inner_corner<V: Values>(
     ensures near { IfOk result IsCornerNear }
 {
     let outer = laid.contexts.at(i).outer();
-    let shift = standing_of(laid, outer).shift;
+    let shift = noted_standing(laid, standings, outer).shift;
     let content = lowered(shift, corner_at(corners, outer))?;
-    beside(content, standing_of(laid, i).corner)
+    beside(content, noted_standing(laid, standings, i).corner)
 }
 
 /// How the formatting context with this number stands.
@@ -97,7 +111,7 @@ fn flow_standing<V: Values>(laid: &LaidContexts<'_, V>, i: usize) -> Standing
     )
 }
 
-fn standing_at(standings: &[Standing], k: usize) -> Standing
+pub(crate) fn standing_at(standings: &[Standing], k: usize) -> Standing
     requires { k < length standings.now }
     ensures { result ≡ standing_at standings.now k }
 {
