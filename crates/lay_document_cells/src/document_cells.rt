@@ -114,6 +114,7 @@ impl DocumentCells {
         let _ = self.doc.doc().nodes();
         let doc = self.doc.edited(self.alloc, edits)?;
         let later = self.table.edited(self.alloc, self.doc.doc(), edits, &doc)?;
+        let made = later.made;
         let medium = medium_of(&doc, shared(&self.face)?);
         let _ = doc.nodes();
         let changed = follow_lists(
@@ -121,7 +122,7 @@ impl DocumentCells {
             &mut self.cells,
             &self.table,
             &later.table,
-            later.made,
+            made,
         )?;
         self.cells.sound();
         self.doc.become_edited(self.alloc, edits, doc);
