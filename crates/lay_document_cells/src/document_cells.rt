@@ -117,13 +117,7 @@ impl DocumentCells {
         let made = later.made;
         let medium = medium_of(&doc, shared(&self.face)?);
         let _ = doc.nodes();
-        let changed = follow_lists(
-            self.alloc,
-            &mut self.cells,
-            &self.table,
-            &later.table,
-            made,
-        )?;
+        let changed = follow_lists(self.alloc, &mut self.cells, &self.table, &later.table, made)?;
         self.cells.sound();
         self.doc.become_edited(self.alloc, edits, doc);
         self.since = since_after(self.since.take(), clean, draws, changed);

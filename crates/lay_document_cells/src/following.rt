@@ -10,9 +10,7 @@ ghost use Rattle.lay_later_contexts.specs.Links.{AreRestyled};
 ghost use Rattle.lay_document_cells.specs.Edits.{FollowsLists};
 
 use crate::document_table::DocumentTable;
-use lay_later_cells::{
-    are_of_same_nodes, changed_flags, keys_of_touched, restyled_keep_cells,
-};
+use lay_later_cells::{are_of_same_nodes, changed_flags, keys_of_touched, restyled_keep_cells};
 use lay_layout::cell_progress::{marks_count, reshapes_count, reshapes_draw};
 use lay_layout::cells::{Cells, Shape, present_shape_keeps};
 use lay_layout::units::NoMemory;
@@ -90,7 +88,12 @@ fn follow_boxes(
     present_shape_keeps::<Layout>();
     marks_count::<Layout>();
     cells.sound();
-    let keys = keys_of_touched(alloc, &before.measured_list(), &later.measured_list(), changed)?;
+    let keys = keys_of_touched(
+        alloc,
+        &before.measured_list(),
+        &later.measured_list(),
+        changed,
+    )?;
     cells.mark(&keys);
     Ok(())
 }
