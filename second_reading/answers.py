@@ -22,6 +22,8 @@ OPTIONS = {'run': {'--workers': (1, 16, False)},
            'hit': {'--x': (0, 1000000, True), '--y': (0, 1000000, True)},
            'check': {}, 'scratch': {}}
 LAID_OUT, REFUSED, USAGE, NOT_READ, NOT_WRITTEN, NO_MEMORY = range(6)
+# the greatest size of which summaries are compared: each is laid out by the second reading
+SUMMED = 3
 
 
 def options_of(words):
@@ -102,7 +104,7 @@ def verdict_fault(report, text):
 def laid_out_fault(form, given, run, text):
     """What is wrong with an answer of status 0."""
     if form == 'gen':
-        return None if given['--size'] > 3 or text == summary(given['--size'], given['--seed']) else 'another summary'
+        return None if given['--size'] > SUMMED or text == summary(given['--size'], given['--seed']) else 'another summary'
     if form == 'hit':
         return None if HIT.fullmatch(text) else 'no answer of hit'
     if form == 'check':

@@ -7,6 +7,7 @@ The draws are those of a small generator of numbers, settled by the seed.
 """
 import json
 import sys
+from itertools import combinations
 
 from batches import edits_of
 from report import report
@@ -62,13 +63,17 @@ def batches_of(edits):
     return [{'do': 'batch', 'edits': edits[first:first + EDITS_OF_A_BATCH]} for first in range(0, len(edits), EDITS_OF_A_BATCH)]
 
 
-def edited(run):
-    """The document after all edits of a generated run, no two of which touch one node, and how many commands are accepted."""
-    commands = [command for script in run['editors'] for command in script if command['do'] != 'sync']
+def commands_of(run):
+    """The commands of a generated run that edit."""
+    return [command for script in run['editors'] for command in script if command['do'] != 'sync']
+
+
+def edited(run, commands):
+    """The document after these commands of a generated run, no two of which touch one node."""
     values = {edit['node']: edit['value'] for command in commands for edit in edits_of(command)}
     nodes = [dict(node, style={**node['style'], 'padding-left': values[node['id']]}) if node['id'] in values else node
              for node in run['nodes']]
-    return {'viewport': run['viewport'], 'nodes': nodes}, len(commands)
+    return {'viewport': run['viewport'], 'nodes': nodes}
 
 
 def mark(pieces):
@@ -82,9 +87,22 @@ def mark(pieces):
 
 def summary(size, seed):
     """The four lines of `lay gen`."""
-    document, accepted = edited(generated_run(size, seed))
+    run = generated_run(size, seed)
+    return summary_of(run, commands_of(run))
+
+
+def lacking_summaries(size, seed):
+    """The lines that it may write where memory is wanting: a command that lacks it is not accepted, and changes nothing."""
+    run = generated_run(size, seed)
+    commands = commands_of(run)
+    return {summary_of(run, some) for count in range(len(commands) + 1) for some in combinations(commands, count)}
+
+
+def summary_of(run, accepted):
+    """The four lines of a generated run of which these commands are accepted."""
+    document = edited(run, accepted)
     pieces = report(document).splitlines()[2:]
-    return 'nodes %d\naccepted %d\npieces %d\nmark %d\n' % (len(document['nodes']), accepted, len(pieces), mark(pieces))
+    return 'nodes %d\naccepted %d\npieces %d\nmark %d\n' % (len(document['nodes']), len(accepted), len(pieces), mark(pieces))
 
 
 def main():

@@ -4,7 +4,7 @@ import unittest
 
 from declarations import declaration_fault
 from edits import Document
-from generator import summary
+from generator import lacking_summaries, summary
 from histories import are_in_turns, first_fault
 from run_documents import possible_report, run_document
 
@@ -111,6 +111,10 @@ class Declarations(unittest.TestCase):
 class Generator(unittest.TestCase):
     def test_summary(self):
         self.assertEqual('nodes 5\naccepted 1\npieces 6\nmark 2786056128\n', summary(1, 1))
+
+    def test_summaries_without_memory(self):
+        self.assertEqual([['accepted 0'], ['accepted 1']], sorted(text.splitlines()[1:2] for text in lacking_summaries(1, 1)))
+        self.assertIn(summary(2, 1), lacking_summaries(2, 1))
 
 
 if __name__ == '__main__':

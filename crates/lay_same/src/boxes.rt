@@ -117,5 +117,5 @@ fn is_cell_of(kind: &BoxKind, columns: u32, rows: u32) -> bool
 pub fn same_text(a: &Text, b: &Text) -> bool
     ensures { IsTrue result ↔ (a.now ≡ b.now) }
 {
-    a.as_str().as_bytes() == b.as_str().as_bytes()
+    a.as_str() == b.as_str()
 }
