@@ -27,8 +27,7 @@ use Rattle.lay_list_steps.specs.cell_work.CellLocal.{IsCellLocal}
 use Rattle.lay_list_steps.specs.cell_laws.DocumentCells.{AreDocumentCells}
 use Rattle.lay_list_steps.specs.cell_laws.SoundCells.{CellState}
 use Rattle.lay_list_steps.specs.changes.ContextFlags.{ContextLists}
-use Rattle.lay_later_cells.proofs.SameShape.{shapes_stay}
-use Rattle.lay_later_contexts.specs.Links.{AreRestyled}
+use Rattle.lay_later_cells.specs.KeptBoxes.{KeepCells}
 use Rattle.lay_settled_cells.specs.Laws.{ClaimsKeepSince, EditsBeginSince, EditsKeepSince, FinishesKeepSince, GiveBacksKeepSince}
 use Rattle.lay_settled_cells.specs.Since.{IsSince, Since}
 use Rattle.lay_document_cells.specs.Edits.{FollowsLists}
@@ -46,11 +45,11 @@ module _ (medium : Medium) (contexts : List Context) (cells t : CellState) (sinc
   pub back_known : GiveBacksKeepSince → (key : CellKey) (number : ℕ) (a : Released) → GivesBackIn cells key number a t → IfSome since (IsSince medium contexts t)
   back_known law key number a h = IfSome_then since known (λ x is. law medium contexts cells t x key number a is h)
 
--- where the contexts keep their links, cells that follow them are marked, and keep their shape
-module _ (before later : ContextLists) (s t : CellState) (made : List Bool) (restyled : AreRestyled before.contexts later.contexts made)
+-- where the cells keep their shape, those that follow are marked
+module _ (before later : ContextLists) (s t : CellState) (made : List Bool) (kept : KeepCells before.contexts later.contexts made)
     (shaped : map entry_of s.rows ≡ shape_of before.contexts) (sound : IsSound IsCellLocal s) (follows : FollowsLists before later s t) where
   shape_stays : map entry_of s.rows ≡ shape_of later.contexts
-  shape_stays = shaped ∙ sym (shapes_stay before.contexts later.contexts made restyled)
+  shape_stays = shaped ∙ sym kept.shape
 
   shape_is : IsShape (shape_of later.contexts)
   shape_is = subst (λ (es : List (Entry CellKey)). IsShape es) shape_stays sound.shaped
@@ -72,16 +71,16 @@ some_map f (Some x) P h = h
 
 -- of as many contexts
 pub counts_fit : (medium : Medium) (contexts later : List Context) (cells : CellState) (was : Option Since) (made : Option (List Bool))
-    → IfSome was (IsSince medium contexts cells) → IfSome made (AreRestyled contexts later) → HaveCount was made
+    → IfSome was (IsSince medium contexts cells) → IfSome made (KeepCells contexts later) → HaveCount was made
 counts_fit medium contexts later cells was made known flags =
-    IfSome_then was known (λ x is. IfSome_then made flags (λ v are. (let e = is.restyled.flags in let n = is.restyled.count in let m = are.flags in omega (arith, e, n, m))))
+    IfSome_then was known (λ x is. IfSome_then made flags (λ v are. (let e = is.same.boxes.flags in let n = is.same.boxes.nodes.count in let m = are.boxes.flags in omega (arith, e, n, m))))
 
 -- what is known after an edit
 module _ (begins : EditsBeginSince) (keeps : EditsKeepSince) (d e : Document) (face : FaceValue) (medium : Medium) (before later : ContextLists)
     (s t : CellState) (cells : AreDocumentCells d face before.contexts before.formatting_contexts s) (follows : FollowsLists before later s t)
     (is : medium ≡ medium_of d face) (same : medium_of d face ≡ medium_of e face) where
   step : (was : Option Since) (clean : Bool) (made : Option (List Bool)) → IfSome was (IsSince medium before.contexts s) → (IsTrue clean → AllClean s.rows)
-      → IfSome made (AreRestyled before.contexts later.contexts) → IfSome (since_edit was clean s.draws made) (IsSince (medium_of d face) later.contexts t)
+      → IfSome made (KeepCells before.contexts later.contexts) → IfSome (since_edit was clean s.draws made) (IsSince (medium_of d face) later.contexts t)
   step None clean None known settled flags = tt
   step (Some x) clean None known settled flags = tt
   step None true (Some made) known settled flags =
@@ -96,7 +95,7 @@ module _ (begins : EditsBeginSince) (keeps : EditsKeepSince) (d e : Document) (f
       (only_marked before later s t made flags cells.shaped cells.cells.sound follows) (none_drawn before later s t made flags cells.shaped cells.cells.sound follows)
 
   pub edit_known : (was : Option Since) (clean : Bool) (made : Option (List Bool)) → IfSome was (IsSince medium before.contexts s) → (IsTrue clean → AllClean s.rows)
-      → IfSome made (AreRestyled before.contexts later.contexts) → (m : Medium) → m ≡ medium_of e face → (since : Option Since) → since ≡ since_edit was clean s.draws made
+      → IfSome made (KeepCells before.contexts later.contexts) → (m : Medium) → m ≡ medium_of e face → (since : Option Since) → since ≡ since_edit was clean s.draws made
       → IfSome since (IsSince m later.contexts t)
   edit_known was clean made known settled flags m m_is since since_is =
       subst (λ (o : Option Since). IfSome o (IsSince m later.contexts t)) (sym since_is)

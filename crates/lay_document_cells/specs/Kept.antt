@@ -32,7 +32,7 @@ pub record IsKeptWith (s : State) (medium : Medium) (table : TableValue) (since 
   pub known : IfSome since (IsSince medium table.lists.contexts s.cells)
 
 -- what is known after an edit, where this was known before it, all cells were clean then or not, so many numbers were drawn, and the boxes
--- of these contexts were made anew, if the contexts keep their links
+-- of these contexts may have changed, if the cells keep their shape
 abbrev pub since_edit : Option Since → Bool → ℕ → Option (List Bool) → Option Since
 since_edit was clean draws None = None
 since_edit was true draws (Some made) = Some record { number = draws; changed = made }

@@ -114,12 +114,13 @@ impl DocumentCells {
         let _ = self.doc.doc().nodes();
         let doc = self.doc.edited(self.alloc, edits)?;
         let later = self.table.edited(self.alloc, self.doc.doc(), edits, &doc)?;
+        let made = later.made;
         let medium = medium_of(&doc, shared(&self.face)?);
         let _ = doc.nodes();
-        follow_lists(self.alloc, &mut self.cells, &self.table, &later)?;
+        let changed = follow_lists(self.alloc, &mut self.cells, &self.table, &later.table, made)?;
         self.cells.sound();
         self.doc.become_edited(self.alloc, edits, doc);
-        self.since = since_after(self.since.take(), clean, draws, later.made);
+        self.since = since_after(self.since.take(), clean, draws, changed);
         self.table = later.table;
         self.medium = medium;
         Ok(())

@@ -5,26 +5,26 @@ ghost use Rattle.lay_document_cells.specs.Kept.{HaveCount, since_edit};
 
 use lay_settled_cells::Since;
 
-/// It is known from the edit on, where all cells were clean before it, and else since it was. Where the contexts don't keep their links
+/// It is known from the edit on, where all cells were clean before it, and else since it was. Where cells don't keep their shape
 /// nothing is known.
 pub(crate) fn since_after(
     was: Option<Since>,
     clean: bool,
     draws: u64,
-    made: Option<Vec<bool>>,
+    changed: Option<Vec<bool>>,
 ) -> Option<Since>
-    requires { HaveCount was (option_map (λ v. v.items) made) }
-    ensures { result ≡ since_edit was clean draws (option_map (λ v. v.items) made) }
+    requires { HaveCount was (option_map (λ v. v.items) changed) }
+    ensures { result ≡ since_edit was clean draws (option_map (λ v. v.items) changed) }
 {
-    let Some(made) = made else {
+    let Some(changed) = changed else {
         return None;
     };
     if clean {
-        return Some(Since::new(draws, made));
+        return Some(Since::new(draws, changed));
     }
     let Some(mut since) = was else {
         return None;
     };
-    since.also(made.as_slice());
+    since.also(changed.as_slice());
     Some(since)
 }

@@ -5,19 +5,22 @@ use Rattle.lay_layout.specs.contexts.Contexts.{Context, boxes_in}
 use Rattle.lay_layout.specs.contexts.FormattingContexts.{FormattingContext}
 use Rattle.lay_changes.specs.ContextFlags.{AreContextFlags}
 use Rattle.lay_changes.specs.TouchedContexts.{IsUntouched, IsUntouchedFrom}
-use Rattle.lay_later_contexts.specs.Links.{AreRestyled, is_made}
-use Rattle.lay_shape.specs.Keys.{AreOfOwnNodes}
-use Rattle.lay_later_cells.proofs.SameLinks.{same-node}
+use Rattle.lay_later_contexts.specs.Links.{is_made}
+use Rattle.lay_later_cells.specs.KeptBoxes.{KeepBoxes}
+use Rattle.lay_shape.specs.Keys.{AreOfOwnNodes, node_of}
 
-module _ (contexts later : List Context) (all rest : List FormattingContext) (made measured others : List Bool) (are : AreRestyled contexts later made)
+module _ (contexts later : List Context) (all rest : List FormattingContext) (made measured others : List Bool) (are : KeepBoxes contexts later made)
     (apart : AreOfOwnNodes contexts) (flags : AreContextFlags contexts all measured) (later_flags : AreContextFlags later rest others) (j : ℕ) (lt : j < length later) where
   before : j < length contexts
-  before = omega (arith, lt, are.count)
+  before = omega (arith, lt, are.nodes.count)
+
+  same-node : node_of later j ≡ node_of contexts j
+  same-node = are.nodes.each j before
 
   -- it is from where it was
   by-itself : IsUntouched contexts later all rest j → IsUntouchedFrom contexts later all rest j j
   by-itself u =
-      let e = apart u.0 j u.1.within before (u.1.node ∙ same-node contexts later made are j) in
+      let e = apart u.0 j u.1.within before (u.1.node ∙ same-node) in
       subst (λ (i : ℕ). IsUntouchedFrom contexts later all rest i j) e u.1
 
   pub same-measured : IsUntouched contexts later all rest j → flag_at measured j ≡ flag_at others j
@@ -31,7 +34,7 @@ module _ (contexts later : List Context) (all rest : List FormattingContext) (ma
     j,
     record {
       within = before;
-      node = sym (same-node contexts later made are j);
+      node = sym same-node;
       boxes = boxes;
       measured = sym (flags.each j before) ∙ (e ∙ later_flags.each j lt);
     },

@@ -1,1 +1,2 @@
 pub mod ShapesStay
+pub mod KeptBoxes

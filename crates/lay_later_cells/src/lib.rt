@@ -1,11 +1,14 @@
-//! What an edit does to the cells of a document whose contexts keep their links (CSS 2.2, 9.4.1): they keep their shape (law
-//! `shapes_stay`), and of touched contexts just those are asked for whose boxes were made anew.
+//! What an edit does to the cells of a document where it leaves which contexts there are (CSS 2.2, 9.4.1). Contexts that keep their links
+//! keep the shape of their cells (law `shapes_stay`); else their nodes and shape are compared. Of touched contexts just those are asked for
+//! whose boxes were made anew or changed.
 #![tactic(auto)]
 
+mod kept_boxes;
 mod laws;
 mod measured_list;
-mod restyled_keys;
+mod touched_keys;
 
-pub use laws::shapes_stay;
+pub use kept_boxes::{are_of_same_nodes, changed_flags};
+pub use laws::{restyled_keep_cells, shapes_stay};
 pub use measured_list::MeasuredList;
-pub use restyled_keys::keys_of_restyled;
+pub use touched_keys::keys_of_touched;

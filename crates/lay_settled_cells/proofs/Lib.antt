@@ -1,6 +1,6 @@
 pub mod EitherFlags
 pub mod KeptRows
 pub mod NeedPlaces
-pub mod RestyledTwice
+pub mod KeptTwice
 pub mod SinceSteps
 pub mod UnchangedInputs

@@ -8,7 +8,7 @@ use Rattle.lay_cell_steps.specs.cell_laws.SoundCells.{CellState}
 use Rattle.lay_settled_cells.specs.Laws.{ClaimsKeepSince, EditsBeginSince, EditsKeepSince, FinishesKeepSince, GiveBacksKeepSince}
 use Rattle.lay_settled_cells.specs.Since.{IsSince, KeepSince, Since}
 use Rattle.lay_settled_cells.proofs.KeptRows.{back_keeps, claim_keeps, clean_keeps, finish_keeps, marks_keep}
-use Rattle.lay_settled_cells.proofs.RestyledTwice.{restyled_twice}
+use Rattle.lay_settled_cells.proofs.KeptTwice.{kept_twice}
 
 -- the cells became others, of which the same is known
 moved : (medium : Medium) (contexts : List Context) (s t : CellState) (since : Since) (is : IsSince medium contexts s since) → s.draws ≤ t.draws
@@ -21,7 +21,7 @@ moved medium contexts s t since is more keep = record {
   medium_is = is.medium_is;
   were = is.were;
   clean = is.clean;
-  restyled = is.restyled;
+  same = is.same;
   drawn = (let low = is.drawn in omega (arith, low, more));
   keep = keep;
 }
@@ -53,7 +53,7 @@ give_backs_keep_since_lem medium contexts s t since key number a is (inr h) =
     (subst (KeepSince since.number is.settled.rows) (sym rows) (back_keeps since.number is.settled.rows s.rows is.keep h.0 h.1 h.2 h.3.0 number a h.4))
 
 pub edits_keep_since_lem : EditsKeepSince
-edits_keep_since_lem medium contexts later s t since made keys is restyled marks drawn = record {
+edits_keep_since_lem medium contexts later s t since made keys is same marks drawn = record {
   document = is.document;
   face = is.face;
   before = is.before;
@@ -61,13 +61,13 @@ edits_keep_since_lem medium contexts later s t since made keys is restyled marks
   medium_is = is.medium_is;
   were = is.were;
   clean = is.clean;
-  restyled = restyled_twice is.before.contexts contexts later since.changed made is.restyled restyled;
+  same = kept_twice is.before.contexts contexts later since.changed made is.same same;
   drawn = (let low = is.drawn in omega (arith, low, drawn));
   keep = marks_keep since.number is.settled.rows s.rows is.keep t.rows keys marks;
 }
 
 pub edits_begin_since_lem : EditsBeginSince
-edits_begin_since_lem d face contexts later all s t made keys cells clean restyled marks drawn = record {
+edits_begin_since_lem d face contexts later all s t made keys cells clean same marks drawn = record {
   document = d;
   face = face;
   before = record { contexts = contexts; formatting_contexts = all };
@@ -75,7 +75,7 @@ edits_begin_since_lem d face contexts later all s t made keys cells clean restyl
   medium_is = refl;
   were = cells;
   clean = clean;
-  restyled = restyled;
+  same = same;
   drawn = omega (arith, drawn);
   keep = marks_keep s.draws s.rows s.rows (clean_keeps s cells.cells.sound clean) t.rows keys marks;
 }

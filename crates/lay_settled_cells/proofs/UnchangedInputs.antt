@@ -8,6 +8,7 @@ use Rattle.lay_layout.specs.cells.Shapes.{Entry, IsIn}
 use Rattle.lay_layout.specs.cells.Steps.{HasKept}
 use Rattle.lay_layout.proofs.lay_cells.Lists.{map_at, one_at, some_inj}
 use Rattle.lay_layout.specs.contexts.Contexts.{Context}
+use Rattle.lay_layout.specs.doc.declared.node.NodeId.{NodeId}
 use Rattle.lay_layout.specs.contexts.FormattingContexts.{FormattingContext}
 use Rattle.lay_layout.specs.context.declared.task.Phase.{Phase}
 use Rattle.lay_layout.specs.context.Medium.{Medium}
@@ -30,10 +31,12 @@ use Rattle.lay_cell_steps.specs.cell_laws.SoundCells.{CellRow, CellState, input_
 use Rattle.lay_cell_steps.proofs.ChangedRow.{apart, counted, in_order}
 use Rattle.lay_cell_steps.proofs.InputsBeside.{is_table, table}
 use Rattle.lay_cell_steps.proofs.RowsOfContexts.{needs_are, same_context, same_phase, value_is}
-use Rattle.lay_later_cells.proofs.SameShape.{keys-stay, shapes_stay}
 use Rattle.lay_later_contexts.specs.Links.{is_made}
 use Rattle.lay_settled_cells.specs.Laws.{UnchangedCellsKeepInputs}
 use Rattle.lay_settled_cells.specs.Since.{IsSince, IsUnchanged, KeepsThen, Since}
+
+abbrev key_by : NodeId → Phase → CellKey
+key_by node phase = record { node = node; phase = phase }
 
 module _ (kept : InputsAreKept) (d : Document) (face : FaceValue) (contexts : List Context) (all : List FormattingContext) (s : CellState) (since : Since)
     (cells : AreDocumentCells d face contexts all s) (is : IsSince (medium_of d face) contexts s since) where
@@ -47,13 +50,13 @@ module _ (kept : InputsAreKept) (d : Document) (face : FaceValue) (contexts : Li
   Now = table contexts all s.rows
 
   was_within : (c : ℕ) → c < length contexts → c < length Was
-  was_within c lt = let e = is.restyled.count in omega (arith, lt, e)
+  was_within c lt = let e = is.same.boxes.nodes.count in omega (arith, lt, e)
 
-  keys : (c : ℕ) (p : Phase) → key_of contexts c p ≡ key_of Was c p
-  keys c p = keys-stay Was contexts since.changed is.restyled (in_phase p c)
+  keys : (c : ℕ) (p : Phase) → c < length contexts → key_of contexts c p ≡ key_of Was c p
+  keys c p lt = ap (λ (n : NodeId). key_by n p) (is.same.boxes.nodes.each c (was_within c lt))
 
   entries : map entry_of s.rows ≡ map entry_of is.settled.rows
-  entries = cells.shaped ∙ shapes_stay Was contexts since.changed is.restyled ∙ sym is.were.shaped
+  entries = cells.shaped ∙ is.same.shape ∙ sym is.were.shaped
 
   -- a row is of the cell of the one that was there
   same_entry : (place : ℕ) (r q : CellRow) → slice_get s.rows place ≡ Some r → slice_get is.settled.rows place ≡ Some q → entry_of r ≡ entry_of q
@@ -74,7 +77,7 @@ module _ (kept : InputsAreKept) (d : Document) (face : FaceValue) (contexts : Li
     within = was_within c lt;
     there = lt;
     root = (λ z. z, λ z. z);
-    boxes = sym (is.restyled.kept c (was_within c lt) same);
+    boxes = sym (is.same.boxes.kept c (was_within c lt) same);
   }
 
   -- of a cell that keeps what it kept
@@ -95,7 +98,7 @@ module _ (kept : InputsAreKept) (d : Document) (face : FaceValue) (contexts : Li
     old = is.keep.kept place k.row k.done k.there k.kept k.number
 
     old_key : old.0.key ≡ key_of Was CellContext CellPhase
-    old_key = ap (λ (e : Entry CellKey). e.key) (sym (same_entry place k.row old.0 k.there old.1)) ∙ now_key ∙ keys CellContext CellPhase
+    old_key = ap (λ (e : Entry CellKey). e.key) (sym (same_entry place k.row old.0 k.there old.1)) ∙ now_key ∙ keys CellContext CellPhase cell_there
 
     same_value : kept_value is.settled.rows Was CellContext CellPhase ≡ kept_value s.rows contexts CellContext CellPhase
     same_value =
@@ -113,7 +116,7 @@ module _ (kept : InputsAreKept) (d : Document) (face : FaceValue) (contexts : Li
         let found : key_of contexts CellContext CellPhase ≡ key_of contexts y needed = sym now_key ∙ row in
         let number : CellContext ≡ y = same_context contexts (apart d face contexts all s cells) CellContext y CellPhase needed cell_there in_y found in
         let phase : CellPhase ≡ needed = same_phase contexts CellContext y CellPhase needed found in
-        let before : x ≡ y = same_context Was (apart is.document is.face Was is.before.formatting_contexts is.settled is.were) x y needed needed in_x (was_within y in_y) (key ∙ keys y needed) in
+        let before : x ≡ y = same_context Was (apart is.document is.face Was is.before.formatting_contexts is.settled is.were) x y needed needed in_x (was_within y in_y) (key ∙ keys y needed in_y) in
         subst (λ (n : ℕ). IsSameCell Then Now n y needed) (sym before)
         (subst (λ (n : ℕ). IsSameCell Then Now n n needed) number (subst (λ (p : Phase). IsSameCell Then Now CellContext CellContext p) phase same_cell))
 

@@ -1,5 +1,6 @@
--- What is known of cells since all of them were clean is kept by claims, by what comes of them, and by edits that leave the contexts but
--- for the styles and texts of their boxes; and what it is good for: an unchanged cell keeps what it would be given now (CSS 2.2, 9.4.1).
+-- What is known of cells since all of them were clean is kept by claims, by what comes of them, and by edits that leave which contexts
+-- there are and how their cells depend on each other; and what it is good for: an unchanged cell keeps what it would be given now
+-- (CSS 2.2, 9.4.1).
 use Rattle.std.specs.Prelude.{ℕ, ◌≡◌, ◌<◌, Bool, List, length}
 use Rattle.lay_layout.specs.doc.Document.{Document}
 use Rattle.lay_layout.specs.face.FaceValue.{FaceValue}
@@ -22,14 +23,14 @@ use Rattle.lay_cell_steps.specs.cell_work.CellValues.{CellValue}
 use Rattle.lay_cell_steps.specs.cell_work.PresentInputs.{key_of}
 use Rattle.lay_cell_steps.specs.cell_laws.DocumentCells.{AreDocumentCells}
 use Rattle.lay_cell_steps.specs.cell_laws.SoundCells.{CellRow, CellState, input_now}
-use Rattle.lay_later_contexts.specs.Links.{AreRestyled}
+use Rattle.lay_later_cells.specs.KeptBoxes.{KeepCells}
 use Rattle.lay_settled_cells.specs.Since.{IsSince, IsUnchanged, Since, either}
 
--- where all cells are clean it begins with an edit: cells are marked, and the boxes of some contexts are made anew
+-- where all cells are clean it begins with an edit: cells are marked, and the boxes of some contexts may change
 abbrev pub EditsBeginSince : Type 0
 EditsBeginSince = (d : Document) (face : FaceValue) (contexts later : List Context) (all : List FormattingContext) (s t : CellState)
     (made : List Bool) (keys : List CellKey) → AreDocumentCells d face contexts all s → AllClean s.rows
-    → AreRestyled contexts later made → Marks s.rows keys t.rows → t.draws ≡ s.draws
+    → KeepCells contexts later made → Marks s.rows keys t.rows → t.draws ≡ s.draws
     → IsSince (medium_of d face) later t (record { number = s.draws; changed = made })
 
 abbrev pub ClaimsKeepSince : Type 0
@@ -51,7 +52,7 @@ GiveBacksKeepSince = (medium : Medium) (contexts : List Context) (s t : CellStat
 abbrev pub EditsKeepSince : Type 0
 EditsKeepSince = (medium : Medium) (contexts later : List Context) (s t : CellState) (since : Since)
     (made : List Bool) (keys : List CellKey)
-    → IsSince medium contexts s since → AreRestyled contexts later made → Marks s.rows keys t.rows → t.draws ≡ s.draws
+    → IsSince medium contexts s since → KeepCells contexts later made → Marks s.rows keys t.rows → t.draws ≡ s.draws
     → IsSince medium later t (record { number = since.number; changed = either since.changed made })
 
 -- the row is of the cell of a context, and keeps what this would be given now

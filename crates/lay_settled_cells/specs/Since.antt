@@ -1,5 +1,5 @@
 -- What is known of the cells of a document since all of them were clean: then each kept what it was given (CSS 2.2, 9.4.1). Edits since
--- then left the contexts but for the styles and texts of their boxes, and of some it is noted that these were made anew.
+-- then left which contexts there are and how their cells depend on each other, and of some it is noted that their boxes may have changed.
 use Rattle.std.specs.Prelude.{ℕ, ◌≡◌, ◌≢◌, ◌≤◌, ◌<◌, ◌||◌, Bool, false, List, [], ◌∷◌, slice_get, Some}
 use Rattle.lay_layout.specs.doc.Document.{Document}
 use Rattle.lay_layout.specs.face.FaceValue.{FaceValue}
@@ -19,9 +19,10 @@ use Rattle.lay_cell_steps.specs.cell_work.CellInputs.{CellInput}
 use Rattle.lay_cell_steps.specs.cell_work.CellValues.{CellValue}
 use Rattle.lay_cell_steps.specs.cell_laws.DocumentCells.{AreDocumentCells}
 use Rattle.lay_cell_steps.specs.cell_laws.SoundCells.{CellRow, CellState}
-use Rattle.lay_later_contexts.specs.Links.{AreRestyled, is_made}
+use Rattle.lay_later_cells.specs.KeptBoxes.{KeepCells}
+use Rattle.lay_later_contexts.specs.Links.{is_made}
 
--- the greatest number that was drawn then, and for each context whether its boxes were made anew since
+-- the greatest number that was drawn then, and for each context whether its boxes may have changed since
 pub record Since : Type 0 where
   pub number : ℕ
   pub changed : List Bool
@@ -46,7 +47,7 @@ pub record IsSince (medium : Medium) (contexts : List Context) (s : CellState) (
   pub medium_is : medium ≡ medium_of document face
   pub were : AreDocumentCells document face before.contexts before.formatting_contexts settled
   pub clean : AllClean settled.rows
-  pub restyled : AreRestyled before.contexts contexts since.changed
+  pub same : KeepCells before.contexts contexts since.changed
   pub drawn : since.number ≤ s.draws
   pub keep : KeepSince since.number settled.rows s.rows
 

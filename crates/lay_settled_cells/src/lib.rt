@@ -2,7 +2,7 @@
 //! were given then, so that no input need be made of them, and none compared.
 //!
 //! Only an edit dirties cells. So at an edit of a document whose cells are all clean it is noted how many numbers were drawn (`Since`), and
-//! of which contexts the boxes are made anew. A pair that is kept under a number up to that is the one that was kept then, as each claim
+//! of which contexts the boxes may change. A pair that is kept under a number up to that is the one that was kept then, as each claim
 //! draws a greater one. Where the cell of a context that keeps its boxes keeps such a pair, and so does each cell that it depends on, it is
 //! given what it was (`specs/Since.antt`, `specs/Laws.antt`).
 #![tactic(auto)]

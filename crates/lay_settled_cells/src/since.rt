@@ -11,7 +11,7 @@ use lay_layout::cells::Cells;
 use lay_layout::context::Phase;
 use std::marker::Model;
 
-/// The greatest number that was drawn when all cells were clean, and for each context whether its boxes were made anew since.
+/// The greatest number that was drawn when all cells were clean, and for each context whether its boxes may have changed since.
 #[derive(Drop)]
 pub struct Since {
     number: u64,
@@ -38,14 +38,14 @@ fn is_measure(phase: Phase) -> bool
 }
 
 impl Since {
-    /// From when so many numbers were drawn, where the boxes of these contexts are made anew.
+    /// From when so many numbers were drawn, where the boxes of these contexts may change.
     pub fn new(number: u64, changed: Vec<bool>) -> Since
         ensures { result ≡ record { number = number; changed = changed.items } }
     {
         Since { number, changed }
     }
 
-    /// The boxes of these contexts are made anew too.
+    /// The boxes of these contexts may change too.
     pub fn also(&mut self, made: &[bool])
         requires { length made.now ≡ length self.old.changed }
         ensures { self.new ≡ record { number = self.old.number; changed = either self.old.changed made.now } }

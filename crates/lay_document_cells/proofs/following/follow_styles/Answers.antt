@@ -1,7 +1,10 @@
-use Rattle.std.proofs.Common.{arith}
 use Rattle.lay_document_cells.proofs.following.follow_styles.Goals as goal
 
-pub returns-clause-counted : goal.returns-clause-counted
-returns-clause-counted c =
-    let marked = c.marks_count.ensures c.args.cells.now.rows c.mark.new.self.rows _ c.mark.ensures.rows in
-    omega (arith, marked)
+pub follow_boxes-requires-clause-boxes : goal.follow_boxes-requires-clause-boxes
+follow_boxes-requires-clause-boxes c = (c.restyled_keep_cells.ensures _ _ _ c.requires.made).boxes
+
+pub follow_boxes-requires-clause-shape : goal.follow_boxes-requires-clause-shape
+follow_boxes-requires-clause-shape c = (c.restyled_keep_cells.ensures _ _ _ c.requires.made).shape
+
+pub returns-clause-kept : goal.returns-clause-kept
+returns-clause-kept c = c.restyled_keep_cells.ensures _ _ _ c.requires.made

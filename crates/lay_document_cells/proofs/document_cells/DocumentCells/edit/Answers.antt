@@ -6,7 +6,7 @@ use Rattle.lay_layout.specs.doc.declared.edit.Edit.{Edit}
 use Rattle.lay_layout.specs.edit_lists.EditLists.{first}
 use Rattle.lay_layout.specs.cells.Reads.{AllClean}
 use Rattle.lay_list_steps.proofs.Viewports.{one_medium_of_all}
-use Rattle.lay_later_contexts.specs.Links.{AreRestyled}
+use Rattle.lay_later_cells.specs.KeptBoxes.{KeepCells}
 use Rattle.lay_settled_cells.specs.Since.{IsSince, Since}
 use Rattle.lay_document_cells.specs.Kept.{since_edit}
 use Rattle.lay_document_cells.specs.State.{AreStyledLists, State}
@@ -28,9 +28,9 @@ follow_lists-requires-clause-later_apart c =
 pub since_after-requires : goal.since_after-requires
 since_after-requires c =
     counts_fit c.self.inside.medium c.self.inside.table.lists.contexts c.in_ok-later.later.table.lists.contexts c.self.inside.cells c.take.result
-    (option_map (λ v. v.items) c.in_ok-later.later.made)
+    (option_map (λ v. v.items) c.in_ok-changed.changed)
     (subst (λ (o : Option Since). IfSome o (IsSince c.self.inside.medium c.self.inside.table.lists.contexts c.self.inside.cells)) (sym c.take.ensures.value) c.self.invariant.known)
-    (some_map (λ v. v.items) c.in_ok-later.later.made (AreRestyled c.self.inside.table.lists.contexts c.in_ok-later.later.table.lists.contexts) c.in_ok-later.ensures.made)
+    (some_map (λ v. v.items) c.in_ok-changed.changed (KeepCells c.self.inside.table.lists.contexts c.in_ok-later.later.table.lists.contexts) c.in_ok-changed.ensures.kept)
 
 pub invariant_of-self-2 : goal.invariant_of-self-2
 invariant_of-self-2 c =
@@ -42,22 +42,22 @@ invariant_of-self-2 c =
     record {
       kept = edit_kept c.self.inside.doc c.self.inside.face.value c.self.inside.cells c.self.inside.laid c.self.inside.medium c.self.inside.table c.self.invariant.kept
           c.args.edits.now c.become_edited.new.self after
-          c.in_ok-later.later.table lists c.follow_lists.new.cells c.in_ok-follow_lists.ensures.ok
+          c.in_ok-later.later.table lists c.follow_lists.new.cells c.in_ok-changed.ensures.ok
           c.lists_keep_cells.ensures c.touched_contexts_are_listed.ensures
           (subst (λ (es : List Edit). All PutsNode es) c.as_slice.ensures.edits c.put_nodes.ensures)
           (rw c.in_ok-doc.was at c.edited.ensures.answer) c.sound.ensures
           c.medium_of-medium.result medium
-          c.in_ok-follow_lists.ensures.counted c.in_ok-follow_lists.ensures.drawn;
+          c.in_ok-changed.ensures.counted c.in_ok-changed.ensures.drawn;
       known = edit_known c.edits_begin_since.ensures c.edits_keep_since.ensures c.self.inside.doc c.become_edited.new.self c.self.inside.face.value c.self.inside.medium
           c.self.inside.table.lists c.in_ok-later.later.table.lists c.self.inside.cells c.follow_lists.new.cells c.self.invariant.kept.cells
-          c.in_ok-follow_lists.ensures.ok c.self.invariant.kept.medium_is
+          c.in_ok-changed.ensures.ok c.self.invariant.kept.medium_is
           (one_medium_of_all c.self.inside.doc c.args.edits.now c.self.inside.face.value ∙ ap (λ (x : Document). medium_of x c.self.inside.face.value) (sym after))
-          c.self.inside.since c.is_settled-clean.result (option_map (λ v. v.items) c.in_ok-later.later.made) c.self.invariant.known
+          c.self.inside.since c.is_settled-clean.result (option_map (λ v. v.items) c.in_ok-changed.changed) c.self.invariant.known
           (λ t. subst (λ (x : State). AllClean x.cells.rows) (sym c.self.view_is) (c.is_settled-clean.ensures.0 t))
-          (some_map (λ v. v.items) c.in_ok-later.later.made (AreRestyled c.self.inside.table.lists.contexts c.in_ok-later.later.table.lists.contexts) c.in_ok-later.ensures.made)
+          (some_map (λ v. v.items) c.in_ok-changed.changed (KeepCells c.self.inside.table.lists.contexts c.in_ok-later.later.table.lists.contexts) c.in_ok-changed.ensures.kept)
           c.medium_of-medium.result medium c.since_after.result
-          (c.since_after.ensures ∙ ap (λ (o : Option Since). since_edit o c.is_settled-clean.result c.draws-draws.result (option_map (λ v. v.items) c.in_ok-later.later.made)) c.take.ensures.value
-          ∙ ap (λ (n : ℕ). since_edit c.self.inside.since c.is_settled-clean.result n (option_map (λ v. v.items) c.in_ok-later.later.made))
+          (c.since_after.ensures ∙ ap (λ (o : Option Since). since_edit o c.is_settled-clean.result c.draws-draws.result (option_map (λ v. v.items) c.in_ok-changed.changed)) c.take.ensures.value
+          ∙ ap (λ (n : ℕ). since_edit c.self.inside.since c.is_settled-clean.result n (option_map (λ v. v.items) c.in_ok-changed.changed))
           (c.draws-draws.ensures ∙ ap (λ (x : State). x.cells.draws) (sym c.self.view_is)));
     }
 
@@ -66,17 +66,17 @@ returns-clause-ok c =
     let lists = subst (λ (x : Document). AreStyledLists x c.in_ok-later.later.table.styles c.in_ok-later.later.table.lists) (sym c.become_edited.ensures) c.in_ok-later.ensures.lists in
     edited_to c.self.inside.doc c.self.inside.face.value c.self.inside.cells c.self.inside.laid c.self.inside.medium c.self.inside.table c.self.invariant.kept
     c.args.edits.now c.become_edited.new.self (c.become_edited.ensures ∙ c.in_ok-doc.ensures.edited)
-    c.in_ok-later.later.table lists c.follow_lists.new.cells c.in_ok-follow_lists.ensures.ok
+    c.in_ok-later.later.table lists c.follow_lists.new.cells c.in_ok-changed.ensures.ok
     c.args.self.now c.self.view_is
 
-pub returns-in_err-follow_lists-clause-ok : goal.returns-in_err-follow_lists-clause-ok
-returns-in_err-follow_lists-clause-ok c = ok_none c.from_residual-in_err-follow_lists.result _ c.from_residual-in_err-follow_lists.ensures.0
+pub returns-in_err-changed-clause-ok : goal.returns-in_err-changed-clause-ok
+returns-in_err-changed-clause-ok c = ok_none c.from_residual-in_err-changed.result _ c.from_residual-in_err-changed.ensures.0
 
-pub returns-in_err-follow_lists-clause-err : goal.returns-in_err-follow_lists-clause-err
-returns-in_err-follow_lists-clause-err c =
-    err_any c.from_residual-in_err-follow_lists.result _
+pub returns-in_err-changed-clause-err : goal.returns-in_err-changed-clause-err
+returns-in_err-changed-clause-err c =
+    err_any c.from_residual-in_err-changed.result _
     (ap (λ (d : Document). state_of d c.self.inside.face.value c.follow_lists.new.cells c.self.inside.laid) c.edited.ensures.same
-    ∙ (ap (λ cells. state_of c.self.inside.doc c.self.inside.face.value cells c.self.inside.laid) c.in_err-follow_lists.ensures.err ∙ c.self.view_is))
+    ∙ (ap (λ cells. state_of c.self.inside.doc c.self.inside.face.value cells c.self.inside.laid) c.in_err-changed.ensures.err ∙ c.self.view_is))
 
 pub become_edited-requires-clause-no_fault : goal.become_edited-requires-clause-no_fault
 become_edited-requires-clause-no_fault c =
@@ -92,14 +92,14 @@ returns-in_err-shared-clause-memory c =
     let none = subst (λ (x : State). first x.document c.args.edits.now ≡ None) c.self.view_is (rw c.in_ok-doc.was at c.edited.ensures.answer) in
     if_err_all c.from_residual-in_err-shared.result _ (λ e ran_out. none_at_first c.args.self.now.document c.args.edits.now none)
 
-pub returns-in_err-follow_lists-clause-memory : goal.returns-in_err-follow_lists-clause-memory
-returns-in_err-follow_lists-clause-memory c =
+pub returns-in_err-changed-clause-memory : goal.returns-in_err-changed-clause-memory
+returns-in_err-changed-clause-memory c =
     let none = subst (λ (x : State). first x.document c.args.edits.now ≡ None) c.self.view_is (rw c.in_ok-doc.was at c.edited.ensures.answer) in
-    if_err_all c.from_residual-in_err-follow_lists.result _ (λ e ran_out. none_at_first c.args.self.now.document c.args.edits.now none)
+    if_err_all c.from_residual-in_err-changed.result _ (λ e ran_out. none_at_first c.args.self.now.document c.args.edits.now none)
 
-pub returns-in_err-follow_lists-clause-answer : goal.returns-in_err-follow_lists-clause-answer
-returns-in_err-follow_lists-clause-answer c =
-    ran_out_answers c.args.self.now.document c.args.edits.now c.from_residual-in_err-follow_lists.result c.from_residual-in_err-follow_lists.ensures.1
+pub returns-in_err-changed-clause-answer : goal.returns-in_err-changed-clause-answer
+returns-in_err-changed-clause-answer c =
+    ran_out_answers c.args.self.now.document c.args.edits.now c.from_residual-in_err-changed.result c.from_residual-in_err-changed.ensures.1
 
 pub returns-in_err-shared-clause-answer : goal.returns-in_err-shared-clause-answer
 returns-in_err-shared-clause-answer c =

@@ -2,7 +2,7 @@ use Rattle.std.proofs.Common.{◌≡◌, ◌++◌, List, ◌+◌, sym, subst, re
 use Rattle.lay_shape.specs.declared.cell_key.CellKey.{CellKey}
 use Rattle.lay_changes.specs.TouchedKeys.{AreTouchedKeysTo, keys_of}
 use Rattle.lay_later_cells.proofs.TouchedSteps.{next_touched, next_untouched}
-use Rattle.lay_later_cells.proofs.restyled_keys.push_if_touched.Goals as goal
+use Rattle.lay_later_cells.proofs.touched_keys.push_if_touched.Goals as goal
 
 pub returns-then-is_untouched : goal.returns-then-is_untouched
 returns-then-is_untouched c =

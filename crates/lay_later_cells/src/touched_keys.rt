@@ -1,4 +1,4 @@
-//! The keys of the cells that an edit changes by itself, where it leaves all of the contexts but the styles and texts of their boxes.
+//! The keys of the cells that an edit changes by itself, where it leaves which contexts there are.
 
 ghost use Rattle.std.specs.Prelude.{◌≡◌, ◌<◌, ◌+◌, ◌++◌, ◌∷◌, [], ◌↔◌, IsTrue, IfOk, OnOk, length};
 ghost use Rattle.lay_layout.specs.contexts.Contexts.{boxes_in};
@@ -6,7 +6,7 @@ ghost use Rattle.lay_shape.specs.Keys.{AreOfOwnNodes, node_of};
 ghost use Rattle.lay_changes.specs.ContextFlags.{AreContextFlags};
 ghost use Rattle.lay_changes.specs.TouchedContexts.{IsUntouched};
 ghost use Rattle.lay_changes.specs.TouchedKeys.{AreTouchedKeys, AreTouchedKeysTo, keys_of};
-ghost use Rattle.lay_later_contexts.specs.Links.{AreRestyled};
+ghost use Rattle.lay_later_cells.specs.KeptBoxes.{KeepBoxes};
 
 use crate::measured_list::MeasuredList;
 use lay_layout::context::Phase;
@@ -18,7 +18,7 @@ use lay_shape::CellKey;
 use std::alloc::Global;
 
 /// The keys of the cells of the contexts that an edit touches, where all but those with such a flag keep their boxes.
-pub fn keys_of_restyled(
+pub fn keys_of_touched(
     alloc: Global,
     before: &MeasuredList<'_>,
     after: &MeasuredList<'_>,
@@ -27,7 +27,7 @@ pub fn keys_of_restyled(
     requires flags { AreContextFlags before.now.contexts.now before.now.formatting_contexts.now before.now.measured.now }
     requires later_flags { AreContextFlags after.now.contexts.now after.now.formatting_contexts.now after.now.measured.now }
     requires apart { AreOfOwnNodes before.now.contexts.now }
-    requires restyled { AreRestyled before.now.contexts.now after.now.contexts.now made.now }
+    requires kept { KeepBoxes before.now.contexts.now after.now.contexts.now made.now }
     ensures { IfOk result
         (λ v.
         AreTouchedKeys before.now.contexts.now after.now.contexts.now before.now.formatting_contexts.now after.now.formatting_contexts.now
@@ -51,7 +51,7 @@ fn push_if_touched(
     requires flags { AreContextFlags before.now.contexts.now before.now.formatting_contexts.now before.now.measured.now }
     requires later_flags { AreContextFlags after.now.contexts.now after.now.formatting_contexts.now after.now.measured.now }
     requires apart { AreOfOwnNodes before.now.contexts.now }
-    requires restyled { AreRestyled before.now.contexts.now after.now.contexts.now made.now }
+    requires kept { KeepBoxes before.now.contexts.now after.now.contexts.now made.now }
     requires within { j < length after.now.contexts.now }
     requires known { AreTouchedKeysTo before.now.contexts.now after.now.contexts.now before.now.formatting_contexts.now
         after.now.formatting_contexts.now keys.old.items j }
@@ -76,7 +76,7 @@ fn is_untouched(
     requires flags { AreContextFlags before.now.contexts.now before.now.formatting_contexts.now before.now.measured.now }
     requires later_flags { AreContextFlags after.now.contexts.now after.now.formatting_contexts.now after.now.measured.now }
     requires apart { AreOfOwnNodes before.now.contexts.now }
-    requires restyled { AreRestyled before.now.contexts.now after.now.contexts.now made.now }
+    requires kept { KeepBoxes before.now.contexts.now after.now.contexts.now made.now }
     requires within { j < length after.now.contexts.now }
     ensures { IsTrue result
         ↔ IsUntouched before.now.contexts.now after.now.contexts.now before.now.formatting_contexts.now after.now.formatting_contexts.now
@@ -99,7 +99,7 @@ fn same_flag(a: bool, b: bool) -> bool
 }
 
 /// Whether the context with the number j has the same boxes in both.
-fn same_context(before: &Contexts, after: &Contexts, j: usize) -> bool
+pub(crate) fn same_context(before: &Contexts, after: &Contexts, j: usize) -> bool
     requires here { j < length before.now }
     requires there { j < length after.now }
     ensures { IsTrue result ↔ (boxes_in before.now j ≡ boxes_in after.now j) }
@@ -130,7 +130,7 @@ fn push_key(keys: &mut Vec<CellKey>, node: NodeId, phase: Phase) -> Result<(), N
 }
 
 /// The node of the context with this number.
-fn node_of(contexts: &Contexts, i: usize) -> NodeId
+pub(crate) fn node_of(contexts: &Contexts, i: usize) -> NodeId
     requires { i < length contexts.now }
     ensures { result ≡ node_of contexts.now i }
 {
