@@ -26,7 +26,7 @@ module _ (d : Document) (face : FaceValue) (cells : CellState) (laid : ℕ) (med
     (kept : IsKept (state_of d face cells laid) medium table) (contexts : List Context) (same : contexts ≡ table.lists.contexts) where
   -- there are as many flags as contexts
   pub flags_fit : (since : Since) → IsSince medium table.lists.contexts cells since → length since.changed ≡ length contexts
-  flags_fit since is = is.restyled.flags ∙ sym is.restyled.count ∙ ap length (sym same)
+  flags_fit since is = is.same.boxes.flags ∙ sym is.same.boxes.nodes.count ∙ ap length (sym same)
 
   -- and as many rows as cells
   pub rows_fit : length cells.rows ≡ length (cells_of contexts)
