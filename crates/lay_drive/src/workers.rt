@@ -9,6 +9,7 @@ use lay_layout::units::NoMemory;
 use lay_outside::Gate;
 use lay_pool::Hand;
 use lay_pool::claim_lists::{ClaimList, Outcome, Outcomes};
+use std::alloc::{AllocError, Global};
 use std::sync::Wait;
 use std::thread;
 use std::thread::Threads;
@@ -21,6 +22,9 @@ const LACKING_TURNS: u32 = 64;
 
 /// How many claims are taken at a time.
 const BATCH: u32 = 64;
+
+/// The bytes that a batch takes, or more. An allocator gives what is greater than 128 KiB back to the system at once.
+const ROOM: usize = 120_000;
 
 /// What a turn of a worker came to.
 #[derive(Clone, Copy)]
@@ -73,6 +77,7 @@ fn work<R: Wait, G: Gate>(rt: &R, session: &Session, mut hand: Hand, gate: &G) {
 fn take_turn<R: Wait, G: Gate>(rt: &R, session: &Session, hand: &mut Hand, gate: &G) -> Turn {
     // read before anything is looked for, so that a change behind that wakes the worker
     let seen = session.progress.changes(rt);
+    make_room(session.alloc);
     let Ok(room) = Vec::with_capacity(session.alloc, BATCH as usize) else {
         return Turn::Lacking;
     };
@@ -92,6 +97,12 @@ fn take_turn<R: Wait, G: Gate>(rt: &R, session: &Session, hand: &mut Hand, gate:
         },
         Err(_) => Turn::Lacking,
     }
+}
+
+/// Takes memory for a batch at once, and gives it back to the thread's own heap. A heap that grows by itself asks the system for each
+/// page, and all threads wait for each other there.
+fn make_room(alloc: Global) {
+    let _room: Result<Vec<u8>, AllocError> = Vec::with_capacity(alloc, ROOM);
 }
 
 /// A worker is dealt claims, which others may steal. Those that there is no memory for are given back; true where there are none.
