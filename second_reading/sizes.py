@@ -107,6 +107,13 @@ def room_for_table(wrapper, containing_width):
     return containing_width - margin_left - edges_across(wrapper.table) - margin_right
 
 
+def widths_of_table(wrapper, equation, width):
+    """The widths of a table with this used width. The equation is of the wrapper, which is as wide as the table's border box within the limit."""
+    edges = edges_across(wrapper.table)
+    width = size_within_limit(width)
+    return equation(size_within_limit(width + edges) - edges)._replace(size=width)
+
+
 def used_widths(box, equation, containing_width):
     """The widths that solve an equation; those of a table after its columns have settled how wide it is (17.5.2)."""
     if box.is_replaced:
@@ -116,14 +123,14 @@ def used_widths(box, equation, containing_width):
     if box.table and box.table.is_automatic:
         used = automatic_width(box.table, width, room_for_table(box, containing_width), least, most)
         box.table.column_widths = used_columns(automatic_column_widths(box.table, used))
-        return equation(size_within_limit(used))
+        return widths_of_table(box, equation, used)
     widths = within_bounds(equation, width, least, most)
     if not box.table:
         return widths
     wanted = size_within_limit(widths.size)
     columns = column_widths(box.table, wanted)
     box.table.column_widths = used_columns(columns)
-    return equation(size_within_limit(max(wanted, sum(columns) + all_spacings_across(box.table))))
+    return widths_of_table(box, equation, max(wanted, sum(columns) + all_spacings_across(box.table)))
 
 
 def height_within(height, least, most):

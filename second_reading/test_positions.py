@@ -86,6 +86,12 @@ class Widths(LayoutCase):
         self.assertEqual((26, 10), self.box_of('left: 0; right: 0; width: 20px; max-width: 10px; margin-left: auto;'
                                                ' margin-right: auto'))
 
+    def test_wrapper_of_a_table_is_within_the_limit(self):
+        # of 2^25 px; its table box is wider by its padding
+        self.assert_boxes(
+            block(1, '', table(2, 'position: absolute; right: 0; padding-left: 10px; width: 33554431.5px')),
+            '1 0 0 100 0', '2 -33554332 0 33554432 0', '2 -33554332 0 33554441.5 0')
+
 
 class Heights(LayoutCase):
     def test_auto_margins_are_equal_also_where_they_are_negative(self):

@@ -21,7 +21,7 @@ IsStyleEdit _ = ⊥
 -- the node at a place, if it generates a box, is absolute or fixed
 abbrev pub FlowsAbsolutely : List Node → List Style → ℕ → Type 0
 FlowsAbsolutely nodes styles place = (n : Node) → slice_get nodes place ≡ Some n →
-  is_absolute (node_flow n.kind (style_at styles place)) ≡ true
+    is_absolute (node_flow n.kind (style_at styles place)) ≡ true
 
 -- the edit changes declarations, and the box of the node at a place is absolute or fixed
 pub record IsAnchored (edit : Edit) (nodes : List Node) (styles : List Style) (place : ℕ) : Type 0 where
