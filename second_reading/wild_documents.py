@@ -3,6 +3,7 @@
 
 usage: wild_documents.py COUNT SEED      prints the documents 0 .. COUNT - 1 of a seed, one a line
 """
+import copy
 import json
 import random
 
@@ -174,7 +175,7 @@ def damage_values(rng, run):
         elif act == 4 and isinstance(container, list):
             container.insert(key, json.loads(json.dumps(container[key])))
         else:
-            container[key] = rng.choice(ODD_VALUES)
+            container[key] = copy.deepcopy(rng.choice(ODD_VALUES))
     return run
 
 
