@@ -2,6 +2,7 @@
 -- formatting context is measured, both its preferred widths and its lines are of the content of its lines. Where an anchor stands
 -- in lines, its line is looked up beside them.
 use Rattle.std.specs.Prelude.{ℕ, ◌≡◌, ◌<◌, true, List, [], Some, length, slice_index_or, if◌then◌else◌}
+use Rattle.lay_box_tree.specs.declared.box_tree.BoxNode.{BoxNode}
 use Rattle.lay_face.specs.FaceValue.{FaceValue}
 use Rattle.lay_items.specs.InlineContents.{AreContents, KeptSegments, kept_at}
 use Rattle.lay_items.specs.InlineSegments.{segments_in}
@@ -14,6 +15,10 @@ use Rattle.lay_context.specs.Measured.{is_measured}
 -- that of the formatting context with this number
 abbrev pub contents_in : List KeptSegments → ℕ → KeptSegments
 contents_in contents i = slice_index_or contents i []
+
+-- for which of these boxes a placement asks more than once: where a text stands in its lines, for those with an anchor
+abbrev pub asked_by_placement : List BoxNode → Asked
+asked_by_placement boxes = if is_any_asked texts boxes then anchors else nothing
 
 -- for which boxes of the formatting context with this number more than one task asks, where a text stands in its lines
 abbrev pub asked_in : List FormattingContext → ℕ → Asked

@@ -5,6 +5,7 @@ ghost use Rattle.lay_abspos.specs.OwnOffsets.{IsOwnOffset};
 ghost use Rattle.lay_context.specs.declared.input.Input.TheVariants.{Measure, Place, PlaceTable, Size};
 ghost use Rattle.lay_context.specs.Local.{IsLocal};
 ghost use Rattle.lay_context.specs.GivenContents.{AreContentsOf};
+ghost use Rattle.lay_context.specs.SharedContents.{asked_by_placement};
 
 use crate::flow_parts::FlowParts;
 use crate::input::Input;
@@ -56,13 +57,15 @@ pub fn value_of_size(alloc: Global, input: &SizeInput) -> Result<Value, NoMemory
 pub fn value_of_flow(alloc: Global, parts: FlowParts, stand: &StandInput) -> Result<Value, NoMemory>
     ensures { IfOk result (IsLocal (Place parts stand.now)) }
 {
-    let asked = asked_in(parts.boxes());
+    let asked = asked_by_placement(parts.boxes());
     let contents = contents_of(alloc, parts.boxes(), parts.face(), asked)?;
     placed_in_flow(alloc, &parts.into_input(contents), stand)
 }
 
 /// For which of these boxes a placement asks more than once.
-fn asked_in(boxes: &ContextBoxes) -> Asked {
+pub(crate) fn asked_by_placement(boxes: &ContextBoxes) -> Asked
+    ensures { result ≡ asked_by_placement boxes.now }
+{
     if is_any_asked(boxes.as_slice(), Asked::Texts) {
         Asked::Anchors
     } else {

@@ -3,10 +3,11 @@
 ghost use Rattle.std.specs.Prelude.{◌≡◌, ◌<◌, length, IfOk};
 ghost use Rattle.lay_context.specs.SharedContents.{AreShared, HaveContents, asked_in};
 
+use crate::computing::asked_by_placement;
 use crate::measured::is_measured;
 use crate::medium::Medium;
 use lay_contexts::FormattingContexts;
-use lay_flow_boxes::{Asked, contents_of, is_any_asked};
+use lay_flow_boxes::{Asked, contents_of};
 use lay_items::InlineContents;
 use lay_units::NoMemory;
 use std::alloc::Global;
@@ -37,13 +38,8 @@ fn asked_in(contexts: &FormattingContexts, i: usize) -> Asked
     requires { i < length contexts.now }
     ensures { result ≡ asked_in contexts.now i }
 {
-    let boxes = contexts.at(i).boxes().as_slice();
-    if !is_any_asked(boxes, Asked::Texts) {
-        return Asked::Nothing;
-    }
-    if is_measured(contexts, i) {
-        Asked::Texts
-    } else {
-        Asked::Anchors
+    match asked_by_placement(contexts.at(i).boxes()) {
+        Asked::Anchors if is_measured(contexts, i) => Asked::Texts,
+        asked => asked,
     }
 }

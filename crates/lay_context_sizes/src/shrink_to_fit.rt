@@ -2,11 +2,10 @@
 
 ghost use Rattle.std.specs.Prelude.{◌≡◌};
 ghost use Rattle.lay_context_sizes.specs.ShrinkToFit.{shrinks, shrinks_floating, shrinks_in_flow, shrinks_to_fit};
-ghost use Rattle.lay_table_sizes.specs.TableLayouts.{has_width};
 
 use lay_box_tree::{BoxKind, BoxNode, Flow};
-use lay_style::{LengthPercentageOrAuto, Style};
-use lay_table_sizes::is_fixed;
+use lay_style::Style;
+use lay_table_sizes::{has_width, is_fixed};
 
 /// Whether the own box of these boxes, the first one, may shrink to fit its content (CSS 2.2, 10.3.5, 10.3.7, 10.3.9 and
 /// 17.5.2.2), so that its preferred widths count.
@@ -45,14 +44,5 @@ fn shrinks_floating(kind: &BoxKind, style: &Style) -> bool
     match kind {
         BoxKind::Wrapper | BoxKind::InlineWrapper => true,
         _ => !has_width(style.sizing.width),
-    }
-}
-
-fn has_width(width: LengthPercentageOrAuto) -> bool
-    ensures { result ≡ has_width width }
-{
-    match width {
-        LengthPercentageOrAuto::Auto => false,
-        LengthPercentageOrAuto::Length(_) | LengthPercentageOrAuto::Percent(_) => true,
     }
 }

@@ -117,7 +117,7 @@ fn follow_any(
     ensures err { OnErr result (cells.new ≡ cells.old) }
 {
     let shape = later.cells().shape(alloc)?;
-    if keep_shape(cells, before, later, &shape) {
+    if is_shape_kept(cells, before, later, &shape) {
         let changed = changed_boxes(alloc, before, later)?;
         follow_boxes(alloc, cells, before, later, &changed)?;
         return Ok(Some(changed));
@@ -127,7 +127,7 @@ fn follow_any(
 }
 
 /// Whether the contexts are of the nodes of those before, one by one, and this shape is the one that the cells have.
-fn keep_shape(
+fn is_shape_kept(
     cells: &Cells<Layout>,
     before: &DocumentTable,
     later: &DocumentTable,

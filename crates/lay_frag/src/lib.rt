@@ -7,10 +7,12 @@
 
 mod frag;
 mod lines;
+mod piece_line;
 mod placed;
 mod tree;
 
 pub use frag::{Frag, FragKind};
-pub use lines::{push_frag, text_of};
+pub use lines::text_of;
+pub use piece_line::push_frag;
 pub use placed::{Pieces, Placed};
 pub use tree::Tree;

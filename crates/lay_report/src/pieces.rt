@@ -7,8 +7,7 @@ ghost use Rattle.lay_report.specs.Writing.{Pushes};
 
 use crate::buffer::hand_on_much;
 use crate::fault::ReportFault;
-use crate::piece_line::push_line;
-use lay_frag::{Frag, Placed, Tree};
+use lay_frag::{Frag, Placed, Tree, push_frag};
 use lay_outside::Sink;
 
 /// Writes the lines of a tree: one for each piece, in the tree's order.
@@ -58,6 +57,6 @@ fn push_piece<K: Sink>(frag: &Frag, buffer: &mut String, sink: &mut K) -> Result
     ensures { Pushes (record { taken = K.taken sink.old; faults = K.faults sink.old; held = string_bytes buffer.old })
         (record { taken = K.taken sink.new; faults = K.faults sink.new; held = string_bytes buffer.new }) (frag_line frag.now) result }
 {
-    push_line(buffer, frag)?;
+    push_frag(buffer, frag)?;
     hand_on_much(buffer, sink)
 }

@@ -21,7 +21,8 @@ fn asks_fixed(layout: TableLayout) -> bool
     }
 }
 
-fn has_width(width: LengthPercentageOrAuto) -> bool
+/// Whether this width is a length or a percentage (CSS 2.2, 10.2).
+pub fn has_width(width: LengthPercentageOrAuto) -> bool
     ensures { result ≡ has_width width }
 {
     match width {

@@ -51,7 +51,7 @@ pub use cell_size::CellSize;
 pub use column_bounds::{auto_columns, table_bounds};
 pub use contents::{greatest_content, least_content};
 pub use laws::{bounds_stand_as_they_are, one_cell_sizes, one_table_sizes, one_table_widths};
-pub use layouts::is_fixed;
+pub use layouts::{has_width, is_fixed};
 pub use measuring::{MeasuredTable, measure_table};
 pub use sizes::TableSizes;
 pub use sizing::{SizedTable, table_sizes};
