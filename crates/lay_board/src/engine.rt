@@ -41,7 +41,7 @@ impl Engine {
         ensures of { result.1.table ≡ pass.table }
         ensures call { Calls pass.knows result.1.knows (entry.Edit pass.knows.number (length pass.knows.own) edits result.0) }
     {
-        let _turn = self.gate.lock(rt);
+        let _turn = self.enter(rt);
         let (mut core, turn) = begun(rt, &self.table, pass);
         let reply = core.edit(turn.editor, turn.index, edits);
         let pass = ended(&self.table, turn, core);
@@ -63,7 +63,7 @@ impl Engine {
         ensures call { Calls pass.knows result.1.knows (entry.Latest pass.knows.number (length pass.knows.own) result.0) }
     {
         self.help_at_first(rt, alloc, gate);
-        let _turn = self.gate.lock(rt);
+        let _turn = self.enter(rt);
         let (mut core, turn) = begun(rt, &self.table, pass);
         let reply = core.latest(turn.editor, turn.index);
         let pass = ended(&self.table, turn, core);
@@ -86,7 +86,7 @@ impl Engine {
         ensures call { Calls pass.knows result.1.knows (entry.Sync pass.knows.number (length pass.knows.own) result.0) }
     {
         self.help(rt, alloc, gate);
-        let _turn = self.gate.lock(rt);
+        let _turn = self.enter(rt);
         let (mut core, turn) = begun(rt, &self.table, pass);
         let reply = core.sync(turn.editor, turn.index);
         let pass = ended(&self.table, turn, core);

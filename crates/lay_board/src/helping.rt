@@ -28,7 +28,7 @@ impl Engine {
 
     /// Whether a version is published.
     fn is_published<R: Wait>(&self, rt: &R) -> bool {
-        let _turn = self.gate.lock(rt);
+        let _turn = self.enter(rt);
         let (core, seat) = visit(rt, &self.table);
         let some = !core.trees().is_empty();
         let _seat = give_core(&self.table, seat, core);

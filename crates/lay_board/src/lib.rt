@@ -10,6 +10,7 @@ mod batches;
 mod closing;
 mod crossing;
 mod engine;
+mod entering;
 mod helping;
 mod pass;
 mod starting;
@@ -17,7 +18,7 @@ mod table;
 mod turn;
 mod views;
 
-pub use batches::Batch;
+pub use batches::{Batch, Exchange};
 pub use engine::Engine;
 pub use lay_core as editing_core;
 pub use pass::Pass;

@@ -40,6 +40,11 @@ impl<T: Drop> Deque<T> {
         self.own.push(task)
     }
 
+    /// Whether it has tasks of its own.
+    pub(crate) fn has_tasks(&self) -> bool {
+        !self.own.is_empty()
+    }
+
     /// The next task: the first of its own, or else one that is stolen. None where no deque has one.
     pub(crate) fn next(&mut self) -> Option<T> {
         if let Some(task) = self.own.pop() {

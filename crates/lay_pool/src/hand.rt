@@ -4,7 +4,7 @@ ghost use Rattle.std.specs.Prelude.{◌≡◌, ◌+◌, ◌≤◌, ◌<◌, ◌�
 ghost use Rattle.std.specs.List.{All};
 ghost use Rattle.lay_claims.specs.Outcomes.{IsOutcomeOf};
 ghost use Rattle.lay_claims.specs.declared.outcome.Outcome.TheVariants as outcome;
-ghost use Rattle.lay_pool.specs.Hands.{ComesOf, IsRefusedOf};
+ghost use Rattle.lay_pool.specs.Hands.{AddsWork, ComesOf, IsRefusedOf};
 
 use crate::deques::Deque;
 use crate::member::computed;
@@ -70,19 +70,44 @@ impl Hand {
         }
     }
 
+    /// Whether it has claims of its own that nobody has taken yet.
+    pub fn has_claims(&self) -> bool {
+        self.deque.has_tasks()
+    }
+
     /// What comes of its own claims and, once it has none, of those of others: of at most 64, and of none where there is none to take.
     /// The gate is told of the start and the end of each. On an error none was taken.
     pub fn work<G: Gate>(&mut self, alloc: Global, gate: &G) -> Result<Outcomes, NoMemory>
         ensures { IfOk result (λ os. All ComesOf os) }
     {
-        let mut outcomes = Vec::with_capacity(alloc, BATCH)?;
-        for _turn in 0..BATCH {
+        let room = Vec::with_capacity(alloc, BATCH)?;
+        Ok(self.work_on(alloc, gate, Outcomes::new(room), BATCH))
+    }
+
+    /// The same behind outcomes that it has already: of at most so many more claims, until there are 64 outcomes or no room for another.
+    pub fn work_on<G: Gate>(
+        &mut self,
+        alloc: Global,
+        gate: &G,
+        held: Outcomes,
+        most: usize,
+    ) -> Outcomes
+        ensures { AddsWork most held result }
+    {
+        let mut outcomes = held.into_vec();
+        for _turn in 0..most {
+            if outcomes.len() >= BATCH {
+                break;
+            }
+            let Ok(()) = outcomes.reserve(1) else {
+                break;
+            };
             let Some(claim) = self.deque.next() else {
                 break;
             };
             outcomes.push_reserved(outcome_of(alloc, claim, gate));
         }
-        Ok(Outcomes::new(outcomes))
+        Outcomes::new(outcomes)
     }
 }
 
