@@ -22,13 +22,13 @@ const LACKING_TURNS: u32 = 64;
 /// How many claims are taken at a time by a worker that has none left.
 const BATCH: u32 = 64;
 
-/// How many it computes before it hands in what came of them, and takes as many more: while another has the lock it goes on with the rest.
-const HALF: usize = 32;
+/// How many it computes before it hands in what came of them and takes as many more. While another has the lock it goes on with the rest.
+const PART: usize = 48;
 
 /// How many it computes before it looks for the lock again, and how often it looks.
 const FEW: usize = 8;
 
-const LOOKS: u32 = 4;
+const LOOKS: u32 = 2;
 
 /// The bytes that a batch takes, or more. An allocator gives what is greater than 128 KiB back to the system at once.
 const ROOM: usize = 120_000;
@@ -113,7 +113,7 @@ impl<'a, G: Gate> Worker<'a, G> {
         match exchange.batch {
             Ok(Batch::Claims(claims)) => {
                 let all_dealt = self.deal(rt, claims, room);
-                self.compute(HALF);
+                self.compute(PART);
                 if all_dealt && !lacking {
                     Turn::Counted
                 } else {
@@ -147,7 +147,7 @@ impl<'a, G: Gate> Worker<'a, G> {
             match self
                 .session
                 .engine
-                .try_exchange(rt, self.session.alloc, held, HALF as u32)
+                .try_exchange(rt, self.session.alloc, held, PART as u32)
             {
                 Ok(exchange) => return Some(exchange),
                 Err(back) => { held = self.hand.work_on(self.session.alloc, self.gate, back, FEW) }
@@ -166,7 +166,7 @@ impl<'a, G: Gate> Worker<'a, G> {
         ensures { (0 < result) × (result ≤ 64) }
     {
         if self.hand.has_claims() {
-            HALF as u32
+            PART as u32
         } else {
             BATCH
         }
