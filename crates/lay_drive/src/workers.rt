@@ -25,9 +25,10 @@ const BATCH: u32 = 64;
 /// How many it computes before it hands in what came of them and takes as many more. While another has the lock it goes on with the rest.
 const PART: usize = 48;
 
-/// How many it computes before it looks for the lock again, and how often it looks.
+/// How many it computes then before it looks for the lock again.
 const FEW: usize = 8;
 
+/// How often it looks.
 const LOOKS: u32 = 2;
 
 /// The bytes that a batch takes, or more. An allocator gives what is greater than 128 KiB back to the system at once.
@@ -208,13 +209,11 @@ impl<'a, G: Gate> Worker<'a, G> {
 /// Whether claims came back for want of memory, and nothing else was handed in.
 fn is_lacking(exchange: &Exchange) -> bool {
     let tally = &exchange.tally;
-    let others = [
-        tally.cleaned(),
-        tally.stored(),
-        tally.superseded(),
-        tally.gone(),
-    ];
-    tally.back() > 0 && others.iter().all(|n| *n == 0)
+    tally.back() > 0
+        && tally.cleaned() == 0
+        && tally.stored() == 0
+        && tally.superseded() == 0
+        && tally.gone() == 0
 }
 
 /// Takes memory for a batch at once, and gives it back to the thread's own heap. A heap that grows by itself asks the system for each
