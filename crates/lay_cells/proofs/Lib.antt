@@ -5,6 +5,7 @@ pub mod Unchanged
 pub mod Unnumbered
 pub mod ByPlace
 pub mod Changes
+pub mod ClaimedCells
 pub mod Contained
 pub mod Empty
 pub mod Finds

@@ -238,12 +238,15 @@ impl<W: Work> Cells<W> {
         needs_in::<W>(self.cells.as_slice(), place)
     }
 
-    /// What a look at the cell at a place shows.
+    /// What a look at the cell at a place shows. Where the cell has a claim that isn't stale, the cells that it depends on aren't looked at.
     pub fn look_at(&self, place: usize) -> Look<W::Key>
         requires { place < length self.now.rows }
         ensures { AtPlace self.now.rows place (λ r. Looks self.now.rows r.key result) }
     {
-        look_at::<W>(self.cells.as_slice(), place)
+        match self.claimed_at(place) {
+            Some(_number) => Look::Ready,
+            None => look_at::<W>(self.cells.as_slice(), place),
+        }
     }
 
     /// A claim of the cell at a place, as `claim` of its key.

@@ -3,7 +3,9 @@ use Rattle.lay_cells.specs.Rows.{Row, State, row_of}
 use Rattle.lay_cells.specs.Looks.{Looks}
 use Rattle.lay_cells.specs.Kept.{HasIndex, wire_of}
 use Rattle.lay_cells.specs.Places.{AtPlace}
+use Rattle.lay_cells.specs.Sound.{IsSound}
 use Rattle.lay_cells.proofs.ByPlace.{at_place, within_rows}
+use Rattle.lay_cells.proofs.ClaimedCells.{claimed_is_ready}
 use Rattle.lay_cells.proofs.cells.Cells.look_at.Goals as goal
 
 pub look_at-requires-clause-wired : goal.look_at-requires-clause-wired
@@ -14,8 +16,12 @@ pub look_at-requires-clause-within : goal.look_at-requires-clause-within
 look_at-requires-clause-within g c _ _ =
     subst (λ (xs : List _). c.args.place < length xs) (sym c.as_slice.ensures.value) (within_rows c.args.self.now c.self.inside.cells.items c.self.inside.draws c.self.view_is c.args.place c.requires)
 
-pub returns : goal.returns
-returns g c =
+pub returns-in-Some : goal.returns-in-Some
+returns-in-Some g c =
+    claimed_is_ready g.W.Work.relates c.args.self.now (subst (IsSound g.W.Work.relates) c.self.view_is c.self.invariant.sound) c.args.place c.in-Some._number c.in-Some.ensures.some
+
+pub returns-in-None : goal.returns-in-None
+returns-in-None g c =
     let cells = c.self.inside.cells.items in
     let lt = within_rows c.args.self.now cells c.self.inside.draws c.self.view_is c.args.place c.requires in
     subst (λ (s : State _ _ _). AtPlace s.rows c.args.place (λ (r : Row _ _ _). Looks s.rows r.key c.look_at.result)) c.self.view_is
