@@ -7,10 +7,10 @@ use std::thread;
 
 /// How often a thread looks whether it can have the lock before it sleeps. A turn is short, and who sleeps comes back later than the
 /// turns of most others end.
-const LOOKS: u32 = 256;
+const LOOKS: u32 = 64;
 
 /// How long it waits between two looks.
-const PAUSES: u32 = 16;
+const PAUSES: u32 = 64;
 
 impl Engine {
     /// Waits for the lock.
