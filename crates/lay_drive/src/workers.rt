@@ -8,7 +8,7 @@ use lay_board::{Batch, Exchange};
 use lay_outside::Gate;
 use lay_pool::Hand;
 use lay_pool::claim_lists::{ClaimList, Outcome, Outcomes};
-use std::alloc::{AllocError, Global};
+use std::alloc::Global;
 use std::sync::Wait;
 use std::thread::Threads;
 use std::{mem, thread};
@@ -31,8 +31,11 @@ const FEW: usize = 8;
 /// How often it looks.
 const LOOKS: u32 = 2;
 
-/// The bytes that a batch takes, or more. An allocator gives what is greater than 128 KiB back to the system at once.
-const ROOM: usize = 120_000;
+/// The bytes of a page.
+const PAGE: usize = 4096;
+
+/// The pages that a batch takes, or more. An allocator gives what is greater than 128 KiB back to the system at once.
+const PAGES: usize = 29;
 
 /// A worker: what it shares with the others, its claims, and what came of those that it has computed and not handed in yet.
 #[derive(Drop)]
@@ -216,8 +219,15 @@ fn is_lacking(exchange: &Exchange) -> bool {
         && tally.gone() == 0
 }
 
-/// Takes memory for a batch at once, and gives it back to the thread's own heap. A heap that grows by itself asks the system for each
-/// page, and all threads wait for each other there.
+/// Takes memory for a batch at once, writes to each of its pages and gives it back to the thread's own heap. A heap that grows by itself
+/// asks the system for each page, and all threads wait for each other there; the page itself comes where it is written to first, which
+/// is to be before the thread has the lock.
 fn make_room(alloc: Global) {
-    let _room: Result<Vec<u8>, AllocError> = Vec::with_capacity(alloc, ROOM);
+    let mut room: Vec<[u8; PAGE]> = Vec::new(alloc);
+    if room.reserve(PAGES).is_err() {
+        return;
+    }
+    for _page in 0..PAGES {
+        let _written = room.push([0; PAGE]);
+    }
 }
