@@ -9,7 +9,7 @@ loop-turn-preserved g c =
     let one = c.outcome_of.result in
     let pushed = c.push_reserved.ensures in
     let items : c.push_reserved.new.self.items ≡ c.args.held ++ (mine.more ++ one ∷ []) =
-        pushed.items ∙ (ap (λ (xs : List _). xs ++ one ∷ []) (c.reserve.ensures.items ∙ mine.stay) ∙ append_assoc c.args.held mine.more (one ∷ [])) in (
+    pushed.items ∙ (ap (λ (xs : List _). xs ++ one ∷ []) (c.reserve.ensures.items ∙ mine.stay) ∙ append_assoc c.args.held mine.more (one ∷ [])) in (
       (let full = c.if-len-ge-BATCH.false in let len = c.len.ensures in let same = c.reserve.ensures.len in let more = pushed.len in omega (arith, full, len, same, more)),
       record {
         more = mine.more ++ one ∷ [];
