@@ -9,7 +9,7 @@ use std::thread;
 /// turns of most others end.
 const LOOKS: u32 = 64;
 
-/// How long it waits between two looks.
+/// How many pauses of the processor it makes between two looks.
 const PAUSES: u32 = 64;
 
 impl Engine {
