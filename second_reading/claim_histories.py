@@ -1,7 +1,7 @@
 #!/usr/bin/env python3
 """Random histories of a core, with claims by hand between its edits: after each the tree must be that of a layout from nothing.
 
-usage: claim_histories.py PROGRAM SECONDS [SEED]     PROGRAM is lay_core_cases, or what bench/keep_unproved keeps of it
+usage: claim_histories.py PROGRAM SECONDS [SEED]     PROGRAM is lay_core_cases, or what tools/keep_unproved keeps of it
 
 A history is made bit by bit, since the numbers of claims are known only when they were granted: each bit is added behind the last one,
 and all is run again. It prints how many histories and claims there were, or the first history with another tree, whose status is 1.
