@@ -1,6 +1,6 @@
 //! What gives columns their widths.
 
-ghost use Rattle.std.specs.Prelude.{◌≡◌, ◌<◌, ◌≤◌, IfOk, length, slice_get};
+ghost use Rattle.std.specs.Prelude.{◌≡◌, ◌<◌, ◌≤◌, ◌^◌, ◌*ℤ◌, ◌≤ℤ◌, pos, IfOk, length, slice_get};
 ghost use Rattle.lay_units.specs.Units.{IsPosition, IsUsedSize};
 ghost use Rattle.lay_grid.specs.ColumnsFit.{ColumnsFit};
 ghost use Rattle.lay_grid.specs.Lengths.{MayBePosition};
@@ -68,8 +68,19 @@ fn left_by_spacings(spacing: Unit, columns: u32, table: Unit) -> Unit
     requires table { IsPosition table.0 }
     ensures { result ≡ left_by_spacings spacing columns table }
 {
-    let spacings = spacing.0 * (i64::from(columns) + 1);
-    Unit((table.0 - spacings).max(0))
+    let left = i128::from(table.0) - all_spacings(spacing, columns as usize + 1);
+    Unit(left.max(0) as i64)
+}
+
+/// So many spacings together.
+fn all_spacings(spacing: Unit, count: usize) -> i128
+    requires spacing { IsUsedSize spacing.0 }
+    requires count { count ≤ 2 ^ 32 }
+    ensures value { result ≡ spacing.0 *ℤ pos count }
+    ensures least { pos 0 ≤ℤ result }
+    ensures most { result ≤ℤ pos (2 ^ 94) }
+{
+    i128::from(spacing.0) * count as i128
 }
 
 /// The widths of column elements, for each column.
