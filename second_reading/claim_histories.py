@@ -109,6 +109,9 @@ def try_history(program, chance):
 
 
 def main():
+    if len(sys.argv) not in (3, 4):
+        print(__doc__)
+        sys.exit(0 if sys.argv[1:] == ['--help'] else 2)
     program, until = sys.argv[1], time.time() + float(sys.argv[2])
     chance = random.Random(sys.argv[3] if len(sys.argv) > 3 else 1)
     histories = claims = 0

@@ -319,7 +319,10 @@ def document(seed, number):
 
 
 def print_documents(draw):
-    """Prints the documents 0 .. COUNT - 1 of a seed, one a line, as the command line asks."""
+    """Prints the documents 0 .. COUNT - 1 of a seed, one a line, as the command line asks; else how it is asked."""
+    if len(sys.argv) != 3 or not all(word.isdecimal() for word in sys.argv[1:]):
+        print(sys.modules['__main__'].__doc__)
+        sys.exit(0 if sys.argv[1:] == ['--help'] else 2)
     count, seed = int(sys.argv[1]), int(sys.argv[2])
     for number in range(count):
         print(json.dumps(draw(seed, number)))
