@@ -105,6 +105,9 @@ def summary_of(run, accepted):
 
 
 def main():
+    if sys.argv[3:] not in ([], ['--document']) or len(sys.argv) < 3:
+        print(__doc__)
+        sys.exit(0 if sys.argv[1:] == ['--help'] else 2)
     size, seed = map(int, sys.argv[1:3])
     if sys.argv[3:] == ['--document']:
         print(json.dumps(generated_run(size, seed)))

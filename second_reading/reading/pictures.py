@@ -7,7 +7,7 @@ the differences are drawn; the piece of a name is marked.
 """
 import re
 import sys
-from decimal import Decimal
+from decimal import Decimal, getcontext
 
 NUMBER = r'(0|[1-9][0-9]*)'
 SIGNED = r'(0|-?[1-9][0-9]*)'
@@ -164,11 +164,17 @@ def answer(report, versions, name=None):
     return picture(differences(*shown) if len(shown) == 2 else [(piece, ' hit' if piece[:3] == name else '') for piece in shown[0]])
 
 
-if __name__ == '__main__':
-    from decimal import getcontext
+def main():
     getcontext().prec = 60
-    named, numbers = sys.argv[1:2], [int(word) for word in sys.argv[1:] if word not in KINDS]
-    if named and named[0] in KINDS:
-        sys.stdout.write(answer(sys.stdin.buffer.read(), [], (named[0], *numbers)))
-    else:
-        sys.stdout.write(answer(sys.stdin.buffer.read(), numbers))
+    words = sys.argv[1:]
+    name, numbers = (words[:1], words[1:]) if words[:1] and words[0] in KINDS else ([], words)
+    if not all(number.isdecimal() for number in numbers):
+        print(__doc__)
+        sys.exit(0 if words == ['--help'] else 2)
+    report = sys.stdin.buffer.read()
+    numbers = [int(number) for number in numbers]
+    sys.stdout.write(answer(report, [], (*name, *numbers)) if name else answer(report, numbers))
+
+
+if __name__ == '__main__':
+    main()

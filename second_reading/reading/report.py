@@ -194,6 +194,9 @@ def context_count(run):
 
 
 def main():
+    if sys.argv[1:] not in ([], ['--automatic-tables']):
+        print(__doc__)
+        sys.exit(0 if sys.argv[1:] == ['--help'] else 2)
     automatic_tables = AUTOMATIC_TABLES or '--automatic-tables' in sys.argv[1:]
     sys.stdout.write(report(json.loads(sys.stdin.buffer.read()), automatic_tables))
 
