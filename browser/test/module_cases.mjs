@@ -41,6 +41,9 @@ async function compare(page, files, words, inputOf) {
   console.log(`${words.join(' ')}: ${same} of ${files.length} documents with the same status and bytes`);
   return same === files.length;
 }
+// A document with its own layout as a report: the bytes of the document are those of the file.
+const checkOf = file => Buffer.concat([Buffer.from('{"run": '), readFileSync(file),
+  Buffer.from(`, "report": ${JSON.stringify(native(['scratch'], readFileSync(file)).out.toString())}}`)]);
 // Reports of `run`, which may differ, are judged by the program.
 async function judgeRuns(page, files) {
   let legal = 0;
@@ -60,7 +63,7 @@ const page = await ModulePage.start();
 try {
   const start = Date.now(), bytes = file => readFileSync(file), edited = files.filter(file => isDocument(file) && /"editors"/.test(bytes(file)));
   const good = [await compare(page, files, ['scratch'], bytes), await compare(page, files, ['hit', '--x', '50', '--y', '30'], bytes),
-    await judgeRuns(page, edited)];
+    await compare(page, files, ['check'], checkOf), await judgeRuns(page, edited)];
   console.log(`the module in ${page.browser.version}: ${good.every(Boolean) ? 'as the program' : 'OTHERWISE THAN THE PROGRAM'}, ${Math.round((Date.now() - start) / 1000)} s`);
   process.exitCode = good.every(Boolean) ? 0 : 1;
 } finally { await page.close(); }

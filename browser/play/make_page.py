@@ -1,0 +1,57 @@
+"""Makes browser/play.html: one file of the parts of this folder, of view/, of the exporter, and of the module in base64."""
+import base64
+import json
+import pathlib
+import re
+
+FOLDER = pathlib.Path(__file__).resolve().parent
+BROWSER = FOLDER.parent
+MODULE = BROWSER / 'wasm' / 'lay_unproved.wasm.gz'
+STYLES = ('view/picture.css', 'play/play.css')
+# In the order in which they need each other.
+SCRIPTS = ('view/sheet.js', 'view/reading.js', 'view/refusals.js', 'view/kinds.js', 'view/texts.js', 'view/changes.js', 'view/box_model.js',
+           'view/picture.js', 'view/info.js', 'play/known.js', 'play/address.js', 'play/runner.js', 'play/stage.js', 'play/window.js',
+           'play/play.js')
+EXAMPLES = ('two columns', 'margins that collapse', 'a table', 'floats with text')
+
+
+def text_of(name):
+    return (BROWSER / name).read_text()
+
+
+def comparison():
+    """test/compare.mjs as a plain script with one object."""
+    text = re.sub(r'^export ', '', text_of('test/compare.mjs'), flags=re.M)
+    return 'const Comparison = (() => {\n%s\nreturn { compare, readReport, sums };\n})();\n' % text
+
+
+def shortened(text):
+    """JavaScript without indentation, empty lines and lines that are comments."""
+    lines = (line.strip() for line in text.splitlines())
+    return '\n'.join(line for line in lines if line and not line.startswith('//'))
+
+
+def examples():
+    """[name, text] of each example: pages, and a run document with two editors."""
+    pages = [[name, (FOLDER / 'examples' / (name.replace(' ', '-') + '.html')).read_text()] for name in EXAMPLES]
+    return [*pages, ['two editors, a run document', (BROWSER.parent / 'examples' / 'two-editors.json').read_text()]]
+
+
+def script_text(text):
+    """A text for the inside of a script element."""
+    return re.sub(r'<(?=/script|!--)', r'\\x3c', text, flags=re.I)
+
+
+def parts():
+    library, compared = text_of('wasm/lay.js'), comparison()
+    return {
+        'style': '\n'.join(map(text_of, STYLES)), 'scripts': '\n'.join([compared, *map(text_of, SCRIPTS)]),
+        'packed': base64.b64encode(MODULE.read_bytes()).decode(), 'exporter': shortened(text_of('export.js')),
+        'frame': shortened(text_of('play/frame.js')), 'worker': shortened(library + compared + text_of('play/worker.js')),
+        'judge': shortened(library + compared + text_of('play/judge_here.js')), 'given': json.dumps({'examples': examples()}).replace('<', '\\u003c'),
+    }
+
+
+def page():
+    made = parts()
+    return re.sub(r'@(\w+)@', lambda match: made[match[1]] if match[1] == 'style' else script_text(made[match[1]]), text_of('play/page.html'))
