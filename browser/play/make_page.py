@@ -12,7 +12,8 @@ STYLES = ('view/picture.css', 'play/play.css')
 SCRIPTS = ('view/sheet.js', 'view/reading.js', 'view/refusals.js', 'view/kinds.js', 'view/texts.js', 'view/changes.js', 'view/box_model.js',
            'view/picture.js', 'view/info.js', 'play/known.js', 'play/address.js', 'play/runner.js', 'play/stage.js', 'play/window.js',
            'play/play.js')
-EXAMPLES = ('two columns', 'margins that collapse', 'a table', 'floats with text')
+EXAMPLES = ('two columns.html', 'margins that collapse.html', 'a table.html', 'floats with text.html', 'where browsers do otherwise.html',
+            'a run document with edits.json')
 
 
 def text_of(name):
@@ -32,9 +33,8 @@ def shortened(text):
 
 
 def examples():
-    """[name, text] of each example: pages, and a run document with two editors."""
-    pages = [[name, (FOLDER / 'examples' / (name.replace(' ', '-') + '.html')).read_text()] for name in EXAMPLES]
-    return [*pages, ['two editors, a run document', (BROWSER.parent / 'examples' / 'two-editors.json').read_text()]]
+    """[name, text] of each example."""
+    return [[name.rpartition('.')[0], (FOLDER / 'examples' / name.replace(' ', '-')).read_text()] for name in EXAMPLES]
 
 
 def script_text(text):

@@ -107,7 +107,7 @@
     state.origin = [x, y];
     svg.insertAdjacentHTML('beforeend', `<g class="compared">${state.compared ? comparedText() : ''}</g>`);
     Object.assign(element('frames').style, { left: -x * scale + 'px', top: -y * scale + 'px', transform: `scale(${scale})` });
-    document.body.classList.toggle('only-lay', !over);
+    document.body.classList.toggle('over', over);
     document.body.classList.toggle('only-browser', over && element('shown').value === 'browser');
   }
   const inPixels = ([x, y, width, height]) => ({ x: x / 64, y: y / 64, width: width / 64, height: height / 64 });
