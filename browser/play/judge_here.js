@@ -20,8 +20,8 @@ function start() {
   return box;
 }
 const px = rect => rect.map(units => Math.round(units / 64 * 1000) / 1000).join(' ');
-function drawn(first, report) {
-  const SVG = 'http://www.w3.org/2000/svg', svg = document.createElementNS(SVG, 'svg'), bad = new Set(first.map(({ id }) => id));
+function drawn(causes, off, report) {
+  const SVG = 'http://www.w3.org/2000/svg', svg = document.createElementNS(SVG, 'svg'), bad = new Set(off.map(({ id }) => id));
   svg.setAttribute('class', 'layer'); svg.setAttribute('width', 1); svg.setAttribute('height', 1);
   const rect = (kind, [x, y, width, height]) => {
     const node = document.createElementNS(SVG, 'rect'), values = { class: kind, x: x / 64, y: y / 64, width: Math.max(0, width / 64), height: Math.max(0, height / 64) };
@@ -32,7 +32,7 @@ function drawn(first, report) {
     const [word, node, , ...place] = line.split(' ');
     if (word === 'box' && place.length === 4 && !bad.has(+node)) rect('same', place.map(Number));
   }
-  for (const { browser, lay } of first) { browser.forEach(one => rect('browsers', one)); lay.forEach(one => rect('ours', one)); }
+  for (const { browser, lay } of causes) { browser.forEach(one => rect('browsers', one)); lay.forEach(one => rect('ours', one)); }
   shadow.prepend(svg);
   return svg;
 }
@@ -40,7 +40,7 @@ function list(box, compared, answer) {
   const { blocks, texts } = Comparison.sums(compared.counts);
   make('p', `${blocks.exact} of ${blocks.all} blocks and ${texts.exact} of ${texts.all} texts stand where lay has them.`, box);
   const nodes = new Map(answer.run.nodes.map(node => [node.id, node]));
-  for (const { id, kind, browser, lay } of compared.first.slice(0, 30)) {
+  for (const { id, kind, browser, lay } of compared.causes.slice(0, 30)) {
     const row = make('p', `${kind} ${nodes.get(id).tag || (nodes.get(id).as || '').trim().slice(0, 30)}`, box);
     make('code', `browser ${browser.slice(0, 2).map(px).join('; ') || 'none'}`, row);
     make('code', `lay ${lay.slice(0, 2).map(px).join('; ') || 'none'}`, row);
@@ -73,9 +73,9 @@ try {
   const report = new TextDecoder().decode(out);
   if (status !== 0) make('p', status === 1 ? `lay refuses the page's document: ${report}` : `lay ended with status ${status} ${said}`, box);
   else {
-    const compared = Comparison.compare(answer, report), svg = drawn(compared.first, report);
+    const { off, counts } = Comparison.compare(answer, report), causes = Causes.of(answer.run.nodes, off), svg = drawn(causes, off, report);
     controls(box, svg);
-    list(box, compared, answer);
+    list(box, { counts, causes }, answer);
   }
 } catch (error) {
   if (!NOT_HERE.test(String(error))) throw error;

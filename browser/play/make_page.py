@@ -10,7 +10,7 @@ MODULE = BROWSER / 'wasm' / 'lay_unproved.wasm.gz'
 STYLES = ('view/picture.css', 'play/play.css')
 # In the order in which they need each other.
 SCRIPTS = ('view/sheet.js', 'view/reading.js', 'view/refusals.js', 'view/kinds.js', 'view/texts.js', 'view/changes.js', 'view/box_model.js',
-           'view/picture.js', 'view/info.js', 'play/known.js', 'play/address.js', 'play/runner.js', 'play/stage.js', 'play/window.js',
+           'view/picture.js', 'view/info.js', 'play/address.js', 'play/runner.js', 'play/stage.js', 'play/window.js',
            'play/play.js')
 EXAMPLES = ('two columns.html', 'margins that collapse.html', 'a table.html', 'floats with text.html', 'where browsers do otherwise.html',
             'a run document with edits.json')
@@ -20,10 +20,20 @@ def text_of(name):
     return (BROWSER / name).read_text()
 
 
-def comparison():
-    """test/compare.mjs as a plain script with one object."""
-    text = re.sub(r'^export ', '', text_of('test/compare.mjs'), flags=re.M)
-    return 'const Comparison = (() => {\n%s\nreturn { compare, readReport, sums };\n})();\n' % text
+def plain(name, text):
+    """A module as a plain script with one object of what it exports."""
+    names = re.findall(r'^export (?:function|const) (\w+)', text, re.M)
+    return 'const %s = (() => {\n%s\nreturn { %s };\n})();\n' % (name, re.sub(r'^export ', '', text, flags=re.M), ', '.join(names))
+
+
+def rules():
+    """judging/rules.mjs, with the headings of docs/BROWSERS.md in it: a page reads no files."""
+    path, text = BROWSER.parent / 'docs' / 'BROWSERS.md', text_of('judging/rules.mjs')
+    lines = re.findall(r'^#{2,4} .*$', path.read_text(), re.M) if path.exists() else []
+    head, reading = r"^import .*\n|^const PAGE = .*\n", r'known \?\?= .*;'
+    assert len(re.findall(reading, text)) == 1, 'judging/rules.mjs reads its page otherwise'
+    known = 'known ??= headings(%s);' % json.dumps('\n'.join(lines))
+    return plain('Rules', re.sub(reading, lambda _: known, re.sub(head, '', text, flags=re.M)))
 
 
 def shortened(text):
@@ -43,9 +53,9 @@ def script_text(text):
 
 
 def parts():
-    library, compared = text_of('wasm/lay.js'), comparison()
+    library, compared = text_of('wasm/lay.js'), plain('Comparison', text_of('test/compare.mjs')) + text_of('play/causes.js')
     return {
-        'style': '\n'.join(map(text_of, STYLES)), 'scripts': '\n'.join([compared, *map(text_of, SCRIPTS)]),
+        'style': '\n'.join(map(text_of, STYLES)), 'scripts': '\n'.join([compared, rules(), *map(text_of, SCRIPTS)]),
         'packed': base64.b64encode(MODULE.read_bytes()).decode(), 'exporter': shortened(text_of('export.js')),
         'frame': shortened(text_of('play/frame.js')), 'worker': shortened(library + compared + text_of('play/worker.js')),
         'judge': shortened(library + compared + text_of('play/judge_here.js')), 'given': json.dumps({'examples': examples()}).replace('<', '\\u003c'),

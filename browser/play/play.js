@@ -116,7 +116,7 @@
   function comparedText() {
     const near = rect => rect.y <= state.to && rect.y + rect.height >= state.from;
     const rects = (list, kind) => list.map(inPixels).filter(near).map(rect => rectText(kind, rect)).join('');
-    return state.compared.first.slice(0, 1000).map(({ browser, lay }) => rects(browser, 'browsers') + rects(lay, 'ours')).join('');
+    return state.compared.causes.slice(0, 1000).map(({ browser, lay }) => rects(browser, 'browsers') + rects(lay, 'ours')).join('');
   }
   function redrawWhereScrolled() {
     const pane = element('picture'), top = pane.scrollTop / state.scale, bottom = top + pane.clientHeight / state.scale;
@@ -128,31 +128,34 @@
   const px = ([x, y, width, height]) => [x, y, width, height].map(units => Math.round(units / 64 * 1000) / 1000)
     .reduce((text, number, i) => text + ['', ', ', '  ', ' × '][i] + number, '');
   const placesOf = rects => rects.slice(0, 3).map(px).join('; ') + (rects.length > 3 ? '; …' : '') || 'none';
-  function differenceText({ id, kind, browser, lay }) {
-    const node = state.nodes.get(id), rule = Known.ruleOf(state.nodes, id);
-    const name = kind === 'text' ? `text “${(node.as ?? node.text).trim().slice(0, 30)}”` : `box ${node.tag || node.kind}`;
-    return `<button type="button" class="difference" data-node="${id}"><b>${escaped(name)}</b> <span class="dim">${id}</span>` +
-      `<code>browser ${placesOf(browser)}</code><code>lay ${placesOf(lay)}</code>` +
-      (rule ? `<span class="rule">BROWSERS.md, ${rule.name}: ${escaped(rule.words)}</span>` : '') + '</button>';
+  function differenceText({ id, kind, browser, lay, near }) {
+    const node = state.nodes.get(id), name = kind === 'text' ? `text “${(node.as ?? node.text).trim().slice(0, 30)}”` : `box ${node.tag || node.kind}`;
+    const links = Rules.rulesOf(state.nodes, node).map(({ anchor, title }) => `<a href="../docs/BROWSERS.md#${anchor}">${escaped(title)}</a>`).join(', ');
+    return `<div class="difference" data-node="${id}" tabindex="0" role="button"><b>${escaped(name)}</b> <span class="dim">${id}${near ? ', within 1 px' : ''}</span>` +
+      `<code>browser ${placesOf(browser)}</code><code>lay ${placesOf(lay)}</code>${links ? `<span class="dim">may be: ${links}</span>` : ''}</div>`;
+  }
+  function differencesText({ off, causes }) {
+    const list = entries => entries.slice(0, DIFFERENCES).map(differenceText).join('') +
+      (entries.length > DIFFERENCES ? `<p>and ${entries.length - DIFFERENCES} more</p>` : '');
+    const known = new Set(causes), others = off.filter(entry => !known.has(entry));
+    return `<h2>Where ${counted(causes.length, 'difference')} begin${causes.length === 1 ? 's' : ''}: x, y, width × height in px</h2>${list(causes)}` +
+      (others.length ? `<details><summary>${others.length} that follow</summary>${list(others)}</details>` : '');
+  }
+  function warningText({ what, count, places }) {
+    const links = places.slice(0, 5).map(({ node, selector }) => `<span class="place"${node ? ` data-node="${node}"` : ''}>${escaped(selector.replace(/.* > /, ''))}</span>`);
+    return `<li>${escaped(what)}${count > 1 ? ` (${count})` : ''} ${links.join(' ')}${count > 5 ? ' …' : ''}</li>`;
   }
   function showVerdict() {
     const { compared } = state, verdict = element('verdict');
     verdict.hidden = !compared;
     element('differences').innerHTML = element('warnings').innerHTML = '';
     if (!compared) return;
-    const { blocks, texts } = Comparison.sums(compared.counts), whole = !compared.first.length;
-    verdict.className = whole ? '' : 'differs';
+    const { blocks, texts } = Comparison.sums(compared.counts), { warnings } = state.told;
+    verdict.className = compared.off.length ? 'differs' : '';
     verdict.textContent = `${blocks.exact} of ${counted(blocks.all, 'block')} and ${texts.exact} of ${counted(texts.all, 'text')} stand where lay has them` +
-      (blocks.near > blocks.exact ? ` (${blocks.near} to 1 px)` : '') + '.';
-    if (!whole) {
-      element('differences').innerHTML = `<h2>Differences, innermost first: x, y, width × height in px</h2>` +
-        compared.first.slice(0, DIFFERENCES).map(differenceText).join('') +
-        (compared.first.length > DIFFERENCES ? `<p>and ${compared.first.length - DIFFERENCES} more</p>` : '');
-    }
-    if (state.told.warnings.length) {
-      element('warnings').innerHTML = '<h2>Taken from the browser, or not judged</h2><ul>' + state.told.warnings.map(({ what, count, first }) =>
-        `<li>${escaped(what)}${count > 1 ? ` (${count})` : ''}${first ? ` <span class="dim">${escaped(first)}</span>` : ''}</li>`).join('') + '</ul>';
-    }
+      (blocks.within > blocks.exact ? `; ${blocks.within} blocks do within their parents` : '') + '.';
+    if (compared.off.length) element('differences').innerHTML = differencesText(compared);
+    if (warnings.length) element('warnings').innerHTML = `<h2>Taken from the browser, or not judged</h2><ul>${warnings.map(warningText).join('')}</ul>`;
   }
   function showRefusal() {
     for (const id of ['differences', 'warnings', 'legend', 'layer']) element(id).innerHTML = '';
@@ -212,7 +215,9 @@
     element('layer').onmousemove = event => { if (!state.pinned) { const piece = pointed(event); tell(piece && piece.node, piece); } };
     element('layer').onmouseleave = () => { if (!state.pinned) tell(null); };
     element('layer').onclick = event => { const piece = pointed(event); pin(piece && piece.node, piece); };
-    element('differences').onclick = ({ target }) => { const row = target.closest('[data-node]'); if (row) bring(+row.dataset.node); };
+    const go = ({ target }) => { const row = target.closest('[data-node]'); if (row && !target.closest('a')) bring(+row.dataset.node); };
+    element('differences').onclick = element('warnings').onclick = go;
+    element('differences').onkeydown = event => { if (event.key === 'Enter') go(event); };
     element('picture').onscroll = () => { if (!asked) { asked = true; requestAnimationFrame(() => { asked = false; redrawWhereScrolled(); }); } };
     addEventListener('dragover', event => event.preventDefault());
     addEventListener('drop', async event => { event.preventDefault(); const [file] = event.dataTransfer.files; if (file) { select.value = ''; put(await file.text()); } });

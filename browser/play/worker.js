@@ -7,10 +7,15 @@ async function open({ packed, module }) {
   if (module) { layModule = module; return; }
   layModule = await Lay.open(Uint8Array.from(atob(packed), c => c.charCodeAt(0)));
 }
+// What the browser has elsewhere, and where that begins.
+function comparedWith(run, told, report) {
+  const compared = Comparison.compare({ run, ...told }, report);
+  return { ...compared, causes: Causes.of(run.nodes, compared.off) };
+}
 function answer({ id, words, text, told }) {
   const start = performance.now(), bytes = new TextEncoder().encode(text), { status, out, said, memory } = Lay.call(layModule, words, bytes);
   const report = new TextDecoder().decode(out), milliseconds = performance.now() - start;
-  const compared = told && status === 0 ? Comparison.compare({ run: JSON.parse(text), ...JSON.parse(told) }, report) : null;
+  const compared = told && status === 0 ? comparedWith(JSON.parse(text), JSON.parse(told), report) : null;
   return { id, status, said, memory, milliseconds, report, compared };
 }
 addEventListener('message', async ({ data }) => {
