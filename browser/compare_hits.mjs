@@ -19,6 +19,11 @@ import { basename, dirname, join, resolve } from 'node:path';
 import { fileURLToPath } from 'node:url';
 import { gunzipSync } from 'node:zlib';
 
+if (process.argv.includes('--help')) {
+  const lines = readFileSync(fileURLToPath(import.meta.url), 'utf8').split('\n').slice(1);
+  console.log(lines.slice(0, lines.findIndex(line => !line.startsWith('//'))).map(line => line.slice(3)).join('\n'));
+  process.exit(0);
+}
 const SCALES = [64, 1], UNITS_PER_PX = 64, AT_ONCE = 20;
 const HERE = dirname(fileURLToPath(import.meta.url));
 
