@@ -91,7 +91,7 @@ own_baseline_fits : (o : Option Length) (z : BoxSizes) (natural : Length) → If
 own_baseline_fits None z natural may box fits =
     let height = or_zero_is z.height fits.height in (
       omega (arith, ints, clamps, box.0, fits.bottom.1),
-      omega (arith, ints, clamps, box.1, height.1, fits.top.1, fits.bottom.0, fits.bottom.1)
+      omega (arith, ints, clamps, box.1, height.1, fits.top.1, fits.bottom.0, fits.bottom.1),
     )
 own_baseline_fits (Some b) z natural may box fits = may
 
