@@ -77,7 +77,7 @@ def faults():
 def report_of(program, run):
     if program is None:
         sys.path.insert(0, str(ROOT / 'second_reading'))
-        from report import report
+        from reading.report import report
         return report(run)
     return subprocess.run([program, 'scratch'], input=json.dumps(run), capture_output=True, text=True, timeout=60).stdout
 
