@@ -11,7 +11,7 @@
 //   freeze  true: what `lay` has no rules for is given by its used lengths.  false: it is read as if it were CSS 2.2.
 //   rects   true: adds the browser's own rectangles of each node, in 1/64 px, and what is needed to compare them.
 //   doc     the document; ids: a Map from DOM nodes to the ids that they shall have.
-// Answers { run, warnings: [{ what, count, first }], info, rects?, fit?, kinds? }.
+// Answers { run, warnings: [{ what, count, first, places: [{ selector, node }] }], info, rects?, fit?, kinds? }.
 (function () {
   'use strict';
 
@@ -40,7 +40,12 @@
   const FROZEN = /^(inline-)?(flex|grid|-webkit-box|-webkit-inline-box|grid-lanes)$/;
   const REPLACED = new Set(('input textarea select button meter progress video audio iframe embed object applet canvas img svg ' +
     'math').split(' '));
+  // So many places are told of each warning.
+  const PLACES = 50;
   const LAYOUT_OF_ITS_OWN = /^(fieldset|legend|details|summary|ruby|rt|frameset|marquee|dialog)$/;
+  // The legend of a fieldset stands in its border; browsers have room for it there.
+  const legendOf = item => item.tag === 'fieldset' && item.kids.find(kid => kid.tag === 'legend' && !isOut(kid.used.position) &&
+    kid.used.float === 'none') || null;
   // [property, values without effect, what is said of others]
   const UNKNOWN = [
     ['direction', /^ltr$/, () => 'direction: rtl'],
@@ -73,11 +78,13 @@
   };
   // Whole units of 1/64 px, written exactly.
   const unitsText = units => units === 0 ? '0' : (units / 64).toFixed(6).replace(/\.?0+$/, '') + 'px';
-  // getComputedStyle writes six significant digits: a length that could be whole units is taken to be so.
+  // getComputedStyle writes six significant digits: a length that could be whole units is taken to be so. Browsers round a negative
+  // length towards 0, and `lay` rounds it down: it is written as whole units.
   function pixelText(value) {
     const units = value * 64, whole = Math.round(units), digits = Math.max(1, Math.ceil(Math.log10(Math.abs(value) + 1e-9)));
     if (whole === 0 && Math.abs(units) < 1e-3) return '0';
-    return Math.abs(units - whole) < 64 * 0.6 * 10 ** (digits - 6) ? unitsText(whole) : numberText(value) + 'px';
+    if (Math.abs(units - whole) < 64 * 0.6 * 10 ** (digits - 6)) return unitsText(whole);
+    return value < 0 ? unitsText(Math.ceil(units)) : numberText(value) + 'px';
   }
   // A computed value as a value of `lay`: one of `keywords`, a length or a percentage; null where it is none, as calc().
   function lengthText(value, keywords) {
@@ -87,6 +94,8 @@
     return null;
   }
   const thousandths = value => Math.max(0, Math.min(10000, Math.round(value)));
+  // The units that `lay` has of a length as pixelText writes it.
+  const lengthUnits = text => Math.trunc(float(text) * 64 + Math.sign(float(text)) * 1e-6);
   const unitsOf = size => Math.floor(float(size) * 64 + 1e-6);
   // What `lay` makes of thousandths of a font size.
   const scaled = (advance, fontSize) => Math.floor(advance * fontSize / 1000);
@@ -114,10 +123,28 @@
       nodes: [], rects: {}, fit: {}, kinds: {}, extraId: 2e6, bytes: 0 };
   }
   function warn(job, what, at) {
+    if (!job.warned.has(what)) job.warned.set(what, { what, count: 0, places: new Set() });
     const known = job.warned.get(what);
-    if (known) { known.count++; return; }
-    const first = at && at.nodeType === 1 ? at.localName + (at.id ? '#' + at.id : '') : String(at || '');
-    job.warned.set(what, { what, count: 1, first });
+    known.count++;
+    if (at && known.places.size < PLACES) known.places.add(at);
+  }
+  // A selector of the page that has this element alone, up to the nearest element with an id.
+  function selectorOf(element) {
+    const steps = [];
+    for (let at = element; at && at.nodeType === 1; at = at.parentNode) {
+      if (at.id && at.id.length < 80) { steps.unshift('#' + CSS.escape(at.id)); break; }
+      const alike = at.parentNode ? [...at.parentNode.children].filter(other => other.localName === at.localName) : [at];
+      steps.unshift(at.localName + (alike.length > 1 ? `:nth-of-type(${alike.indexOf(at) + 1})` : ''));
+    }
+    return steps.join(' > ');
+  }
+  // The warnings with their places: a selector, and the number of the node where the document has one.
+  function warningsOf(job) {
+    const ids = new Map(job.items.filter(item => item.element && !item.pseudo && !item.wrapper).map(item => [item.element, item.id]));
+    return [...job.warned.values()].map(({ what, count, places }) => {
+      const told = [...places].map(at => at.nodeType === 1 ? { selector: selectorOf(at), node: ids.get(at) || 0 } : { selector: String(at), node: 0 });
+      return { what, count, first: told.length ? told[0].selector : '', places: told };
+    });
   }
   function warnOfMode(job) {
     const type = job.doc.doctype;
@@ -214,9 +241,14 @@
     if (element.localName === 'br') { item.kind = 'break'; addItem(job, item); return; }
     if (element.localName === 'wbr') { addItem(job, { kind: 'text', up, data: '\u200b', made: true }); return; }
     if (REPLACED.has(element.localName)) { visitReplaced(job, item); return; }
-    if (LAYOUT_OF_ITS_OWN.test(element.localName)) warn(job, element.localName + ' has layout of its own', element);
     addItem(job, item);
     visitInside(job, item, depth);
+    warnOfOwnLayout(job, item);
+  }
+  function warnOfOwnLayout(job, item) {
+    const { element, tag, up } = item, isLegend = tag === 'legend' && up && up.tag === 'fieldset';
+    if (!LAYOUT_OF_ITS_OWN.test(tag) || job.options.freeze && isLegend) return;
+    warn(job, tag + ' has layout of its own' + (job.options.freeze && legendOf(item) ? ' (its legend frozen)' : ''), element);
   }
   function visitInside(job, item, depth) {
     const { element, used } = item;
@@ -437,7 +469,7 @@
   // A pen writes one text. `written` is how far `lay` comes on this line, in units, from `left` on.
   function startPen(job, item) {
     const used = item.up.used, pre = /^(pre|nowrap)$/.test(used['white-space']);
-    return { job, item, used, data: item.data, fontSize: item.up.fontSize, letter: Math.floor(float(used['letter-spacing']) * 64),
+    return { job, item, used, data: item.data, fontSize: item.up.fontSize, letter: lengthUnits(used['letter-spacing']),
       space: item.up.spaceWidth, breaks: pre ? null : item.breaks || new Set(), everywhere: /break-all/.test(used['word-break']), pre,
       out: [], next: 0, top: null, left: 0, right: 0, written: 0, solid: false, last: null };
   }
@@ -565,7 +597,7 @@
   // What is being made of one item: its declarations `style`, and what its children inherit.
   function startStyle(job, item, inherited) {
     const computed = item.computed, options = job.options;
-    const frozen = options.freeze && item.up && FROZEN.test(item.up.used.display) && !isOut(computed.position);
+    const frozen = options.freeze && item.up && !isOut(computed.position) && (FROZEN.test(item.up.used.display) || legendOf(item.up) === item);
     return { job, item, computed, used: item.used, at: item.element, style: {}, before: inherited, inherited: {}, frozen,
       isRoot: !item.up, isReplaced: item.kind === 'replaced', display: computed.display, position: computed.position, overflow: null };
   }
@@ -595,14 +627,26 @@
     if (computed['list-style-position'] === 'inside') warn(job, 'list marker inside (an empty box of its width)', at);
     if (!item.kids.length) warn(job, 'empty list item with a marker', at);
   }
+  const STARTS = [['left', 'right', 0], ['top', 'bottom', 1]];
+  // The corner of what `lay` has for the containing block of an absolute box: that of a padding box, or of the page.
+  function containingCorner(making) {
+    let up = making.position === 'fixed' ? null : making.item.up;
+    while (up && !up.contains) up = up.up;
+    if (!up || !up.rect) return [0, 0];
+    return [up.rect[0] + float(up.used['border-left-width']), up.rect[1] + float(up.used['border-top-width'])];
+  }
+  // Where the browser has an absolute box that has no offset on this axis.
+  function putStaticOffset(making, side, axis) {
+    const { item, used } = making;
+    put(making, side, pixelText(item.rect[axis] - float(used['margin-' + side]) - containingCorner(making)[axis]));
+  }
   function putPosition(making) {
     const { job, item, computed, used, at } = making;
     const sticky = /sticky$/.test(making.position);
     if (sticky) { warn(job, 'position: sticky (frozen where it is)', at); making.position = 'relative'; }
-    if (item.up && isOut(making.position) &&
-        [['left', 'right'], ['top', 'bottom']].some(([a, b]) => computed[a] === 'auto' && computed[b] === 'auto')) {
-      warn(job, 'absolute box at its static position', at);
-    }
+    const still = item.up && isOut(making.position) ? STARTS.filter(([a, b]) => computed[a] === 'auto' && computed[b] === 'auto') : [];
+    const frozenStill = job.options.freeze && item.rect && !making.frozen;
+    if (still.length) warn(job, 'absolute box at its static position' + (frozenStill ? ' (frozen)' : ''), at);
     if (making.frozen) making.position = 'absolute';
     put(making, 'position', making.position);
     const floating = { 'inline-start': 'left', 'inline-end': 'right', left: 'left', right: 'right' };
@@ -617,6 +661,7 @@
       if (value === null) warn(job, 'offset: calc (used value taken)', at);
       put(making, side, value === null ? pixelText(float(used[side])) : value);
     }
+    if (frozenStill) for (const [side, , axis] of still) putStaticOffset(making, side, axis);
     if (/^-?\d{1,9}$/.test(computed['z-index'])) put(making, 'z-index', computed['z-index']);
   }
   // The width or height as `lay` has it, of the content.
@@ -648,10 +693,30 @@
     else if (border && /%$/.test(value) && edgesOf(used, dimension) > 0) warn(job, `${name} in percent with box-sizing: border-box`, at);
     put(making, name, value);
   }
+  // What is inside its own context, and so keeps out of the way of floats.
+  function isContext(making) {
+    const { item, computed } = making;
+    return item.tag === 'fieldset' || making.overflow === 'hidden' || /hidden|scroll|auto|overlay/.test(computed['overflow-x']);
+  }
+  // Whether the browser gave a block less width than its container has, as beside a float; `lay` never does.
+  function isNarrowed(making) {
+    const { job, item, used, computed } = making;
+    if (!job.options.freeze || making.frozen || making.floats || !item.rect || !item.up || isOut(making.position)) return false;
+    if (!/^(block|list-item)$/.test(making.display) || computed.width !== 'auto' || !isContext(making)) return false;
+    let up = item.up;
+    while (up.up && up.used.display === 'inline') up = up.up;
+    if (!up.rect || FROZEN.test(up.used.display)) return false;
+    const room = up.rect[2] - edgesOf(up.used, 'width') - Math.max(0, float(used['margin-left'])) - Math.max(0, float(used['margin-right']));
+    const limit = lengthText(computed['max-width'], ['none']), most = /px$/.test(limit) ? float(limit) + edgesOf(used, 'width') : room;
+    return item.rect[2] < Math.min(room, most) - 1 / 32 && !/%$/.test(limit || '');
+  }
   function putSizes(making) {
     if (making.display === 'inline' && !making.isReplaced && !making.isRoot && !isOut(making.position) && !making.floats) return;
+    const narrowed = isNarrowed(making);
+    if (narrowed) warn(making.job, 'narrowed beside a float (width frozen)', making.at);
     for (const dimension of ['width', 'height']) {
-      put(making, dimension, sizeText(making, dimension));
+      const isUsed = narrowed && dimension === 'width';
+      put(making, dimension, isUsed ? pixelText(usedContent(making.item, dimension)) : sizeText(making, dimension));
       if (making.frozen || making.job.options.freeze && making.flexible) continue;
       putLimit(making, dimension, 'min-');
       putLimit(making, dimension, 'max-');
@@ -673,6 +738,16 @@
       const width = pixelText(float(computed[`border-${side}-width`]));
       if (width !== '3px') making.style[`border-${side}-width`] = width;
     }
+  }
+  // A fieldset holds its floats and margins, and begins below its legend.
+  function putFieldset(making) {
+    const { job, item, used, style } = making, legend = legendOf(item), top = float(used['border-top-width']);
+    if (item.tag !== 'fieldset' || !job.options.freeze) return;
+    making.overflow = 'hidden';
+    if (making.position === 'static') style.position = 'relative';
+    if (!legend || !legend.rect) return;
+    const high = legend.rect[3] + float(legend.used['margin-top']) + float(legend.used['margin-bottom']);
+    if (high > top) style['padding-top'] = pixelText(float(used['padding-top']) + high - top);
   }
   // A frozen item stands in its container where it was.
   function putFrozenPlace(making) {
@@ -762,7 +837,7 @@
       display === 'inline-block' && computed['overflow-x'] === 'visible' && item.kids.length;
     let units = (lowers ? item.lower : 0) - up.lower - (making.isReplaced ? baselineOfText(item) : 0);
     if (value === 'sub' || value === 'super') units += Math.round(up.probe[value] * 64);
-    else if (value !== 'baseline') units += Math.floor(float(value) * 64);
+    else if (value !== 'baseline') units += lengthUnits(value);
     return units === 0 ? 'baseline' : unitsText(units);
   }
   // What a box in a line has above and below its baseline, in units; null where that isn't known: an inline-block of more than a line.
@@ -808,6 +883,7 @@
     putPosition(making);
     putSizes(making);
     putEdges(making);
+    putFieldset(making);
     if (making.frozen) putFrozenPlace(making);
     if (job.options.freeze && making.flexible && making.position === 'static') making.style.position = 'relative';
     putAlignedBlock(making);
@@ -815,6 +891,8 @@
     if (isTable(making.display)) put(making, 'table-layout', making.computed['table-layout'] === 'fixed' ? 'fixed' : 'auto');
     putInherited(making);
     putVerticalAlign(making);
+    const outside = /^(inline|table-(row|cell|caption|row-group|header-group|footer-group|column|column-group))$/.test(making.display);
+    item.contains = making.style.position !== undefined && (!outside || isOut(making.style.position) || making.floats);
     return making;
   }
 
@@ -994,10 +1072,34 @@
     if (making.display === 'inline') saveFit(job, item, item);
     const widths = isTable(making.display) ? freezeTable(job, making) : null;
     if (isTable(making.display)) freezeRows(job, item);
-    for (const width of widths || []) {
-      job.nodes.push({ id: job.extraId++, parent: item.id, kind: 'element', style: { display: 'table-column', width: pixelText(width) } });
-    }
+    if (widths) writeColumns(job, item, widths, making.inherited);
     for (const kid of item.kids) if (!widths || !/^table-column/.test(displayOf(kid))) write(job, kid, item.id, making.inherited);
+  }
+  // What columns and their groups have but their widths: the borders, which tables with collapsed borders draw, and whether they collapse.
+  function columnStyle(job, item, inherited) {
+    const { display, style } = styleOf(job, item, inherited);
+    const kept = Object.entries(style).filter(([name]) => /^border-(top|right|bottom|left)-|^visibility$/.test(name));
+    return { display, ...Object.fromEntries(kept) };
+  }
+  // The columns of a frozen table: the page's own ones, each as often as it stands for, and then those that no element makes.
+  function writeColumns(job, table, widths, inherited) {
+    let next = 0;
+    const pushNode = (id, parent, style) => { job.nodes.push({ id, parent, kind: 'element', style }); job.kinds[id] = 'column'; };
+    const pushColumns = (item, count, parent, style) => {
+      for (let k = 0; k < count; k++) {
+        const width = pixelText(widths[next++] ?? 0);
+        pushNode(item && k === 0 ? item.id : job.extraId++, parent, { ...style, display: 'table-column', width });
+      }
+    };
+    for (const kid of table.kids) {
+      if (displayOf(kid) === 'table-column') pushColumns(kid, kid.element.span || 1, table.id, columnStyle(job, kid, inherited));
+      if (displayOf(kid) !== 'table-column-group') continue;
+      pushNode(kid.id, table.id, columnStyle(job, kid, inherited));
+      const columns = kid.kids.filter(column => displayOf(column) === 'table-column');
+      for (const column of columns) pushColumns(column, column.element.span || 1, kid.id, columnStyle(job, column, inherited));
+      if (!columns.length) pushColumns(null, kid.element.span || 1, kid.id, {});
+    }
+    pushColumns(null, widths.length - next, table.id, {});
   }
   function write(job, item, parent, inherited) {
     if (job.nodes.length > 65532) { warn(job, 'more than 65,536 nodes: the rest is left out', item.element); return; }
@@ -1023,7 +1125,7 @@
     const run = { viewport: viewportOf(job), face: { advance, ...job.face }, nodes: job.nodes };
     const info = { nodes: job.nodes.length, fonts: job.fonts.length, main: job.main.used['font-family'] + ' ' + job.mainSize,
       mainShare: job.characters ? job.main.count / job.characters : 1, url: String(job.doc.location || '') };
-    const answer = { run, warnings: [...job.warned.values()], info };
+    const answer = { run, warnings: warningsOf(job), info };
     return job.options.rects ? { ...answer, rects: job.rects, fit: job.fit, kinds: job.kinds } : answer;
   }
   // The clusters of a text, each with one advance.
@@ -1048,13 +1150,24 @@
     const job = startJob({ mode: 'measured', freeze: true, rects: false, doc: document, ids: null, ...given });
     job.clusters = clusterer();
     warnOfMode(job);
-    visitElement(job, job.root, null, 1);
-    giveIds(job);
-    measureRects(job);
-    measurePage(job);
-    measureSticky(job);
-    readComputed(job);
-    write(job, job.items[0], 0, INHERITED);
+    // `lay` sets what is justified as `left`: so it is measured
+    withStyle(job.root, { 'text-justify': 'none' }, () => {
+      visitElement(job, job.root, null, 1);
+      giveIds(job);
+      measureRects(job);
+      measurePage(job);
+      measureSticky(job);
+      readComputed(job);
+      write(job, job.items[0], 0, INHERITED);
+    });
+    // the elements of some nodes, for who compares
+    window.layExport.selectorsOf = ids => {
+      const items = new Map(job.items.map(item => [item.id, item]));
+      return ids.map(id => {
+        const item = items.get(id), element = item && (item.element || item.up && item.up.element);
+        return element ? selectorOf(element.nodeType === 1 ? element : element.parentNode) : '';
+      });
+    };
     return answerOf(job);
   };
 
@@ -1070,8 +1183,10 @@
   if (window.layExportSettings && window.layExportSettings.manual) return undefined;
   const answer = window.layExport(), text = JSON.stringify(answer.run);
   const { nodes, fonts } = answer.info;
-  console.log(`lay: ${nodes} nodes, ${text.length} bytes, ${fonts} fonts, ${answer.warnings.length} kinds of warnings`);
-  console.table(answer.warnings);
+  const many = (count, one, more) => `${count} ${count === 1 ? one : more}`;
+  console.log(`lay: ${many(nodes, 'node', 'nodes')}, ${text.length} bytes, ${many(fonts, 'font', 'fonts')}, ` +
+    many(answer.warnings.length, 'kind of warnings', 'kinds of warnings'));
+  console.table(answer.warnings.map(({ what, count, first }) => ({ what, count, first })));
   offer(text);
   return answer;
 })();

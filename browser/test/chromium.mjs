@@ -19,10 +19,10 @@ export async function within(milliseconds, work) {
 }
 
 export class Chromium {
-  static async start() {
+  static async start(more = []) {
     const browser = new Chromium();
     browser.folder = mkdtempSync(join(tmpdir(), 'lay-chromium-'));
-    browser.process = spawn(process.env.CHROMIUM || 'chromium', [...FLAGS, `--user-data-dir=${browser.folder}`, 'about:blank'],
+    browser.process = spawn(process.env.CHROMIUM || 'chromium', [...FLAGS, ...more, `--user-data-dir=${browser.folder}`, 'about:blank'],
       { stdio: ['ignore', 'ignore', 'ignore', 'pipe', 'pipe'] });
     browser.gone = new Promise(done => { browser.process.on('exit', done); browser.process.on('error', done); });
     Object.assign(browser, { last: 0, waiting: new Map(), listeners: new Map() });

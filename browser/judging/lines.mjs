@@ -1,0 +1,60 @@
+// A line a page: as words on the screen, and as JSON that other commands read.
+import { mkdirSync, readFileSync, writeFileSync } from 'node:fs';
+import { join as path } from 'node:path';
+import { frozenOf, shortly } from './judge.mjs';
+import { indexPage } from './index_page.mjs';
+import { share, totalOf } from './totals.mjs';
+
+const FIRST = 10;
+export const headOf = (options, pages) => ({ shard: options.shard || '1/1', pages, of: options.whole, widths: options.widths, browser: options.browser });
+// What a line keeps of a result: the counts, the kinds of warnings, and the first innermost differences.
+export function lineOf(result) {
+  const { differences, warnings, ...rest } = result;
+  const first = differences.filter(({ innermost }) => innermost).slice(0, FIRST);
+  return { ...rest, warnings: Object.fromEntries(warnings.map(({ what, count }) => [what, count])),
+    first: first.map(({ node, kind, selector, browser, lay, rules }) => ({ node, kind, selector, browser, lay, rules })) };
+}
+export function sayPage(result) {
+  const { blocks, texts, inlines, verdict } = result, at = `${result.name} (${result.width} px${result.mode ? ', ' + result.mode : ''})`;
+  if (verdict === 'failed' || verdict === 'refused') return `${at}: ${verdict}: ${result.fault}`;
+  const frozen = frozenOf(result.warnings).map(warning => `${shortly(warning)} ${warning.count}`), others = result.warnings.length - frozen.length;
+  return `${at}: blocks ${blocks.exact} of ${blocks.all} to 1/32 px, ${blocks.near} to 1 px, ${blocks.within} within the parent; ` +
+    `texts ${texts.exact} of ${texts.all}; inline boxes ${inlines.exact} of ${inlines.all}` + (frozen.length ? `; frozen: ${frozen.join(', ')}` : '') +
+    (others ? `; ${others} other ${others === 1 ? 'warning' : 'warnings'}` : '') + (result.unchanged ? '' : '; THE PAGE WAS CHANGED');
+}
+export function sayTotal(results) {
+  const widths = [...new Set(results.map(({ width }) => width))].sort((a, b) => a - b);
+  const parts = widths.length > 1 ? [...widths.map(width => [`${width} px`, results.filter(result => result.width === width)]), ['all', results]] : [['all', results]];
+  return parts.map(([title, list]) => {
+    const { pages, whole, differs, refused, failed, blocks, texts, inlines } = totalOf(list);
+    return `${title}: ${pages} pages, ${whole} whole, ${differs} differ, ${refused} refused, ${failed} failed; blocks ${blocks.exact} of ${blocks.all}` +
+      `${share(blocks.exact, blocks.all)} to 1/32 px, ${blocks.near}${share(blocks.near, blocks.all)} to 1 px, ${blocks.within}` +
+      `${share(blocks.within, blocks.all)} within the parent; texts ${texts.exact} of ${texts.all}; inline boxes ${inlines.exact} of ${inlines.all}`;
+  }).join('\n');
+}
+// What is missing of the shards that were put together.
+function gaps(heads, results) {
+  const found = [], count = +(heads[0]?.shard.split('/')[1] ?? 1), places = new Set(heads.map(({ shard }) => +shard.split('/')[0]));
+  if (heads.some(({ shard, of }) => +shard.split('/')[1] !== count || of !== heads[0].of)) found.push('the shards are of different suites');
+  for (let place = 1; place <= count; place++) if (!places.has(place)) found.push(`shard ${place}/${count} is missing`);
+  if (places.size !== heads.length) found.push('a shard is there twice');
+  const wanted = heads.reduce((sum, { pages }) => sum + pages, 0);
+  if (wanted !== results.length) found.push(`${results.length} of ${wanted} pages were judged`);
+  return found;
+}
+// Reads lines of shards, says the total, and writes one file and an index of all.
+export function join(options) {
+  const values = options.files.flatMap(file => readFileSync(file, 'utf8').split('\n').filter(Boolean).map(line => JSON.parse(line)));
+  const heads = values.filter(value => value.shard !== undefined), results = values.filter(value => value.verdict !== undefined);
+  results.sort((a, b) => (a.page < b.page ? -1 : a.page > b.page ? 1 : a.width - b.width));
+  for (const { name, width, verdict, fault } of results) if (verdict !== 'whole') console.log(`${name} (${width} px): ${verdict}${fault ? ': ' + fault : ''}`);
+  if (options.out) {
+    mkdirSync(options.out, { recursive: true });
+    writeFileSync(path(options.out, 'pages.jsonl'), results.map(value => JSON.stringify(value) + '\n').join(''));
+    writeFileSync(path(options.out, 'index.html'), indexPage(results));
+  }
+  console.log(sayTotal(results));
+  const missing = gaps(heads, results);
+  for (const gap of missing) console.log(gap);
+  return missing.length || !results.every(({ verdict }) => verdict === 'whole') ? 1 : 0;
+}

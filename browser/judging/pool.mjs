@@ -1,0 +1,70 @@
+// Judges all pages of a shard, some at a time, and writes what is asked for.
+import { mkdirSync, openSync, writeFileSync, writeSync, closeSync } from 'node:fs';
+import { join } from 'node:path';
+import { Opener } from './opening.mjs';
+import { judge } from './judge.mjs';
+import { headOf, lineOf, sayPage, sayTotal } from './lines.mjs';
+import { resultPage } from './result_page.mjs';
+import { indexPage } from './index_page.mjs';
+
+// One browser for all; another where it has ended.
+function starter(options) {
+  let running = null;
+  return {
+    async get() {
+      if (running && (await running).isGone) { await (await running).close().catch(() => {}); running = null; }
+      running ??= Opener.start(options.browser, options.network);
+      return running;
+    },
+    async close() { if (running) await (await running).close(); },
+  };
+}
+function failure(task, error) {
+  const none = { all: 0, exact: 0, near: 0, within: 0 };
+  return { page: task.page, name: task.name, width: task.width, height: task.height, verdict: 'failed', fault: error.message.slice(0, 400), nodes: 0,
+    blocks: none, texts: none, inlines: none, differing: 0, differences: [], warnings: [] };
+}
+async function judgeOne(browsers, options, task) {
+  const wants = result => Boolean(options.out) && (!options.differing || result.verdict !== 'whole');
+  for (let tries = 0; ; tries++) {
+    try {
+      const opener = await browsers.get(), judged = await judge(opener, task, wants);
+      if (wants(judged.result)) writeResults(options.out, judged);
+      return judged.result;
+    } catch (error) {
+      if (tries === 1 || !/ended|closed|crash/i.test(error.message)) return failure(task, error);      // a browser that ended takes other pages along
+    }
+  }
+}
+function writeResults(folder, { result, answer, report, picture }) {
+  const file = ending => join(folder, result.name + ending);
+  writeFileSync(file('.png'), picture);
+  writeFileSync(file('.run.json'), JSON.stringify(answer.run));
+  writeFileSync(file('.report.txt'), report);
+  writeFileSync(file('.json'), JSON.stringify(result, null, 1) + '\n');
+  writeFileSync(file('.html'), resultPage(result, answer, report));
+}
+// Runs `work` of all tasks, `jobs` at a time.
+async function inTurns(jobs, tasks, work) {
+  let next = 0;
+  const worker = async () => { while (next < tasks.length) { const task = tasks[next++]; await work(task); } };
+  await Promise.all(Array.from({ length: Math.min(jobs, Math.max(1, tasks.length)) }, worker));
+}
+export async function judgeAll(options, tasks) {
+  const browsers = starter(options), results = [];
+  if (options.out) mkdirSync(options.out, { recursive: true });
+  const lines = options.lines || options.out && join(options.out, 'pages.jsonl'), out = lines ? openSync(lines, 'w') : null;
+  const write = value => { if (out !== null) writeSync(out, JSON.stringify(value) + '\n'); };
+  write(headOf(options, tasks.length));
+  try {
+    await inTurns(options.browser === 'firefox' ? 1 : options.jobs, tasks, async task => {
+      const result = await judgeOne(browsers, options, task), line = lineOf(result);
+      results.push(line);
+      write(line);
+      console.log(sayPage(result));
+    });
+  } finally { await browsers.close(); if (out !== null) closeSync(out); }
+  if (options.out) writeFileSync(join(options.out, 'index.html'), indexPage(results));
+  if (results.length !== 1) console.log(sayTotal(results));
+  return results.every(({ verdict }) => verdict === 'whole') ? 0 : 1;
+}

@@ -1,0 +1,1 @@
+export async function judgeReftest() { throw new Error('not there'); }
