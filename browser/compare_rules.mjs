@@ -6,11 +6,12 @@
 //
 // A line has the browser, the box, its place and size in px there, and those of the report. Boxes of texts aren't compared, nor heights
 // that come from the browser's font: look for what the page says of the rule. What is under a point, compare_hits.mjs asks.
+import './test/help.mjs';
 import { mkdtempSync, readFileSync, rmSync, writeFileSync } from 'node:fs';
 import { spawnSync } from 'node:child_process';
 import { tmpdir } from 'node:os';
 import { join } from 'node:path';
-import { fileURLToPath, pathToFileURL } from 'node:url';
+import { pathToFileURL } from 'node:url';
 import { Chromium } from './test/chromium.mjs';
 import { Firefox } from './test/firefox.mjs';
 
@@ -79,10 +80,4 @@ async function main() {
   rmSync(folder, { recursive: true });
 }
 
-if (process.argv.length > 2) {
-  const lines = readFileSync(fileURLToPath(import.meta.url), 'utf8').split('\n').slice(1);
-  console.log(lines.slice(0, lines.findIndex(line => !line.startsWith('//'))).map(line => line.slice(3)).join('\n'));
-  process.exitCode = process.argv[2] === '--help' ? 0 : 2;
-} else {
-  await main();
-}
+await main();
