@@ -499,10 +499,13 @@
   function writeSpace(pen, cluster, from) {
     pen.solid = cluster === '\u00a0';
     const rect = rectBetween(pen, from, pen.next);
-    // Nothing breaks at a space of `pre`: it becomes a character of its width (a tab would count the face's spaces).
-    if ((cluster === '\t' || cluster === ' ') && pen.used['white-space'] === 'pre' && rect) {
+    // Nothing breaks at a space of `pre`: it becomes a character of its width. So does a tab, which would count the face's spaces;
+    // with `pre-wrap` a line may break behind it.
+    const pre = pen.used['white-space'], kept = cluster === '\t' ? /^(pre|pre-wrap|break-spaces)$/.test(pre) : cluster === ' ' && pre === 'pre';
+    if (kept && rect) {
       toLineOf(pen, rect);
       emit(pen, restOf(pen, rect));
+      if (pre !== 'pre') { pen.out.push('\u200b'); pen.solid = false; }
       return;
     }
     pen.out.push(cluster === '\r' || cluster === '\f' ? ' ' : cluster);         // browsers read CR as a space, CSS 2.2 as a character
@@ -1016,7 +1019,7 @@
     if (length > 65536) { warn(job, 'text of more than 65,536 bytes (cut)', item.up.element); text = [...text].slice(0, 16384).join(''); }
     // `lay` reads no member `as`: it is the text as it was, for people and pictures
     job.nodes.push(job.measured ? { id: item.id, parent, kind: 'text', text, as: item.data } : { id: item.id, parent, kind: 'text', text });
-    job.kinds[item.id] = 'text';
+    job.kinds[item.id] = item.made ? 'skip' : 'text';                           // no browser tells where generated texts are
     saveRects(job, item);
     saveFit(job, item, item.up);
   }
