@@ -3,12 +3,13 @@
 (() => {
   const element = id => document.getElementById(id);
   const textIn = id => element(id).textContent;
-  const PAUSE = 150, LIMIT = 10000, DIFFERENCES = 100, MARGIN = 10, LEAST_HEIGHT = 300;
+  const PAUSE = 150, LONGEST_PAUSE = 1500, LIMIT = 10000, DIFFERENCES = 100, MARGIN = 10, LEAST_HEIGHT = 300;
   const { escaped } = Picture;
   // `compared` is what the worker made of the browser's rectangles; `drawn` the pieces that are in the picture.
   const state = { run: null, shown: [], edits: [], at: 0, pieces: [], nodes: new Map(), world: null, changes: null, compared: null, told: null,
-    refusal: '', pinned: null, hidden: new Set(['line', 'text']), scale: 1, extent: null, drawn: [], from: 0, to: 0, origin: [0, 0], turn: 0 };
+    refusal: '', pinned: null, hidden: new Set(['line', 'text']), scale: 1, extent: null, drawn: [], from: 0, to: 0, origin: [0, 0], turn: 0, took: 0 };
   const runner = new Runner({ source: textIn('worker'), packed: textIn('packed') }, LIMIT);
+  const editor = new Editor(element('editor'), () => { element('examples').value = ''; later(); });
   const stage = new Stage(element('frames'), { exporter: textIn('exporter'), frame: textIn('frame') });
 
   const isDocument = text => /^\s*\{/.test(text);
@@ -31,7 +32,7 @@
     return stage.measure(text, widthOfPage(), height, nodes => say(`measuring ${counted(nodes, 'element')}`, 'busy'));
   }
   async function laidOut() {
-    const text = element('editor').value, turn = ++state.turn;
+    const text = editor.value, turn = ++state.turn;
     let page = null;
     if (isDocument(text)) stage.clear();
     else {
@@ -43,7 +44,8 @@
     say('lay lays it out', 'busy');
     const answer = await runner.call(words, run, page && page.told);
     if (turn !== state.turn || answer.dropped) return;
-    take(run, page, answer);
+    state.took = answer.milliseconds + (page ? page.milliseconds : 0);
+    await take(run, page, answer, turn);
   }
   function layOut() {
     laidOut().catch(error => say(/memory64|type mismatch|invalid memory|limits flags/.test(error.message)
@@ -52,40 +54,44 @@
   const STATUSES = { 5: 'lay ran out of memory', trap: 'lay was stopped: a check of this unproved build failed' };
   function timesOf(page, answer) {
     const parts = page ? [`${counted(page.nodes, 'element')} measured in ${Math.round(page.milliseconds)} ms`] : [];
-    return [...parts, `lay: ${counted(JSON.parse(answer.run).nodes.length, 'node')} in ${answer.milliseconds.toFixed(answer.milliseconds < 10 ? 1 : 0)} ms`].join('; ');
+    return [...parts, `lay: ${counted(state.run.nodes.length, 'node')} in ${answer.milliseconds.toFixed(answer.milliseconds < 10 ? 1 : 0)} ms`].join('; ');
   }
-  function take(run, page, answer) {
+  // Lets the browser answer keys and draw between two pieces of work.
+  const breath = () => new Promise(done => setTimeout(done));
+  function parsed(text) { try { return JSON.parse(text); } catch { return null; } }          // `lay` refuses what is no JSON text, and says so
+  async function take(run, page, answer, turn) {
     if (answer.late) { say(`lay took longer than ${answer.late / 1000} s and was ended`, 'bad'); return; }
     if (STATUSES[answer.status]) { say([STATUSES[answer.status], answer.said].filter(Boolean).join(': '), 'bad'); return; }
     const { shown, edits, refusal } = Reading.readReport(answer.report);
-    let parsed = null;
-    try { parsed = JSON.parse(run); } catch { /* `lay` refuses it, and says so */ }
-    Object.assign(state, { run: parsed, shown, edits, refusal, at: shown.length - 1, compared: answer.compared, pinned: null,
-      told: page && JSON.parse(page.told) });
+    await breath();
+    const document = parsed(run), told = page && JSON.parse(page.told);
+    await breath();
+    if (turn !== state.turn) return;
+    Object.assign(state, { run: document, shown, edits, refusal, at: shown.length - 1, compared: answer.compared, pinned: null, told });
     if (refusal) { showRefusal(); say('lay refuses this document', 'bad'); return; }
-    say(timesOf(page, { ...answer, run }));
-    show();
+    say(timesOf(page, answer));
+    await show(turn);
   }
 
   // ---- Drawing --------------------------------------------------------------------------------------------------------------------
 
   const hasBrowser = () => Boolean(state.compared);
   // The tree that is shown, with all that is drawn and told of it.
-  function show() {
-    const tree = state.shown[state.at], before = state.shown[state.at - 1];
-    state.nodes = Reading.nodesAt(state.run, state.edits, tree.version);
-    state.pieces = tree.pieces;
-    for (const piece of tree.pieces) piece.kind = Kinds.of(state.nodes, piece);
-    state.world = BoxModel.worldOf(state.nodes, tree.pieces, state.run.viewport);
-    state.changes = before ? Changes.between(before.pieces, tree.pieces) : null;
-    state.extent = Window.extentOf(tree.pieces);
+  async function show(turn = state.turn) {
+    const tree = state.shown[state.at], before = state.shown[state.at - 1], nodes = Reading.nodesAt(state.run, state.edits, tree.version);
+    await breath();
+    for (const piece of tree.pieces) piece.kind = Kinds.of(nodes, piece);
+    await breath();
+    if (turn !== state.turn) return;
+    Object.assign(state, { nodes, pieces: tree.pieces, world: BoxModel.worldOf(nodes, tree.pieces, state.run.viewport),
+      changes: before ? Changes.between(before.pieces, tree.pieces) : null, extent: Window.extentOf(tree.pieces) });
     element('versions').hidden = state.shown.length < 2;
     element('slider').max = state.shown.length - 1;
     element('slider').value = state.at;
     element('version').textContent = `${tree.version}, ${tree.title}${state.changes ? ': ' + Changes.inWords(state.changes) : ''}`;
     element('legend').innerHTML = Info.ofLegend(state.pieces, state.hidden);
-    showVerdict();
     draw();
+    showVerdict();
     tell(null);
   }
   function scaleOf() {
@@ -98,7 +104,7 @@
     const pane = element('picture'), scale = state.scale = scaleOf(), over = hasBrowser() && element('shown').value !== 'lay';
     const top = pane.scrollTop / scale, bottom = top + pane.clientHeight / scale;
     Object.assign(state, Window.near(state.pieces, state.extent, top, bottom));
-    if (!over) Texts.give(state.nodes, state.drawn, state.run.face);
+    if (!over) giveTexts();
     const hidden = new Set([...state.hidden, 'extent']);
     if (!over) hidden.delete('text');
     element('layer').innerHTML = Picture.svg({ pieces: state.drawn, face: state.run.face, viewport: state.run.viewport, hidden, labels: element('labels').checked,
@@ -109,6 +115,11 @@
     Object.assign(element('frames').style, { left: -x * scale + 'px', top: -y * scale + 'px', transform: `scale(${scale})` });
     document.body.classList.toggle('over', over);
     document.body.classList.toggle('only-browser', over && element('shown').value === 'browser');
+  }
+  // The characters of the texts that are drawn; a text is parted among all of its pieces.
+  function giveTexts() {
+    const drawn = new Set(state.drawn.map(piece => piece.node));
+    Texts.give(state.nodes, state.pieces.filter(piece => piece.word === 'text' && drawn.has(piece.node)), state.run.face);
   }
   const inPixels = ([x, y, width, height]) => ({ x: x / 64, y: y / 64, width: width / 64, height: height / 64 });
   const rectText = (kind, { x, y, width, height }) => `<rect class="${kind}" x="${x}" y="${y}" width="${width}" height="${height}"/>`;
@@ -196,16 +207,18 @@
   // ---- What one does --------------------------------------------------------------------------------------------------------------
 
   let timer = 0, asked = false;
-  function later() { clearTimeout(timer); timer = setTimeout(layOut, PAUSE); }
+  function later() {
+    clearTimeout(timer);
+    timer = setTimeout(layOut, Math.min(LONGEST_PAUSE, PAUSE + state.took / 4));
+  }
   function put(text) {
-    element('editor').value = text;
+    editor.value = text;
     layOut();
   }
   function listen() {
     const { examples } = JSON.parse(textIn('given')), select = element('examples');
     select.innerHTML = examples.map(([name], i) => `<option value="${i}">${escaped(name)}</option>`).join('') + '<option value="" hidden>your own</option>';
     select.onchange = () => put(examples[+select.value][1]);
-    element('editor').oninput = () => { select.value = ''; later(); };
     element('width').oninput = later;
     element('shown').onchange = element('labels').onchange = draw;
     element('slider').oninput = () => { state.at = +element('slider').value; state.pinned = null; show(); };
@@ -223,11 +236,11 @@
     addEventListener('drop', async event => { event.preventDefault(); const [file] = event.dataTransfer.files; if (file) { select.value = ''; put(await file.text()); } });
     addEventListener('hashchange', start);
     let seen = room();
-    new ResizeObserver(() => { if (Math.abs(room() - seen) > 1) { seen = room(); if (!isDocument(element('editor').value)) later(); else draw(); } }).observe(element('picture'));
+    new ResizeObserver(() => { if (Math.abs(room() - seen) > 1) { seen = room(); if (!isDocument(editor.value)) later(); else draw(); } }).observe(element('picture'));
     return examples;
   }
   async function copyLink() {
-    const address = await Address.of(element('editor').value);
+    const address = await Address.of(editor.value);
     history.replaceState(null, '', address);
     try { await navigator.clipboard.writeText(address); say(`the address is copied, ${counted(address.length, 'character')}`); } catch { say('the address of this page holds the document now'); }
   }
@@ -238,7 +251,7 @@
   async function start() {
     let given = null;
     try { given = await Address.read(); } catch { say('the document in the address could not be read', 'bad'); }
-    if (given !== null) { element('examples').value = ''; put(given); } else if (!element('editor').value) put(examples[0][1]);
+    if (given !== null) { element('examples').value = ''; put(given); } else if (!editor.value) put(examples[0][1]);
     else layOut();
   }
   const examples = listen();
@@ -248,5 +261,5 @@
     element('kit').textContent = runner.about.kit;
   }, () => {});
   start();
-  window.layPlay = { state, runner, stage };                                   // for tests
+  window.layPlay = { state, runner, stage, editor, put };                                   // for tests
 })();

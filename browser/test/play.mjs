@@ -16,8 +16,8 @@ try {
   const until = async test => { for (let i = 0; i < 200 && !await page.evaluate(test); i++) await pause(50); };
   await until('layPlay.state.pieces.length > 0 || layPlay.state.refusal');
   console.log(`first layout ${Date.now() - start} ms after opening`);
-  if (options.document) await page.evaluate(`(() => { const editor = document.getElementById('editor'); layPlay.state.pieces = []; layPlay.state.refusal = '';
-    editor.value = ${JSON.stringify(readFileSync(options.document, 'utf8'))}; editor.oninput(); })()`);
+  if (options.document) await page.evaluate(`(() => { layPlay.state.pieces = []; layPlay.state.refusal = '';
+    layPlay.put(${JSON.stringify(readFileSync(options.document, 'utf8'))}); })()`);
   else await page.evaluate(`(() => { const select = document.getElementById('examples'); layPlay.state.pieces = []; layPlay.state.refusal = '';
     select.value = '${options.example}'; select.onchange(); })()`);
   await until('layPlay.state.pieces.length > 0 || layPlay.state.refusal');
