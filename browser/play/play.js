@@ -3,7 +3,7 @@
 (() => {
   const element = id => document.getElementById(id);
   const textIn = id => element(id).textContent;
-  const PAUSE = 150, LONGEST_PAUSE = 1500, LIMIT = 10000, DIFFERENCES = 100, MARGIN = 10, LEAST_HEIGHT = 300;
+  const PAUSE = 150, LONGEST_PAUSE = 1500, LIMIT = 20000, DIFFERENCES = 100, MARGIN = 10, LEAST_HEIGHT = 300;
   const { escaped } = Picture;
   // `compared` is what the worker made of the browser's rectangles; `drawn` the pieces that are in the picture.
   const state = { run: null, shown: [], edits: [], at: 0, pieces: [], nodes: new Map(), world: null, changes: null, compared: null, told: null,
@@ -86,6 +86,7 @@
     Object.assign(state, { nodes, pieces: tree.pieces, world: BoxModel.worldOf(nodes, tree.pieces, state.run.viewport),
       changes: before ? Changes.between(before.pieces, tree.pieces) : null, extent: Window.extentOf(tree.pieces) });
     element('versions').hidden = state.shown.length < 2;
+    element('shown').disabled = !hasBrowser();
     element('slider').max = state.shown.length - 1;
     element('slider').value = state.at;
     element('version').textContent = `${tree.version}, ${tree.title}${state.changes ? ': ' + Changes.inWords(state.changes) : ''}`;
@@ -174,12 +175,16 @@
     element('versions').hidden = true;
     element('info').innerHTML = Info.ofRefusal(Refusals.explain(state.refusal, state.run));
   }
+  function summary() {
+    const count = state.pieces.length ? `<p>${counted(state.pieces.length, 'piece')}. Point at one, or click to keep it.</p>` : '';
+    return state.changes ? count + Info.ofChanges(state.changes) : count;
+  }
   const pieceOf = node => state.pieces.find(piece => piece.node === node && piece.word !== 'line');
   function tell(node, piece) {
     for (const on of document.querySelectorAll('.on')) on.classList.remove('on');
     const layer = document.querySelector('#layer .model'), chosen = node && (piece || pieceOf(node));
     if (layer) layer.innerHTML = '';
-    if (!node) { element('info').innerHTML = state.pieces.length ? `<p>${counted(state.pieces.length, 'piece')}. Point at one, or click to keep it.</p>` : ''; return; }
+    if (!node) { element('info').innerHTML = summary(); return; }
     const model = chosen ? BoxModel.of(state.world, chosen) : null, count = state.pieces.filter(other => other.node === node).length;
     if (chosen) document.querySelector(`#layer g[data-i="${state.drawn.indexOf(chosen)}"]`)?.classList.add('on');
     element('differences').querySelector(`[data-node="${node}"]`)?.classList.add('on');
