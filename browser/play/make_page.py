@@ -11,7 +11,7 @@ STYLES = ('view/picture.css', 'play/play.css')
 # In the order in which they need each other.
 SCRIPTS = ('view/sheet.js', 'view/reading.js', 'view/refusals.js', 'view/kinds.js', 'view/texts.js', 'view/changes.js', 'view/box_model.js',
            'view/picture.js', 'view/info.js', 'play/address.js', 'play/editor.js', 'play/runner.js', 'play/stage.js', 'play/window.js',
-           'play/play.js')
+           'play/drawing.js', 'play/told.js', 'play/play.js')
 EXAMPLES = ('two columns.html', 'margins that collapse.html', 'a table.html', 'floats with text.html', 'where browsers do otherwise.html',
             'a run document with edits.json')
 

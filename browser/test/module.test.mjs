@@ -2,9 +2,11 @@
 import assert from 'node:assert/strict';
 import { execFileSync, spawnSync } from 'node:child_process';
 import { mkdtempSync, readFileSync, rmSync } from 'node:fs';
+import { createServer } from 'node:http';
 import { tmpdir } from 'node:os';
 import { dirname, join } from 'node:path';
 import { after, before, test } from 'node:test';
+import { Chromium, pause } from './chromium.mjs';
 import { ModulePage } from './module.mjs';
 
 const here = path => new URL(path, import.meta.url).pathname;
@@ -54,10 +56,10 @@ test('where memory ends the status is 5, and what is written is a front of the r
 });
 
 test('an input that does not fit is answered with status 5', async () => {
-  const answer = await page.call(['scratch'], Buffer.alloc(24 * MIB, 0x20), 16 * MIB);
-  assert.deepEqual([answer.status, answer.out.length], [5, 0]);
-  const large = await page.call(['scratch'], Buffer.alloc(17 * MIB, 0x20));
-  assert.deepEqual([large.status, large.out.toString()], [1, 'refused I1\n']);
+  const spaces = (mib, memory) => page.page.evaluate(`(({ status, out }) => [status, new TextDecoder().decode(out)])(
+    Lay.call(window.layModule, ['scratch'], new Uint8Array(${mib * MIB}).fill(32), { memory: ${memory * MIB} }))`);
+  assert.deepEqual(await spaces(24, 16), [5, '']);
+  assert.deepEqual(await spaces(17, 1024), [1, 'refused I1\n']);
 });
 
 test('a module that is stopped says so, and the next call is as the first', async () => {
@@ -83,9 +85,28 @@ test('a stop within a call is the status \'trap\'', async () => {
   assert.ok(answer.said.length > 0);
 });
 
-test('calls do not keep memory: 300 in a row', async () => {
+test('calls do not keep memory: 100 in a row', async () => {
   const text = documentOf(300), first = await page.call(['scratch'], text);
-  for (let i = 0; i < 10; i++) for (const answer of await page.calls(Array(30).fill([['scratch'], text]))) assert.ok(answer.out.equals(first.out));
+  for (let i = 0; i < 5; i++) for (const answer of await page.calls(Array(20).fill([['scratch'], text]))) assert.ok(answer.out.equals(first.out));
+});
+
+test('the example of wasm/README.md', async () => {
+  const readme = readFileSync(here('../wasm/README.md'), 'utf8'), example = /```html\n([^]*?)```/.exec(readme)[1];
+  assert.ok(example.split('\n').length <= 34, 'it is an example of some 30 lines');
+  const server = createServer((request, response) => {
+    const name = request.url.slice(1);
+    if (name === '') response.end(example); else if (['lay.js', 'lay_unproved.wasm.gz'].includes(name)) response.end(readFileSync(here('../wasm/' + name)));
+    else { response.statusCode = 404; response.end(); }
+  });
+  await new Promise(done => server.listen(0, '127.0.0.1', done));
+  const browser = await Chromium.start(['--host-resolver-rules=MAP * ~NOTFOUND, EXCLUDE 127.0.0.1']), tab = await browser.page();
+  try {
+    await tab.open(`http://127.0.0.1:${server.address().port}/`);
+    const shown = `document.getElementById('report').textContent`;
+    for (let i = 0; i < 200 && !await tab.evaluate(shown); i++) await pause(50);
+    const wanted = 'publish 0\nfinal 0\nbox 1 0 0 0 20480 1280\nline 1 0 0 0 20480 1280\ntext 2 0 0 128 5632 1024\n';
+    assert.equal(await tab.evaluate(shown), wanted);
+  } finally { await browser.close(); server.close(); server.closeAllConnections(); }
 });
 
 // ---- The heap -------------------------------------------------------------------------------------------------------------------
