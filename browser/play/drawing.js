@@ -35,8 +35,9 @@ class Drawing {
     if (!tree.over) this.giveTexts();
     const hidden = new Set([...tree.hidden, 'extent']);
     if (!tree.over) hidden.delete('text');
-    this.layer.innerHTML = Picture.svg({ pieces: this.drawn, face: tree.run.face, viewport: tree.run.viewport, hidden, labels: tree.labels,
-      zoom: scale / 2, room: Infinity, changes: tree.changes, shot: tree.over ? { href: 'data:,', width: 0, height: 0, strength: 0 } : null });
+    const { face, viewport } = tree.run, shot = tree.over ? { href: 'data:,', width: 0, height: 0, strength: 0 } : null;
+    this.layer.innerHTML = Picture.svg({ pieces: this.drawn, face, viewport, hidden, labels: tree.labels, zoom: scale / 2, room: Infinity,
+      changes: tree.changes, shot });
     const svg = this.layer.firstElementChild;
     this.origin = svg.getAttribute('viewBox').split(' ').slice(0, 2).map(Number);
     if (tree.compared) svg.insertAdjacentHTML('beforeend', `<g>${this.comparedText()}</g>`);

@@ -15,7 +15,9 @@
     const start = performance.now(), { run, ...told } = layExport({ mode: 'measured', rects: true });
     tell({ measured: { run: JSON.stringify(run), told: JSON.stringify(told), milliseconds: performance.now() - start } });
   }
-  addEventListener('load', () => tell({ loaded: { height: document.documentElement.scrollHeight, nodes: document.getElementsByTagName('*').length } }));
+  addEventListener('load', () => {
+    tell({ loaded: { height: document.documentElement.scrollHeight, nodes: document.getElementsByTagName('*').length } });
+  });
   addEventListener('message', async event => {
     if (event.source !== parent || event.data.measure !== token) return;
     try { await sized(event.data.height); measured(); } catch (error) { tell({ fault: String(error && error.message || error) }); }

@@ -7,8 +7,8 @@
   const LEAST_HEIGHT = 300, WIDEST = 10000;                                     // px
   // `told` and `compared` are what the browser told of its page, and what differs; `turn` counts what was asked for, and `took` is how long
   // the last answer took.
-  const state = { run: null, shown: [], edits: [], at: -1, pieces: [], nodes: new Map(), world: null, changes: null, compared: null, told: null,
-    refusal: '', pinned: null, hidden: new Set(['line', 'text']), turn: 0, took: 0 };
+  const state = { run: null, shown: [], edits: [], at: -1, pieces: [], nodes: new Map(), world: null, changes: null, compared: null,
+    told: null, refusal: '', pinned: null, hidden: new Set(['line', 'text']), turn: 0, took: 0 };
   const runner = new Runner({ source: textIn('worker'), packed: textIn('packed') }, LIMIT);
   const stage = new Stage(element('frames'), { exporter: textIn('exporter'), frame: textIn('frame') });
   const drawing = new Drawing(element('picture'), element('layer'), element('frames'));
@@ -50,10 +50,10 @@
     state.took = answer.milliseconds + (page.milliseconds || 0);
     if (await take(page, answer, turn)) await show(turn);
   }
-  const isUnknown = error => /memory64|invalid memory|limits flags|i64|flags/.test(error.message) && /WebAssembly|wasm|compile/i.test(error.message);
+  const NO_MODULE = /WebAssembly|wasm|DecompressionStream|CompileError/i;
   function layOut() {
-    laidOut().catch(error => say(isUnknown(error) ? 'This browser has no WebAssembly with 64-bit memory, which this page needs.'
-      : error.message, 'bad'));
+    laidOut().catch(error => say(NO_MODULE.test(error.message)
+      ? `This browser doesn't compile the module, which needs WebAssembly with 64-bit memory: ${error.message}` : error.message, 'bad'));
   }
   function later() {
     clearTimeout(later.timer);
@@ -99,7 +99,7 @@
     tell(null);
   }
   function draw() {
-    const view = element('shown').value, over = Boolean(state.compared) && view !== 'lay', { run, nodes, pieces, changes, compared, hidden } = state;
+    const { run, nodes, pieces, changes, compared, hidden } = state, view = element('shown').value, over = Boolean(compared) && view !== 'lay';
     if (!run || !pieces.length) { drawing.clear(); return; }
     document.body.classList.toggle('over', over);
     document.body.classList.toggle('only-browser', over && view === 'browser');
@@ -169,8 +169,9 @@
     } catch { say('the address of this page holds the document now'); }
   }
   function makeBookmark() {
-    const text = `${textIn('exporter')}\n;${textIn('judge')}`.replace('@packed@', textIn('packed'));
-    element('bookmark').href = 'javascript:' + encodeURIComponent(`void (async () => { window.layExportSettings = { manual: true };\n${text}\n})()`);
+    const settings = `window.layExportSettings = { manual: true }; const PACKED = '${textIn('packed')}';`;
+    const text = `void (() => { ${settings}\n${textIn('exporter')}\n;${textIn('judge')}\n})()`;
+    element('bookmark').href = 'javascript:' + encodeURIComponent(text);
   }
   function listenToControls() {
     const select = element('examples'), options = examples.map((example, i) => new Option(example[0], i)), own = new Option('your own', '');

@@ -9,7 +9,11 @@ const library = readFileSync(here('../wasm/lay.js'), 'utf8');
 // These run in the page.
 const PARTS = `${library}
 const bytesOf = text => Uint8Array.from(atob(text), c => c.charCodeAt(0));
-const textOf = bytes => { let text = ''; for (let i = 0; i < bytes.length; i += 8192) text += String.fromCharCode(...bytes.subarray(i, i + 8192)); return btoa(text); };
+function textOf(bytes) {
+  let text = '';
+  for (let i = 0; i < bytes.length; i += 8192) text += String.fromCharCode(...bytes.subarray(i, i + 8192));
+  return btoa(text);
+}
 function callOf([words, input, memory]) {
   const answer = Lay.call(window.layModule, words, bytesOf(input), memory ? { memory } : {});
   return { ...answer, out: textOf(answer.out) };

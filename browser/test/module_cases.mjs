@@ -61,9 +61,11 @@ async function judgeRuns(page, files) {
 const given = process.argv.slice(2), files = given.length ? given : documents();
 const page = await ModulePage.start();
 try {
-  const start = Date.now(), bytes = file => readFileSync(file), edited = files.filter(file => isDocument(file) && /"editors"/.test(bytes(file)));
+  const start = Date.now(), bytes = file => readFileSync(file);
+  const edited = files.filter(file => isDocument(file) && /"editors"/.test(bytes(file)));
   const good = [await compare(page, files, ['scratch'], bytes), await compare(page, files, ['hit', '--x', '50', '--y', '30'], bytes),
     await compare(page, files, ['check'], checkOf), await judgeRuns(page, edited)];
-  console.log(`the module in ${page.browser.version}: ${good.every(Boolean) ? 'as the program' : 'OTHERWISE THAN THE PROGRAM'}, ${Math.round((Date.now() - start) / 1000)} s`);
+  const verdict = good.every(Boolean) ? 'as the program' : 'OTHERWISE THAN THE PROGRAM';
+  console.log(`the module in ${page.browser.version}: ${verdict}, ${Math.round((Date.now() - start) / 1000)} s`);
   process.exitCode = good.every(Boolean) ? 0 : 1;
 } finally { await page.close(); }

@@ -1,4 +1,4 @@
-// play.html in Chromium: its examples, a refusal, versions, an address, a limit of time, a great document while one types, and the bookmark.
+// play.html in Chromium: its examples, a refusal, versions, an address, a limit of time, a great document while one types, the bookmark.
 import assert from 'node:assert/strict';
 import { readFileSync } from 'node:fs';
 import { after, before, test } from 'node:test';
@@ -13,10 +13,11 @@ async function until(expression, milliseconds = 60000) {
   for (const end = Date.now() + milliseconds; Date.now() < end; await pause(30)) if (await page.evaluate(expression)) return;
   throw new Error('not within time: ' + expression + '; ' + await told('status'));
 }
-const isDone = `layPlay.state.at >= 0 && !document.getElementById('status').className && (layPlay.state.pieces.length > 0) || document.getElementById('status').className === 'bad'`;
+const status = `document.getElementById('status').className`;
+const isDone = `${status} === '' && layPlay.state.pieces.length > 0 || ${status} === 'bad'`;
 // Puts a text into the editor, and waits for its layout.
 async function put(text) {
-  await page.evaluate(`(layPlay.state.pieces = [], document.getElementById('status').className = 'busy', layPlay.put(${JSON.stringify(text)}), 0)`);
+  await page.evaluate(`(layPlay.state.pieces = [], ${status} = 'busy', layPlay.put(${JSON.stringify(text)}), 0)`);
   await until(isDone);
 }
 before(async () => {
@@ -49,7 +50,8 @@ test('pages of the examples stand where lay has them, but for the one that is ab
 });
 
 test('scripts of the page that is judged do not run, and nothing is fetched', async () => {
-  await put('<p id="a">one</p><script>document.getElementById("a").textContent = "two"</script><img src="https://example.org/a.png" onerror="document.body.append(1)">');
+  await put('<p id="a">one</p><script>document.getElementById("a").textContent = "two"</script>' +
+    '<img src="https://example.org/a.png" onerror="document.body.append(1)">');
   assert.ok((await page.evaluate(`layPlay.state.run.nodes.map(node => node.as || '').join('')`)).includes('one'));
 });
 
@@ -69,8 +71,9 @@ test('a run document with edits has its versions', async () => {
 });
 
 test('pointing at a box tells its box model', async () => {
-  await put('<!doctype html><style>body { margin: 0 } div { margin: 20px; padding: 10px; border: 5px solid; width: 200px; height: 100px }</style><div></div>');
-  const { left, top } = await page.evaluate(`(({ left, top }) => ({ left, top }))(document.querySelector('#layer svg').getBoundingClientRect())`);
+  const rule = 'margin: 20px; padding: 10px; border: 5px solid; width: 200px; height: 100px';
+  await put(`<!doctype html><style>body { margin: 0 } div { ${rule} }</style><div></div>`);
+  const { left, top } = await page.evaluate(`document.querySelector('#layer svg').getBoundingClientRect().toJSON()`);
   await page.send('Input.dispatchMouseEvent', { type: 'mouseMoved', x: left + 10 + 60, y: top + 10 + 60 });
   await until(`/margin/.test(document.getElementById('info').innerText)`);
   const words = (await told('info')).replace(/\s+/g, ' ');
@@ -97,7 +100,8 @@ function sections(count) {
   const nodes = [{ id: 1, parent: 0, kind: 'element', style: { display: 'block' } }];
   for (let id = 2; nodes.length < 4 * count; id += 4) {
     nodes.push({ id, parent: 1, kind: 'element', style: { display: 'block', overflow: 'hidden', 'margin-top': `${id % 20}px` } },
-      { id: id + 1, parent: id, kind: 'element', style: { display: 'block', float: 'left', width: `${20 + id % 90}px`, height: `${10 + id % 40}px` } },
+      { id: id + 1, parent: id, kind: 'element',
+        style: { display: 'block', float: 'left', width: `${20 + id % 90}px`, height: `${10 + id % 40}px` } },
       { id: id + 2, parent: id, kind: 'element', style: { display: 'block' } },
       { id: id + 3, parent: id + 2, kind: 'text', text: 'some words that stand beside the float '.repeat(1 + id % 5) });
   }
@@ -116,8 +120,10 @@ test('what takes longer than the limit is ended, and the next call is as before'
 test('16,000 nodes are laid out while one types, and the page is never frozen', async () => {
   await put(sections(4000));
   await page.evaluate(`(window.gap = 0, window.ticked = performance.now(), window.ticks = setInterval(() => {
-    const now = performance.now(); gap = Math.max(gap, now - ticked); ticked = now; }, 5), document.getElementById('editor').focus(),
-    getSelection().collapse(document.getElementById('editor').firstChild.firstChild, 1), 0)`);
+    const now = performance.now();
+    gap = Math.max(gap, now - ticked);
+    ticked = now;
+  }, 5), layPlay.editor.place.focus(), getSelection().collapse(layPlay.editor.place.firstChild.firstChild, 1), 0)`);
   const turn = await page.evaluate('layPlay.state.turn');
   for (let i = 0; i < 30; i++) { await page.send('Input.insertText', { text: ' ' }); await pause(60); }
   await until(`layPlay.state.turn > ${turn} && (${isDone})`);
@@ -130,7 +136,8 @@ test('16,000 nodes are laid out while one types, and the page is never frozen', 
 test('the bookmark judges a page over the page itself', async () => {
   await page.evaluate(`document.getElementById('about').open = true`);
   await until(`document.getElementById('bookmark').href.startsWith('javascript:')`);
-  const href = await page.evaluate(`document.getElementById('bookmark').href`), script = decodeURIComponent(href.slice('javascript:'.length));
+  const href = await page.evaluate(`document.getElementById('bookmark').href`);
+  const script = decodeURIComponent(href.slice('javascript:'.length));
   assert.ok(href.length < 2 ** 21, 'Chromium takes addresses of 2 MiB');
   const first = page;
   page = await browser.page(800, 600);
@@ -138,7 +145,8 @@ test('the bookmark judges a page over the page itself', async () => {
     await page.open(here('pages/article.html').href);
     const before = await page.evaluate('document.body.outerHTML');
     // the verdict stands in a closed shadow tree: the test opens it
-    await page.evaluate(`(() => { const attach = Element.prototype.attachShadow; Element.prototype.attachShadow = function () { return window.opened = attach.call(this, { mode: 'open' }); }; })()`);
+    await page.evaluate(`(() => { const attach = Element.prototype.attachShadow;
+      Element.prototype.attachShadow = function () { return window.opened = attach.call(this, { mode: 'open' }); }; })()`);
     await page.evaluate(`(() => { ${script} })()`);
     await until(`/stand where lay has them/.test(window.opened?.querySelector('aside')?.innerText || '')`);
     const words = await page.evaluate(`window.opened.querySelector('aside').innerText`), counts = words.match(/\d+/g).map(Number);
