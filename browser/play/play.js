@@ -2,13 +2,13 @@
 'use strict';
 (() => {
   const element = id => document.getElementById(id), textIn = id => element(id).textContent;
-  const PAUSE = 150, LONGEST_PAUSE = 1500;                                      // milliseconds after a key
+  const PAUSE = 150, LONGEST_PAUSE = 1500;                                      // milliseconds after a key; longer where measuring blocks
   const LIMIT = 20000;                                                          // milliseconds that `lay` may take
   const LEAST_HEIGHT = 300, WIDEST = 10000;                                     // px
-  // `told` and `compared` are what the browser told of its page, and what differs; `turn` counts what was asked for, and `took` is how long
-  // the last answer took.
+  // `told` and `compared` are what the browser told of its page, and what differs; `turn` counts what was asked for, `took` is how long the
+  // last answer took, and `blocked` whether this page stood still meanwhile.
   const state = { run: null, shown: [], edits: [], at: -1, pieces: [], nodes: new Map(), world: null, changes: null, compared: null,
-    told: null, refusal: '', pinned: null, hidden: new Set(['line', 'text']), turn: 0, took: 0 };
+    told: null, refusal: '', pinned: null, hidden: new Set(['line', 'text']), turn: 0, took: 0, blocked: false };
   const runner = new Runner({ source: textIn('worker'), packed: textIn('packed') }, LIMIT);
   const stage = new Stage(element('frames'), { exporter: textIn('exporter'), frame: textIn('frame') });
   const drawing = new Drawing(element('picture'), element('layer'), element('frames'));
@@ -48,6 +48,7 @@
     const answer = await runner.call(words, page.run, page.told);
     if (turn !== state.turn || answer.dropped) return;
     state.took = answer.milliseconds + (page.milliseconds || 0);
+    state.blocked = page.blocked;
     if (await take(page, answer, turn)) await show(turn);
   }
   const NO_MODULE = /WebAssembly|wasm|DecompressionStream|CompileError/i;
@@ -57,7 +58,7 @@
   }
   function later() {
     clearTimeout(later.timer);
-    later.timer = setTimeout(layOut, Math.min(LONGEST_PAUSE, PAUSE + state.took / 4));
+    later.timer = setTimeout(layOut, state.blocked ? LONGEST_PAUSE + state.took : Math.min(LONGEST_PAUSE, PAUSE + state.took / 4));
   }
   // Why there is no report, or ''.
   function faultOf({ late, status, said }) {
