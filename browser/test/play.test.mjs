@@ -133,26 +133,35 @@ test('16,000 nodes are laid out while one types, and the page is never frozen', 
   assert.ok(gap < 1500, `${gap} ms`);
 });
 
-test('the bookmark judges a page over the page itself', async () => {
+// Chooses the bookmark on a page, and waits until its box says something; the test opens the closed shadow tree in which it stands.
+async function chooseBookmark(address, words) {
   await page.evaluate(`document.getElementById('about').open = true`);
   await until(`document.getElementById('bookmark').href.startsWith('javascript:')`);
   const href = await page.evaluate(`document.getElementById('bookmark').href`);
-  const script = decodeURIComponent(href.slice('javascript:'.length));
   assert.ok(href.length < 2 ** 21, 'Chromium takes addresses of 2 MiB');
-  const first = page;
-  page = await browser.page(800, 600);
-  try {
-    await page.open(here('pages/article.html').href);
-    const before = await page.evaluate('document.body.outerHTML');
-    // the verdict stands in a closed shadow tree: the test opens it
-    await page.evaluate(`(() => { const attach = Element.prototype.attachShadow;
-      Element.prototype.attachShadow = function () { return window.opened = attach.call(this, { mode: 'open' }); }; })()`);
-    await page.evaluate(`(() => { ${script} })()`);
-    await until(`/stand where lay has them/.test(window.opened?.querySelector('aside')?.innerText || '')`);
-    const words = await page.evaluate(`window.opened.querySelector('aside').innerText`), counts = words.match(/\d+/g).map(Number);
-    console.log('# ' + words.split('\n').find(line => /stand where/.test(line)));
-    assert.ok(counts[1] > 10 && counts[0] >= counts[1] - 1);
-    assert.equal(await page.evaluate('document.body.outerHTML'), before, 'the page is as it was');
-    assert.ok(await page.evaluate(`window.opened.querySelectorAll('rect.same').length`) > 10);
-  } finally { await page.close(); page = first; }
+  const tab = await browser.page(800, 600), box = `window.opened?.querySelector('aside')?.innerText || ''`;
+  await tab.open(address);
+  const before = await tab.evaluate('document.body.outerHTML');
+  await tab.evaluate(`(() => { const attach = Element.prototype.attachShadow;
+    Element.prototype.attachShadow = function () { return window.opened = attach.call(this, { mode: 'open' }); }; })()`);
+  await tab.evaluate(`(() => { ${decodeURIComponent(href.slice('javascript:'.length))} })()`);
+  for (let i = 0; i < 600 && !words.test(await tab.evaluate(box)); i++) await pause(50);
+  assert.equal(await tab.evaluate('document.body.outerHTML'), before, 'the page is as it was');
+  return { tab, text: await tab.evaluate(box) };
+}
+
+test('the bookmark judges a page over the page itself', async () => {
+  const { tab, text } = await chooseBookmark(here('pages/article.html').href, /stand where lay has them/);
+  const [exact, all] = text.match(/(\d+) of (\d+) blocks/).slice(1).map(Number);
+  console.log('# ' + text.split('\n').find(line => /stand where/.test(line)));
+  assert.ok(all > 10 && exact >= all - 1);
+  assert.ok(await tab.evaluate(`window.opened.querySelectorAll('rect.same').length`) > 10);
+  await tab.close();
+});
+
+test('on a page that forbids WebAssembly the bookmark offers the document', async () => {
+  const html = '<!doctype html><meta http-equiv="Content-Security-Policy" content="script-src \'self\'"><p>one</p>';
+  const { tab, text } = await chooseBookmark('data:text/html,' + encodeURIComponent(html), /page\.run\.json/);
+  assert.match(text, /doesn't let lay run/);
+  await tab.close();
 });
