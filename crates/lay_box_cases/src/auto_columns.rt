@@ -29,7 +29,7 @@ pub(crate) fn answer(alloc: Global, text: &str) -> Result<String> {
     let groups = group_spans(alloc, groups, given.len())?;
     let asked = BoundsIn {
         given: WidthOptions::new(given),
-        cells: SpanRow::new(cells),
+        cells: SpanCells::new(cells),
         groups: GroupSpans::new(groups),
         spacing: size(spacing)?,
     };

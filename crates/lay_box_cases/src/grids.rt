@@ -85,7 +85,7 @@ pub(crate) fn columns(alloc: Global, text: &str) -> Result<String> {
     let first = first_cells(alloc, first, &given)?;
     let columns = ColumnsIn {
         given: WidthOptions::new(given),
-        first: FirstRow::new(first),
+        first: FirstCells::new(first),
         width,
         spacing,
     };
@@ -116,7 +116,7 @@ pub(crate) fn heights(alloc: Global, text: &str) -> Result<String> {
     let cells = row_cells(alloc, cells, &own)?;
     let heights = RowsIn {
         own: UnitList::new(own),
-        cells: RowRow::new(cells),
+        cells: RowCells::new(cells),
         spacing,
         total,
     };
