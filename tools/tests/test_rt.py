@@ -9,6 +9,7 @@ import pathlib
 import subprocess
 import sys
 import tempfile
+import types
 import unittest
 
 ROOT = pathlib.Path(__file__).resolve().parent.parent.parent
@@ -79,6 +80,27 @@ class SameAnswers(unittest.TestCase):
             bare, _ = kits()
             self.assertNotEqual(before, answers(asked, root, 'high'))
             self.assertEqual(answers(bare, root, 'high'), answers(asked, root, 'high'))
+
+
+class PlannedMemory(unittest.TestCase):
+    def ask(self, budget, name):
+        """What is planned for a crate of 3 GB by the kit's function, over a budget of this text."""
+        tool = module(TOOL, 'tool')
+        with tempfile.TemporaryDirectory() as folder:
+            tool.BUDGET = pathlib.Path(folder, 'budget.txt')
+            if budget is not None:
+                tool.BUDGET.write_text(budget)
+            return tool.planning(lambda crate: 3 * 10**9)(types.SimpleNamespace(name=name))
+
+    def test_a_third_more_than_a_proof_took(self):
+        self.assertEqual(2 * 10**9, self.ask('# seconds and GB\none 60 1.5\n', 'one'))
+
+    def test_never_more_than_the_kit_plans(self):
+        self.assertEqual(3 * 10**9, self.ask('one 60 2.5\n', 'one'))
+
+    def test_what_is_not_known(self):
+        for budget in (None, 'one 60\n', 'other 60 1.5\n'):
+            self.assertEqual(3 * 10**9, self.ask(budget, 'one'))
 
 
 class FewerCalls(unittest.TestCase):

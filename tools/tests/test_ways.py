@@ -12,7 +12,7 @@ import tempfile
 import unittest
 
 TOOLS = pathlib.Path(__file__).resolve().parent.parent
-BUDGET = 'low 60\nleft 120   # a remark\nright 60\ntop 60\n'
+BUDGET = 'low 60 0.3\nleft 120   # a remark\nright 60\ntop 60 0.9\n'
 LISTS = '# a remark\nlow:\nleft: low\nright: low\ntop: left right\n'
 # a gate that proves one crate: a process by that crate's name, in its folder, which takes a second of a processor
 STUB = """#!/usr/bin/env python3
@@ -61,6 +61,7 @@ class OneRepository(unittest.TestCase):
         self.assertEqual(['5', '3'], rows['top'][:2])
         self.assertEqual(['2', '1'], rows['left'][:2])
         self.assertEqual(['10', '300'], [rows['all'][0], rows['all'][-1]])
+        self.assertEqual(['0.4', '1.0', '1.0'], [rows[name][2] for name in ('low', 'left', 'top')])
         self.assertIn('the longest chain takes 4 minutes of one processor: low left top\n', text)
 
     def test_a_name_in_vain_is_refused(self):
@@ -128,11 +129,13 @@ class Model(unittest.TestCase):
 
 
 class Budget(unittest.TestCase):
+    BUDGET = {'a': (60, 1.0), 'b': (120, 0), 'c': (60, 1.0)}
+
     def test_a_slow_machine_is_over_for_none(self):
-        self.assertEqual([], module('gate').over_budget({'a': 60, 'b': 120, 'c': 60}, {'a': 2.0, 'b': 4.0, 'c': 2.0}))
+        self.assertEqual([], module('gate').over_budget(self.BUDGET, {'a': 2.0, 'b': 4.0, 'c': 2.0}))
 
     def test_one_that_grew_is_over(self):
-        found = module('gate').over_budget({'a': 60, 'b': 120, 'c': 60}, {'a': 1.0, 'b': 2.0, 'c': 2.0})
+        found = module('gate').over_budget(self.BUDGET, {'a': 1.0, 'b': 2.0, 'c': 2.0})
         self.assertEqual([('c', 120.0, 60.0)], found)
 
 

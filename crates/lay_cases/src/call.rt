@@ -18,7 +18,7 @@ use std::sync::Wait;
 use std::thread::Threads;
 
 /// Makes the top call on the threads of this handle.
-#[derive(Clone, Copy)]
+#[derive(Drop)]
 pub(crate) struct TopCall<'r, R> {
     pub rt: &'r R,
 }
