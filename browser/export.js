@@ -65,7 +65,7 @@
   ];
   const READ = Object.keys(INITIAL).concat(Object.keys(INHERITED), UNKNOWN.map(row => row[0]), ['overflow-x', 'overflow-y', 'box-sizing',
     'font-family', 'font-weight', 'font-style', 'font-stretch', 'font-variant', 'font-kerning', 'font-feature-settings', 'text-transform',
-    'column-count', 'column-width', 'list-style-position', 'list-style-type', 'word-break', 'aspect-ratio', 'tab-size'],
+    'column-count', 'column-width', 'list-style-position', 'list-style-type', 'word-break', 'overflow-wrap', 'aspect-ratio', 'tab-size'],
   SIDES.map(side => `border-${side}-width`));
   const FONT = ['font-style', 'font-variant', 'font-weight', 'font-stretch', 'font-family', 'font-kerning', 'font-feature-settings'];
 
@@ -412,6 +412,7 @@
         let block = item.up;
         while (block.up && block.used.display === 'inline') block = block.up;
         if (!group || group.block !== block) groups.push(group = { block, text: '', parts: [] });
+        item.group = group;
         group.parts.push([group.text.length, item]);
         group.text += item.data;
       } else if (item.kind !== 'element' || item.used.display !== 'inline') group = null;
@@ -471,7 +472,7 @@
     const used = item.up.used, pre = /^(pre|nowrap)$/.test(used['white-space']);
     return { job, item, used, data: item.data, fontSize: item.up.fontSize, letter: lengthUnits(used['letter-spacing']),
       space: item.up.spaceWidth, breaks: pre ? null : item.breaks || new Set(), everywhere: /break-all/.test(used['word-break']), pre,
-      out: [], next: 0, top: null, left: 0, right: 0, written: 0, solid: false, last: null };
+      out: [], next: 0, top: null, left: 0, right: 0, written: 0, solid: false, last: null, end: null, isFresh: true };
   }
   function rectBetween(pen, from, to) {
     if (pen.item.made) return null;
@@ -479,7 +480,17 @@
     const rects = pen.job.range.getClientRects();
     return rects.length ? rects[rects.length - 1] : null;
   }
-  const startLine = (pen, rect) => Object.assign(pen, { top: rect.top, left: rect.left, written: 0, last: null });
+  // What the texts before on this line were rounded by goes on: `written` begins with it.
+  function startLine(pen, rect) {
+    const before = pen.isFresh && pen.job.line, goesOn = before && before.group === pen.item.group && rect.top < before.bottom &&
+      rect.bottom > before.top && rect.left >= before.right - 0.5;
+    Object.assign(pen, { top: rect.top, left: rect.left, written: goesOn ? before.over : 0, last: null, isFresh: false });
+  }
+  function endText(pen) {
+    const { job, item, end } = pen;
+    if (!end || pen.top === null) return;
+    job.line = { group: item.group, top: end.top, bottom: end.bottom, right: end.right, over: pen.left * 64 + pen.written - end.right * 64 };
+  }
   function toLineOf(pen, rect) {
     if (pen.top !== null && Math.abs(rect.top - pen.top) <= 0.5 && rect.left >= pen.left) return;
     startLine(pen, rect);
@@ -496,13 +507,25 @@
     pen.out.push(codeOf(pen.job, advance));
     pen.solid = true;
   }
+  // A place where a line may be broken: `lay` gives its character the letter spacing too.
+  function writeBreakPlace(pen) { pen.out.push('\u200b'); pen.written += pen.letter; }
+  // Whether a visible character of this text stands behind a space on its line.
+  function goesOn(pen, rect) {
+    if (pen.next >= pen.data.length || /[\s\u00a0]/.test(pen.data[pen.next])) return false;
+    const next = rectBetween(pen, pen.next, pen.next + 1);
+    return next !== null && next.width > 0 && Math.abs(next.top - rect.top) <= 0.5 && next.left >= rect.right - 0.5;
+  }
   function writeSpace(pen, cluster, from) {
     pen.solid = cluster === '\u00a0';
     const rect = rectBetween(pen, from, pen.next);
-    // Nothing breaks at a space of `pre`: it becomes a character of its width (a tab would count the face's spaces).
-    if ((cluster === '\t' || cluster === ' ') && pen.used['white-space'] === 'pre' && rect) {
+    // Nothing breaks at a space of `pre`: it becomes a character of its width. So does a tab, which would count the face's spaces;
+    // with `pre-wrap` a line may break behind it.
+    const pre = pen.used['white-space'], kept = cluster === '\t' ? /^(pre|pre-wrap|break-spaces)$/.test(pre) : cluster === ' ' && pre === 'pre';
+    if (kept && rect) {
       toLineOf(pen, rect);
       emit(pen, restOf(pen, rect));
+      pen.end = rect;
+      if (pre !== 'pre') { writeBreakPlace(pen); pen.solid = false; }
       return;
     }
     pen.out.push(cluster === '\r' || cluster === '\f' ? ' ' : cluster);         // browsers read CR as a space, CSS 2.2 as a character
@@ -511,8 +534,11 @@
     if (!rect || rect.width === 0) return;                                      // collapsed away
     if (pen.top === null || Math.abs(rect.top - pen.top) > 0.5) startLine(pen, rect);
     pen.written += pen.space + pen.letter;
+    pen.end = rect;
     const over = Math.round((rect.right - pen.left) * 64 - pen.written);
-    if (pen.last && Math.abs(over) >= 1 && pen.last.units + over >= 0) {        // kerning with the space, given to the character before
+    // Kerning of the space with what stands behind it goes to that character, so that it is gone where the line is broken there; at the
+    // end of a text it goes to the character before.
+    if (!goesOn(pen, rect) && pen.last && Math.abs(over) >= 1 && pen.last.units + over >= 0) {
       const advance = nearestAdvance(pen.last.units + over, pen.fontSize);
       pen.out[pen.last.at] = codeOf(pen.job, advance);
       pen.written += scaled(advance, pen.fontSize) - pen.last.units;
@@ -537,12 +563,27 @@
       !pen.item.up.turned && !breaks.has(from);
     if (rect) pen.right = rect.right;
     if (cut && !pen.everywhere) warn(pen.job, 'word broken inside', at);
-    if (breaks && (breaks.has(from) || pen.everywhere || cut)) pen.out.push('\u200b');
+    if (breaks && (breaks.has(from) || pen.everywhere || cut)) writeBreakPlace(pen);
     if (pen.item.made) emit(pen, canvasAdvance(pen.job, pen.used, cluster) * pen.fontSize / 1000);
-    else { toLineOf(pen, rect); emit(pen, restOf(pen, rect)); }
+    else { toLineOf(pen, rect); emit(pen, restOf(pen, rect)); pen.end = rect; }
     warnOfScript(pen, cluster);
   }
+  // A generated text at the end of an element may be broken inside, as by `overflow-wrap`; only the element's last line tells how much of
+  // it stands there. Gives it that break.
+  function breakGenerated(job, item) {
+    const box = item.up, around = box.up, used = box.used, word = item.data;
+    if (box.pseudo !== '::after' || !around || around.used.display !== 'inline' || !/[^\s]{2}/.test(word) || !around.rects || around.rects.length < 2) return;
+    if (!/break-word|anywhere/.test(used['overflow-wrap']) && used['word-break'] !== 'break-word') return;
+    const edge = ['padding-right', 'border-right-width', 'margin-right'].reduce((sum, name) => sum + float(used[name]) + float(around.used[name]), 0);
+    const last = around.rects[around.rects.length - 1], before = around.rects[around.rects.length - 2], letter = float(used['letter-spacing']);
+    const clusters = job.clusters(word), size = float(used['font-size']) / 1000;
+    let tail = last[2] - edge, at = word.length, k = clusters.length;
+    if (last[1] < before[1] + 1) return;
+    while (k > 0 && tail > 0.4) { k--; at -= clusters[k].length; tail -= canvasAdvance(job, used, clusters[k]) * size + letter; }
+    if (at > 0 && Math.abs(tail) <= 1) (item.breaks || (item.breaks = new Set())).add(at);
+  }
   function rewriteText(job, item) {
+    if (item.made && item.up.pseudo) breakGenerated(job, item);
     const pen = startPen(job, item);
     for (const cluster of job.clusters(item.data)) {
       const from = pen.next;
@@ -550,7 +591,8 @@
       if (/^[ \t\r\n\f]+$/.test(cluster) || cluster === '\u00a0') writeSpace(pen, cluster, from);
       else writeVisible(pen, cluster, from);
     }
-    if (item.breakAfter && !pen.pre) pen.out.push('\u200b');
+    if (item.breakAfter && !pen.pre) writeBreakPlace(pen);
+    endText(pen);
     return pen.out.join('');
   }
   function rewriteTexts(job) {
@@ -1016,7 +1058,7 @@
     if (length > 65536) { warn(job, 'text of more than 65,536 bytes (cut)', item.up.element); text = [...text].slice(0, 16384).join(''); }
     // `lay` reads no member `as`: it is the text as it was, for people and pictures
     job.nodes.push(job.measured ? { id: item.id, parent, kind: 'text', text, as: item.data } : { id: item.id, parent, kind: 'text', text });
-    job.kinds[item.id] = 'text';
+    job.kinds[item.id] = item.made ? 'skip' : 'text';                           // no browser tells where generated texts are
     saveRects(job, item);
     saveFit(job, item, item.up);
   }

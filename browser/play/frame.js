@@ -3,6 +3,7 @@
 (() => {
   'use strict';
   const script = document.currentScript, { token } = script.dataset;
+  script.previousElementSibling.remove();                                       // the policy stays in force
   script.remove();
   const tell = message => parent.postMessage({ token, ...message }, '*');
   const sized = height => new Promise(done => {
@@ -12,10 +13,13 @@
     setTimeout(ended, 500);
   });
   function measured() {
+    if (getComputedStyle(document.documentElement).display === 'none') throw new Error('The page has no box: its root isn\'t displayed.');
     const start = performance.now(), { run, ...told } = layExport({ mode: 'measured', rects: true });
     tell({ measured: { run: JSON.stringify(run), told: JSON.stringify(told), milliseconds: performance.now() - start } });
   }
-  addEventListener('load', () => tell({ loaded: { height: document.documentElement.scrollHeight, nodes: document.getElementsByTagName('*').length } }));
+  addEventListener('load', () => {
+    tell({ loaded: { height: document.documentElement.scrollHeight, nodes: document.getElementsByTagName('*').length } });
+  });
   addEventListener('message', async event => {
     if (event.source !== parent || event.data.measure !== token) return;
     try { await sized(event.data.height); measured(); } catch (error) { tell({ fault: String(error && error.message || error) }); }

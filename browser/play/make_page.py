@@ -10,8 +10,8 @@ MODULE = BROWSER / 'wasm' / 'lay_unproved.wasm.gz'
 STYLES = ('view/picture.css', 'play/play.css')
 # In the order in which they need each other.
 SCRIPTS = ('view/sheet.js', 'view/reading.js', 'view/refusals.js', 'view/kinds.js', 'view/texts.js', 'view/changes.js', 'view/box_model.js',
-           'view/picture.js', 'view/info.js', 'play/address.js', 'play/runner.js', 'play/stage.js', 'play/window.js',
-           'play/play.js')
+           'view/picture.js', 'view/info.js', 'play/address.js', 'play/editor.js', 'play/runner.js', 'play/stage.js', 'play/window.js',
+           'play/drawing.js', 'play/told.js', 'play/play.js')
 EXAMPLES = ('two columns.html', 'margins that collapse.html', 'a table.html', 'floats with text.html', 'where browsers do otherwise.html',
             'a run document with edits.json')
 
@@ -47,6 +47,11 @@ def examples():
     return [[name.rpartition('.')[0], (FOLDER / 'examples' / name.replace(' ', '-')).read_text()] for name in EXAMPLES]
 
 
+def given_text(name, path):
+    """A file as a text that a script has."""
+    return 'const %s = %s;\n' % (name, json.dumps(text_of(path)))
+
+
 def script_text(text):
     """A text for the inside of a script element."""
     return re.sub(r'<(?=/script|!--)', r'\\x3c', text, flags=re.I)
@@ -55,13 +60,17 @@ def script_text(text):
 def parts():
     library, compared = text_of('wasm/lay.js'), plain('Comparison', text_of('test/compare.mjs')) + text_of('play/causes.js')
     return {
-        'style': '\n'.join(map(text_of, STYLES)), 'scripts': '\n'.join([compared, rules(), *map(text_of, SCRIPTS)]),
+        'style': '\n'.join(map(text_of, STYLES)),
+        'scripts': '\n'.join([compared, rules(), *map(text_of, SCRIPTS)]),
         'packed': base64.b64encode(MODULE.read_bytes()).decode(), 'exporter': shortened(text_of('export.js')),
-        'frame': shortened(text_of('play/frame.js')), 'worker': shortened(library + compared + text_of('play/worker.js')),
-        'judge': shortened(library + compared + text_of('play/judge_here.js')), 'given': json.dumps({'examples': examples()}).replace('<', '\\u003c'),
+        'frame': shortened(text_of('play/frame.js')),
+        'worker': shortened(library + compared + text_of('play/worker.js')),
+        'judge': shortened(library + compared + given_text('RULES', 'play/judge_here.css') + text_of('play/judge_here.js')),
+        'given': json.dumps({'examples': examples()}).replace('<', '\\u003c'),
     }
 
 
 def page():
     made = parts()
-    return re.sub(r'@(\w+)@', lambda match: made[match[1]] if match[1] == 'style' else script_text(made[match[1]]), text_of('play/page.html'))
+    written = {name: text if name == 'style' else script_text(text) for name, text in made.items()}
+    return re.sub(r'@(\w+)@', lambda match: written[match[1]], text_of('play/page.html'))

@@ -1,252 +1,231 @@
 // The page: what is written on the left is laid out by the browser and by `lay`, while one types.
 'use strict';
 (() => {
-  const element = id => document.getElementById(id);
-  const textIn = id => element(id).textContent;
-  const PAUSE = 150, LIMIT = 10000, DIFFERENCES = 100, MARGIN = 10, LEAST_HEIGHT = 300;
-  const { escaped } = Picture;
-  // `compared` is what the worker made of the browser's rectangles; `drawn` the pieces that are in the picture.
-  const state = { run: null, shown: [], edits: [], at: 0, pieces: [], nodes: new Map(), world: null, changes: null, compared: null, told: null,
-    refusal: '', pinned: null, hidden: new Set(['line', 'text']), scale: 1, extent: null, drawn: [], from: 0, to: 0, origin: [0, 0], turn: 0 };
+  const element = id => document.getElementById(id), textIn = id => element(id).textContent;
+  const PAUSE = 150, LONGEST_PAUSE = 1500;                                      // milliseconds after a key; longer where measuring blocks
+  const LIMIT = 20000;                                                          // milliseconds that `lay` may take
+  const LEAST_HEIGHT = 300, WIDEST = 10000;                                     // px
+  // `told` and `compared` are what the browser told of its page, and what differs; `turn` counts what was asked for, `took` is how long the
+  // last answer took, and `blocked` whether this page stood still meanwhile.
+  const state = { run: null, shown: [], edits: [], at: -1, pieces: [], nodes: new Map(), world: null, changes: null, compared: null,
+    told: null, refusal: '', pinned: null, hidden: new Set(['line', 'text']), turn: 0, took: 0, blocked: false };
   const runner = new Runner({ source: textIn('worker'), packed: textIn('packed') }, LIMIT);
   const stage = new Stage(element('frames'), { exporter: textIn('exporter'), frame: textIn('frame') });
+  const drawing = new Drawing(element('picture'), element('layer'), element('frames'));
+  const editor = new Editor(element('editor'), () => { element('examples').value = ''; later(); });
+  const { examples } = JSON.parse(textIn('given'));
 
   const isDocument = text => /^\s*\{/.test(text);
-  const room = () => Math.max(100, element('picture').clientWidth - 8);
+  // Lets the browser answer keys and draw between two pieces of work.
+  const breath = () => new Promise(done => setTimeout(done));
   function say(text, kind = '') {
     element('status').textContent = text;
     element('status').className = kind;
   }
-  const counted = (count, noun) => `${count.toLocaleString('en')} ${noun}${count === 1 ? '' : 's'}`;
 
   // ---- Laying out -----------------------------------------------------------------------------------------------------------------
 
   function widthOfPage() {
     const given = Math.floor(+element('width').value);
-    return given >= 1 ? Math.min(given, 10000) : Math.max(100, room() - 2 * MARGIN);
+    return given >= 1 ? Math.min(given, WIDEST) : Math.max(100, drawing.room - 2 * Drawing.MARGIN);
   }
-  async function measured(text) {
+  function measured(text) {
     const height = Math.max(LEAST_HEIGHT, element('picture').clientHeight - 30);
     say('the browser lays the page out', 'busy');
-    return stage.measure(text, widthOfPage(), height, nodes => say(`measuring ${counted(nodes, 'element')}`, 'busy'));
+    return stage.measure(text, widthOfPage(), height, nodes => say(`measuring ${Told.counted(nodes, 'element')}`, 'busy'));
+  }
+  async function pageOf(text) {
+    if (!isDocument(text)) return measured(text);
+    stage.clear();
+    return { run: text, told: null, isAlone: true };
   }
   async function laidOut() {
-    const text = element('editor').value, turn = ++state.turn;
-    let page = null;
-    if (isDocument(text)) stage.clear();
-    else {
-      page = await measured(text);
-      if (turn !== state.turn) return;
-      if (!page || page.fault) { say(page ? page.fault : 'the page could not be measured', 'bad'); return; }
-    }
-    const run = page ? page.run : text, words = !page && /"editors"\s*:/.test(text) ? ['run', '--workers', '1'] : ['scratch'];
+    const text = editor.value, turn = ++state.turn, page = await pageOf(text);
+    if (turn !== state.turn || !page) return;
+    if (page.fault) { say(page.fault, 'bad'); return; }
     say('lay lays it out', 'busy');
-    const answer = await runner.call(words, run, page && page.told);
+    const words = page.isAlone && /"editors"\s*:/.test(text) ? ['run', '--workers', '1'] : ['scratch'];
+    const answer = await runner.call(words, page.run, page.told);
     if (turn !== state.turn || answer.dropped) return;
-    take(run, page, answer);
+    state.took = answer.milliseconds + (page.milliseconds || 0);
+    state.blocked = page.blocked;
+    if (await take(page, answer, turn)) await show(turn);
   }
+  const NO_MODULE = /WebAssembly|wasm|DecompressionStream|CompileError/i;
   function layOut() {
-    laidOut().catch(error => say(/memory64|type mismatch|invalid memory|limits flags/.test(error.message)
-      ? 'This browser has no WebAssembly with 64-bit memory, which this module needs.' : error.message, 'bad'));
+    laidOut().catch(error => say(NO_MODULE.test(error.message)
+      ? `This browser doesn't compile the module, which needs WebAssembly with 64-bit memory: ${error.message}` : error.message, 'bad'));
   }
-  const STATUSES = { 5: 'lay ran out of memory', trap: 'lay was stopped: a check of this unproved build failed' };
-  function timesOf(page, answer) {
-    const parts = page ? [`${counted(page.nodes, 'element')} measured in ${Math.round(page.milliseconds)} ms`] : [];
-    return [...parts, `lay: ${counted(JSON.parse(answer.run).nodes.length, 'node')} in ${answer.milliseconds.toFixed(answer.milliseconds < 10 ? 1 : 0)} ms`].join('; ');
+  function later() {
+    clearTimeout(later.timer);
+    later.timer = setTimeout(layOut, state.blocked ? LONGEST_PAUSE + state.took : Math.min(LONGEST_PAUSE, PAUSE + state.took / 4));
   }
-  function take(run, page, answer) {
-    if (answer.late) { say(`lay took longer than ${answer.late / 1000} s and was ended`, 'bad'); return; }
-    if (STATUSES[answer.status]) { say([STATUSES[answer.status], answer.said].filter(Boolean).join(': '), 'bad'); return; }
+  // Why there is no report, or ''.
+  function faultOf({ late, status, said }) {
+    if (late) return `lay took longer than ${late / 1000} s and was ended`;
+    if (status === 5) return 'lay ran out of memory';
+    return status === 'trap' ? `lay was stopped: a check of this unproved build failed (${said})` : '';
+  }
+  function parsed(text) { try { return JSON.parse(text); } catch { return null; } }
+  // Reads an answer; whether there is a tree to show. What is no JSON text `lay` refuses itself.
+  async function take(page, answer, turn) {
+    const fault = faultOf(answer);
+    if (fault) { say(fault, 'bad'); return false; }
     const { shown, edits, refusal } = Reading.readReport(answer.report);
-    let parsed = null;
-    try { parsed = JSON.parse(run); } catch { /* `lay` refuses it, and says so */ }
-    Object.assign(state, { run: parsed, shown, edits, refusal, at: shown.length - 1, compared: answer.compared, pinned: null,
-      told: page && JSON.parse(page.told) });
-    if (refusal) { showRefusal(); say('lay refuses this document', 'bad'); return; }
-    say(timesOf(page, { ...answer, run }));
-    show();
+    await breath();
+    const run = parsed(page.run), told = page.told && JSON.parse(page.told);
+    await breath();
+    if (turn !== state.turn) return false;
+    Object.assign(state, { run, shown, edits, refusal, at: shown.length - 1, compared: answer.compared, pinned: null, told });
+    if (refusal) { showRefusal(); return false; }
+    say(Told.timesText(page.isAlone ? null : page, answer, run.nodes.length));
+    return true;
   }
 
-  // ---- Drawing --------------------------------------------------------------------------------------------------------------------
+  // ---- Showing --------------------------------------------------------------------------------------------------------------------
 
-  const hasBrowser = () => Boolean(state.compared);
-  // The tree that is shown, with all that is drawn and told of it.
-  function show() {
-    const tree = state.shown[state.at], before = state.shown[state.at - 1];
-    state.nodes = Reading.nodesAt(state.run, state.edits, tree.version);
-    state.pieces = tree.pieces;
-    for (const piece of tree.pieces) piece.kind = Kinds.of(state.nodes, piece);
-    state.world = BoxModel.worldOf(state.nodes, tree.pieces, state.run.viewport);
-    state.changes = before ? Changes.between(before.pieces, tree.pieces) : null;
-    state.extent = Window.extentOf(tree.pieces);
+  // The tree that is shown, with all that is told of it.
+  async function show(turn = state.turn) {
+    const tree = state.shown[state.at], before = state.shown[state.at - 1], nodes = Reading.nodesAt(state.run, state.edits, tree.version);
+    await breath();
+    for (const piece of tree.pieces) piece.kind = Kinds.of(nodes, piece);
+    await breath();
+    if (turn !== state.turn) return;
+    Object.assign(state, { nodes, pieces: tree.pieces, world: BoxModel.worldOf(nodes, tree.pieces, state.run.viewport),
+      changes: before ? Changes.between(before.pieces, tree.pieces) : null });
+    draw();
+    showVersion(tree);
+    showVerdict();
+    element('legend').innerHTML = Info.ofLegend(state.pieces, state.hidden);
+    tell(null);
+  }
+  function draw() {
+    const { run, nodes, pieces, changes, compared, hidden } = state, view = element('shown').value, over = Boolean(compared) && view !== 'lay';
+    if (!run || !pieces.length) { drawing.clear(); return; }
+    document.body.classList.toggle('over', over);
+    document.body.classList.toggle('only-browser', over && view === 'browser');
+    drawing.show({ run, nodes, pieces, changes, compared, hidden, over, labels: element('labels').checked });
+    if (state.pinned) tell(...state.pinned);
+  }
+  function showVersion(tree) {
     element('versions').hidden = state.shown.length < 2;
     element('slider').max = state.shown.length - 1;
     element('slider').value = state.at;
     element('version').textContent = `${tree.version}, ${tree.title}${state.changes ? ': ' + Changes.inWords(state.changes) : ''}`;
-    element('legend').innerHTML = Info.ofLegend(state.pieces, state.hidden);
-    showVerdict();
-    draw();
-    tell(null);
-  }
-  function scaleOf() {
-    const [width] = state.run.viewport, whole = Math.max(width, state.extent.x + state.extent.width) - Math.min(0, state.extent.x) + 2 * MARGIN;
-    return Math.min(1, room() / Math.max(width + 2 * MARGIN, Math.min(whole, 1.5 * width)));
-  }
-  // Draws the pieces near what is seen, and puts the frame where the page of the picture is.
-  function draw() {
-    if (!state.run || !state.pieces.length) { element('layer').innerHTML = ''; return; }
-    const pane = element('picture'), scale = state.scale = scaleOf(), over = hasBrowser() && element('shown').value !== 'lay';
-    const top = pane.scrollTop / scale, bottom = top + pane.clientHeight / scale;
-    Object.assign(state, Window.near(state.pieces, state.extent, top, bottom));
-    if (!over) Texts.give(state.nodes, state.drawn, state.run.face);
-    const hidden = new Set([...state.hidden, 'extent']);
-    if (!over) hidden.delete('text');
-    element('layer').innerHTML = Picture.svg({ pieces: state.drawn, face: state.run.face, viewport: state.run.viewport, hidden, labels: element('labels').checked,
-      zoom: scale / 2, room: 1e9, changes: state.changes, shot: over ? { href: 'data:,', width: 0, height: 0, strength: 0 } : null });
-    const svg = element('layer').firstElementChild, [x, y] = svg.getAttribute('viewBox').split(' ').map(Number);
-    state.origin = [x, y];
-    svg.insertAdjacentHTML('beforeend', `<g class="compared">${state.compared ? comparedText() : ''}</g>`);
-    Object.assign(element('frames').style, { left: -x * scale + 'px', top: -y * scale + 'px', transform: `scale(${scale})` });
-    document.body.classList.toggle('over', over);
-    document.body.classList.toggle('only-browser', over && element('shown').value === 'browser');
-  }
-  const inPixels = ([x, y, width, height]) => ({ x: x / 64, y: y / 64, width: width / 64, height: height / 64 });
-  const rectText = (kind, { x, y, width, height }) => `<rect class="${kind}" x="${x}" y="${y}" width="${width}" height="${height}"/>`;
-  // Both rectangles of what differs.
-  function comparedText() {
-    const near = rect => rect.y <= state.to && rect.y + rect.height >= state.from;
-    const rects = (list, kind) => list.map(inPixels).filter(near).map(rect => rectText(kind, rect)).join('');
-    return state.compared.causes.slice(0, 1000).map(({ browser, lay }) => rects(browser, 'browsers') + rects(lay, 'ours')).join('');
-  }
-  function redrawWhereScrolled() {
-    const pane = element('picture'), top = pane.scrollTop / state.scale, bottom = top + pane.clientHeight / state.scale;
-    if (state.run && (top < state.from || bottom > state.to)) { draw(); if (state.pinned) tell(...state.pinned); }
-  }
-
-  // ---- What is told ---------------------------------------------------------------------------------------------------------------
-
-  const px = ([x, y, width, height]) => [x, y, width, height].map(units => Math.round(units / 64 * 1000) / 1000)
-    .reduce((text, number, i) => text + ['', ', ', '  ', ' × '][i] + number, '');
-  const placesOf = rects => rects.slice(0, 3).map(px).join('; ') + (rects.length > 3 ? '; …' : '') || 'none';
-  function differenceText({ id, kind, browser, lay, near }) {
-    const node = state.nodes.get(id), name = kind === 'text' ? `text “${(node.as ?? node.text).trim().slice(0, 30)}”` : `box ${node.tag || node.kind}`;
-    const links = Rules.rulesOf(state.nodes, node).map(({ anchor, title }) => `<a href="../docs/BROWSERS.md#${anchor}">${escaped(title)}</a>`).join(', ');
-    return `<div class="difference" data-node="${id}" tabindex="0" role="button"><b>${escaped(name)}</b> <span class="dim">${id}${near ? ', within 1 px' : ''}</span>` +
-      `<code>browser ${placesOf(browser)}</code><code>lay ${placesOf(lay)}</code>${links ? `<span class="dim">may be: ${links}</span>` : ''}</div>`;
-  }
-  function differencesText({ off, causes }) {
-    const list = entries => entries.slice(0, DIFFERENCES).map(differenceText).join('') +
-      (entries.length > DIFFERENCES ? `<p>and ${entries.length - DIFFERENCES} more</p>` : '');
-    const known = new Set(causes), others = off.filter(entry => !known.has(entry));
-    return `<h2>Where ${counted(causes.length, 'difference')} begin${causes.length === 1 ? 's' : ''}: x, y, width × height in px</h2>${list(causes)}` +
-      (others.length ? `<details><summary>${others.length} that follow</summary>${list(others)}</details>` : '');
-  }
-  function warningText({ what, count, places }) {
-    const links = places.slice(0, 5).map(({ node, selector }) => `<span class="place"${node ? ` data-node="${node}"` : ''}>${escaped(selector.replace(/.* > /, ''))}</span>`);
-    return `<li>${escaped(what)}${count > 1 ? ` (${count})` : ''} ${links.join(' ')}${count > 5 ? ' …' : ''}</li>`;
   }
   function showVerdict() {
-    const { compared } = state, verdict = element('verdict');
-    verdict.hidden = !compared;
-    element('differences').innerHTML = element('warnings').innerHTML = '';
-    if (!compared) return;
-    const { blocks, texts } = Comparison.sums(compared.counts), { warnings } = state.told;
-    verdict.className = compared.off.length ? 'differs' : '';
-    verdict.textContent = `${blocks.exact} of ${counted(blocks.all, 'block')} and ${texts.exact} of ${counted(texts.all, 'text')} stand where lay has them` +
-      (blocks.within > blocks.exact ? `; ${blocks.within} blocks do within their parents` : '') + '.';
-    if (compared.off.length) element('differences').innerHTML = differencesText(compared);
-    if (warnings.length) element('warnings').innerHTML = `<h2>Taken from the browser, or not judged</h2><ul>${warnings.map(warningText).join('')}</ul>`;
+    const { compared, told, nodes } = state, verdict = element('verdict');
+    element('shown').disabled = verdict.hidden = !compared;
+    verdict.className = compared?.off.length ? 'differs' : '';
+    verdict.textContent = compared ? Told.verdictText(compared) : '';
+    element('differences').innerHTML = compared ? Told.differencesText(nodes, compared) : '';
+    element('warnings').innerHTML = compared ? Told.warningsText(told.warnings) : '';
   }
   function showRefusal() {
-    for (const id of ['differences', 'warnings', 'legend', 'layer']) element(id).innerHTML = '';
-    element('verdict').hidden = true;
+    say('lay refuses this document', 'bad');
+    state.pieces = [];
+    drawing.clear();
     element('versions').hidden = true;
+    showVerdict();
+    element('legend').innerHTML = '';
     element('info').innerHTML = Info.ofRefusal(Refusals.explain(state.refusal, state.run));
   }
+  function summary() {
+    const count = state.pieces.length ? `<p>${Told.counted(state.pieces.length, 'piece')}. Point at one, or click to keep it.</p>` : '';
+    return state.changes ? count + Info.ofChanges(state.changes) : count;
+  }
   const pieceOf = node => state.pieces.find(piece => piece.node === node && piece.word !== 'line');
+  // Tells of a node, or of one of its pieces; null tells of the whole.
   function tell(node, piece) {
-    for (const on of document.querySelectorAll('.on')) on.classList.remove('on');
-    const layer = document.querySelector('#layer .model'), chosen = node && (piece || pieceOf(node));
-    if (layer) layer.innerHTML = '';
-    if (!node) { element('info').innerHTML = state.pieces.length ? `<p>${counted(state.pieces.length, 'piece')}. Point at one, or click to keep it.</p>` : ''; return; }
-    const model = chosen ? BoxModel.of(state.world, chosen) : null, count = state.pieces.filter(other => other.node === node).length;
-    if (chosen) document.querySelector(`#layer g[data-i="${state.drawn.indexOf(chosen)}"]`)?.classList.add('on');
+    for (const on of document.querySelectorAll('.difference.on')) on.classList.remove('on');
+    const chosen = node && (piece || pieceOf(node)) || null, model = chosen ? BoxModel.of(state.world, chosen) : null;
+    drawing.mark(chosen, model);
+    if (!node) { element('info').innerHTML = summary(); return; }
     element('differences').querySelector(`[data-node="${node}"]`)?.classList.add('on');
-    if (layer) layer.innerHTML = Picture.modelText(model);
+    const count = state.pieces.filter(other => other.node === node).length;
     element('info').innerHTML = Info.ofPiece(node, state.nodes.get(node), chosen, count, model);
   }
   function pin(node, piece) {
-    state.pinned = node ? [node, piece || pieceOf(node)] : null;
+    state.pinned = node ? [node, piece] : null;
     tell(node, piece);
   }
-  function pointed(event) {
-    const svg = element('layer').firstElementChild, [left, top] = state.origin;
-    if (!svg || !state.pieces.length) return null;
-    const rect = svg.getBoundingClientRect();
-    return Window.at(state.pieces, (event.clientX - rect.left) / state.scale + left, (event.clientY - rect.top) / state.scale + top,
-      new Set([...state.hidden].filter(kind => kind !== 'text' || hasBrowser())));
-  }
   function bring(node) {
-    const piece = pieceOf(node), pane = element('picture');
-    if (piece) pane.scrollTo({ top: Math.max(0, (piece.y - state.origin[1]) * state.scale - pane.clientHeight / 3) });
-    redrawWhereScrolled();
+    const piece = pieceOf(node);
+    if (piece) drawing.bring(piece);
     pin(node, piece);
   }
 
   // ---- What one does --------------------------------------------------------------------------------------------------------------
 
-  let timer = 0, asked = false;
-  function later() { clearTimeout(timer); timer = setTimeout(layOut, PAUSE); }
   function put(text) {
-    element('editor').value = text;
+    editor.value = text;
     layOut();
   }
-  function listen() {
-    const { examples } = JSON.parse(textIn('given')), select = element('examples');
-    select.innerHTML = examples.map(([name], i) => `<option value="${i}">${escaped(name)}</option>`).join('') + '<option value="" hidden>your own</option>';
+  async function copyLink() {
+    const address = await Address.of(editor.value);
+    history.replaceState(null, '', address);
+    try {
+      await navigator.clipboard.writeText(address);
+      say(`the address is copied, ${Told.counted(address.length, 'character')}`);
+    } catch { say('the address of this page holds the document now'); }
+  }
+  function makeBookmark() {
+    const settings = `window.layExportSettings = { manual: true }; const PACKED = '${textIn('packed')}';`;
+    const text = `void (() => { ${settings}\n${textIn('exporter')}\n;${textIn('judge')}\n})()`;
+    element('bookmark').href = 'javascript:' + encodeURIComponent(text);
+  }
+  function listenToControls() {
+    const select = element('examples'), options = examples.map((example, i) => new Option(example[0], i)), own = new Option('your own', '');
+    own.hidden = true;
+    select.replaceChildren(...options, own);
     select.onchange = () => put(examples[+select.value][1]);
-    element('editor').oninput = () => { select.value = ''; later(); };
     element('width').oninput = later;
     element('shown').onchange = element('labels').onchange = draw;
     element('slider').oninput = () => { state.at = +element('slider').value; state.pinned = null; show(); };
     element('legend').onchange = ({ target }) => { state.hidden[target.checked ? 'delete' : 'add'](target.dataset.kind); draw(); };
     element('mode').onchange = ({ target }) => { document.documentElement.dataset.mode = target.value; };
     element('link').onclick = copyLink;
-    element('layer').onmousemove = event => { if (!state.pinned) { const piece = pointed(event); tell(piece && piece.node, piece); } };
-    element('layer').onmouseleave = () => { if (!state.pinned) tell(null); };
-    element('layer').onclick = event => { const piece = pointed(event); pin(piece && piece.node, piece); };
+    element('about').ontoggle = makeBookmark;
+  }
+  function listenToPicture() {
+    const layer = element('layer'), pane = element('picture');
+    const point = (event, to) => { const piece = drawing.at(event); to(piece && piece.node, piece); };
+    layer.onmousemove = event => { if (!state.pinned) point(event, tell); };
+    layer.onmouseleave = () => { if (!state.pinned) tell(null); };
+    layer.onclick = event => point(event, pin);
+    pane.onscroll = () => requestAnimationFrame(() => { if (drawing.follow() && state.pinned) tell(...state.pinned); });
+    let width = drawing.room;
+    new ResizeObserver(() => {
+      if (Math.abs(drawing.room - width) <= 1) return;
+      width = drawing.room;
+      if (isDocument(editor.value)) draw(); else later();
+    }).observe(pane);
+  }
+  function listenToLists() {
     const go = ({ target }) => { const row = target.closest('[data-node]'); if (row && !target.closest('a')) bring(+row.dataset.node); };
-    element('differences').onclick = element('warnings').onclick = go;
+    for (const id of ['differences', 'warnings', 'info']) element(id).onclick = go;
     element('differences').onkeydown = event => { if (event.key === 'Enter') go(event); };
-    element('picture').onscroll = () => { if (!asked) { asked = true; requestAnimationFrame(() => { asked = false; redrawWhereScrolled(); }); } };
+  }
+  function listenToFiles() {
     addEventListener('dragover', event => event.preventDefault());
-    addEventListener('drop', async event => { event.preventDefault(); const [file] = event.dataTransfer.files; if (file) { select.value = ''; put(await file.text()); } });
-    addEventListener('hashchange', start);
-    let seen = room();
-    new ResizeObserver(() => { if (Math.abs(room() - seen) > 1) { seen = room(); if (!isDocument(element('editor').value)) later(); else draw(); } }).observe(element('picture'));
-    return examples;
-  }
-  async function copyLink() {
-    const address = await Address.of(element('editor').value);
-    history.replaceState(null, '', address);
-    try { await navigator.clipboard.writeText(address); say(`the address is copied, ${counted(address.length, 'character')}`); } catch { say('the address of this page holds the document now'); }
-  }
-  function makeBookmark() {
-    const text = `${textIn('exporter')}\n;${textIn('judge')}`.replace('@packed@', textIn('packed'));
-    element('bookmark').href = 'javascript:' + encodeURIComponent(`void (async () => { window.layExportSettings = { manual: true };\n${text}\n})()`);
+    addEventListener('drop', async event => {
+      event.preventDefault();
+      const [file] = event.dataTransfer.files;
+      if (file) { element('examples').value = ''; put(await file.text()); }
+    });
   }
   async function start() {
     let given = null;
-    try { given = await Address.read(); } catch { say('the document in the address could not be read', 'bad'); }
-    if (given !== null) { element('examples').value = ''; put(given); } else if (!element('editor').value) put(examples[0][1]);
-    else layOut();
+    try { given = await Address.read(); } catch { say('the document in the address could not be read', 'bad'); return; }
+    if (given !== null) element('examples').value = '';
+    put(given ?? examples[0][1]);
   }
-  const examples = listen();
-  element('about').ontoggle = makeBookmark;
+  for (const listen of [listenToControls, listenToPicture, listenToLists, listenToFiles]) listen();
+  addEventListener('hashchange', start);
   runner.opened.then(() => {
     element('sources').textContent = runner.about.sources;
     element('kit').textContent = runner.about.kit;
   }, () => {});
   start();
-  window.layPlay = { state, runner, stage };                                   // for tests
+  window.layPlay = { state, runner, stage, editor, drawing, put };              // for tests
 })();

@@ -16,7 +16,9 @@ const Runner = (() => {
         worker.onerror = event => fail(new Error(event.message || 'the worker could not be started'));
         worker.onmessage = ({ data }) => {
           URL.revokeObjectURL(url);
-          if (data.opened) { this.module = data.opened.module; this.about = data.opened.about; done(); } else if (data.id) this.take(data); else fail(new Error(data.fault));
+          if (data.opened) { Object.assign(this, data.opened); done(); }
+          else if (data.id) this.take(data);
+          else fail(new Error(data.fault));
         };
         worker.postMessage({ open: this.module ? { module: this.module } : { packed: this.parts.packed } });
       });

@@ -2,7 +2,9 @@
 const Stage = (() => {
   'use strict';
   const POLICY = nonce => `default-src 'none'; style-src 'unsafe-inline'; img-src data: blob:; font-src data:; script-src 'nonce-${nonce}'`;
-  const SHOWN_AFTER = 700, LIMIT = 60000, HIGHEST = 4e6;                        // milliseconds, milliseconds, px
+  const REFRESH = /<meta\b[^>]*http-equiv\s*=\s*["']?\s*refresh[^>]*>/gi;
+  const SHOWN_AFTER = 700, LIMIT = 60000, TICK = 25;                            // milliseconds
+  const HIGHEST = 4e6;                                                          // px
 
   // The page with the exporter before all else. Its own scripts don't run, and nothing is fetched for it.
   function withExporter(html, { exporter, frame }, token) {
@@ -10,8 +12,11 @@ const Stage = (() => {
     const head = `<meta http-equiv="Content-Security-Policy" content="${POLICY(token)}">` +
       `<script ${attributes}>window.layExportSettings = { manual: true }; ${exporter}\ndocument.currentScript.remove();</script>` +
       `<script ${attributes} data-token="${token}">${frame}</script>`;
-    return (doctype || '<!doctype html>') + head + html.slice(doctype.length);
+    return (doctype || '<!doctype html>') + head + html.slice(doctype.length).replace(REFRESH, '');
   }
+  // Whether the measuring kept this page from its own work: in some browsers the frame is no process of its own.
+  const isBlocked = ({ ticks }, { milliseconds }) => milliseconds > 10 * TICK && ticks < milliseconds / TICK / 4;
+
   class Stage {
     // place: the element that holds the frames; texts: { exporter, frame }
     constructor(place, texts) {
@@ -50,7 +55,7 @@ const Stage = (() => {
       return new Promise(done => {
         const timers = [setTimeout(() => this.show(frame), SHOWN_AFTER),
           setTimeout(() => this.drop({ fault: `the browser took longer than ${LIMIT / 1000} s to measure the page` }), LIMIT)];
-        this.coming = { frame, token, height, onLoaded, done, timers, nodes: 0 };
+        this.coming = { frame, token, height, onLoaded, done, timers, nodes: 0, ticks: 0 };
         this.place.append(frame);
       });
     }
@@ -59,7 +64,8 @@ const Stage = (() => {
       if (!coming || source !== coming.frame.contentWindow || data.token !== coming.token) return;
       if (data.loaded) { this.loaded(coming, data.loaded); return; }
       this.show(coming.frame);
-      this.end(data.fault ? { fault: data.fault } : { ...data.measured, nodes: coming.nodes, height: coming.height });
+      const { nodes, height } = coming, { fault, measured } = data;
+      this.end(fault ? { fault } : { ...measured, nodes, height, blocked: isBlocked(coming, measured) });
     }
     // The frame is made as high as its page, so that it needs no scroll bar.
     loaded(coming, { height, nodes }) {
@@ -67,6 +73,7 @@ const Stage = (() => {
       coming.height = Math.max(coming.height, Math.min(height, HIGHEST));
       coming.frame.style.height = coming.height + 'px';
       coming.onLoaded(nodes);
+      coming.timers.push(setInterval(() => { coming.ticks++; }, TICK));
       coming.frame.contentWindow.postMessage({ measure: coming.token, height: coming.height }, '*');
     }
   }

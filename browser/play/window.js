@@ -2,6 +2,7 @@
 const Window = (() => {
   'use strict';
   const ALL = 1500;                                                             // up to so many pieces are drawn at once
+  const ORDER = { text: 0, box: 1, line: 2 };
   const meets = (piece, top, bottom) => piece.y <= bottom && piece.y + piece.height >= top;
 
   function extentOf(pieces) {
@@ -22,12 +23,12 @@ const Window = (() => {
   }
   // The innermost piece at a point: the smallest of those that hold it, texts before boxes and lines last.
   function at(pieces, x, y, hidden) {
-    const order = { text: 0, box: 1, line: 2 };
+    const holds = piece => x >= piece.x && y >= piece.y && x < piece.x + piece.width && y < piece.y + piece.height;
     let found = null;
     for (const piece of pieces) {
-      if (hidden.has(piece.kind) || x < piece.x || y < piece.y || x >= piece.x + piece.width || y >= piece.y + piece.height) continue;
-      const size = piece.width * piece.height;
-      if (!found || order[piece.word] < order[found.piece.word] || order[piece.word] === order[found.piece.word] && size <= found.size) found = { piece, size };
+      if (hidden.has(piece.kind) || !holds(piece)) continue;
+      const order = ORDER[piece.word], size = piece.width * piece.height;
+      if (!found || order < found.order || order === found.order && size <= found.size) found = { piece, order, size };
     }
     return found && found.piece;
   }

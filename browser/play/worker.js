@@ -13,7 +13,7 @@ function comparedWith(run, told, report) {
   return { ...compared, causes: Causes.of(run.nodes, compared.off) };
 }
 function answer({ id, words, text, told }) {
-  const start = performance.now(), bytes = new TextEncoder().encode(text), { status, out, said, memory } = Lay.call(layModule, words, bytes);
+  const start = performance.now(), { status, out, said, memory } = Lay.call(layModule, words, new TextEncoder().encode(text));
   const report = new TextDecoder().decode(out), milliseconds = performance.now() - start;
   const compared = told && status === 0 ? comparedWith(JSON.parse(text), JSON.parse(told), report) : null;
   return { id, status, said, memory, milliseconds, report, compared };

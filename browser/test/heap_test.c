@@ -24,7 +24,7 @@ static u64 draw_length(void)
     return kind < 70 ? draw(200) : kind < 95 ? draw(5000) : draw(300000);
 }
 
-/* Whether the chain goes from the first block to the last one, no two neighbours are free, and each free block is in the list of its size. */
+/* Whether the chain goes from the first block to the last one, no two neighbours are free, and each free block is in its list. */
 static int is_whole(void)
 {
     u64 base = ((u64)memory_base() + GRAIN - 1) & ~(GRAIN - 1), free_blocks = 0, listed = 0, used = 0;

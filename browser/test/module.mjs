@@ -1,6 +1,7 @@
-// The module in a page of Chromium: what the tests of it share.
+// The module in a page of Chromium or Firefox: what the tests of it share.
 import { readFileSync } from 'node:fs';
-import { Chromium } from './chromium.mjs';
+import { Chromium, pause } from './chromium.mjs';
+import { Firefox } from './firefox.mjs';
 
 const here = path => new URL(path, import.meta.url);
 export const packed = process.env.LAY_MODULE || here('../wasm/lay_unproved.wasm.gz').pathname;
@@ -9,7 +10,11 @@ const library = readFileSync(here('../wasm/lay.js'), 'utf8');
 // These run in the page.
 const PARTS = `${library}
 const bytesOf = text => Uint8Array.from(atob(text), c => c.charCodeAt(0));
-const textOf = bytes => { let text = ''; for (let i = 0; i < bytes.length; i += 8192) text += String.fromCharCode(...bytes.subarray(i, i + 8192)); return btoa(text); };
+function textOf(bytes) {
+  let text = '';
+  for (let i = 0; i < bytes.length; i += 8192) text += String.fromCharCode(...bytes.subarray(i, i + 8192));
+  return btoa(text);
+}
 function callOf([words, input, memory]) {
   const answer = Lay.call(window.layModule, words, bytesOf(input), memory ? { memory } : {});
   return { ...answer, out: textOf(answer.out) };
@@ -17,14 +22,20 @@ function callOf([words, input, memory]) {
 
 // A page that has the module: `calls` takes [words, input, memory] each, and gives { status, out, said, memory }.
 export class ModulePage {
-  static async start(file = packed) {
+  static async start(name = 'chromium') {
     const it = new ModulePage();
-    it.browser = await Chromium.start();
-    it.page = await it.browser.page();
-    await it.page.evaluate(PARTS + '; 0');
-    const text = readFileSync(file).toString('base64');
-    it.opened = await it.page.evaluate(`(async () => { const from = performance.now();
-      window.layModule = await Lay.open(bytesOf(${JSON.stringify(text)})); return performance.now() - from; })()`);
+    it.browser = await (name === 'firefox' ? Firefox : Chromium).start();
+    it.page = name === 'firefox' ? it.browser : await it.browser.page();
+    if (name === 'firefox') await it.page.open('about:blank');
+    await it.page.evaluate(`(() => { ${PARTS}; Object.assign(window, { Lay, bytesOf, callOf }); return 0; })()`);
+    const text = readFileSync(packed).toString('base64');
+    await it.page.evaluate(`(Lay.open(bytesOf('${text}')).then(
+      module => { window.layModule = module; }, error => { window.layFault = String(error); }), 0)`);
+    while (!await it.page.evaluate('Boolean(window.layModule)')) {
+      const fault = await it.page.evaluate(`window.layFault || ''`);
+      if (fault) { await it.close(); throw new Error(fault); }
+      await pause(30);
+    }
     return it;
   }
   async calls(list) {

@@ -2,9 +2,11 @@
 import assert from 'node:assert/strict';
 import { execFileSync, spawnSync } from 'node:child_process';
 import { mkdtempSync, readFileSync, rmSync } from 'node:fs';
+import { createServer } from 'node:http';
 import { tmpdir } from 'node:os';
 import { dirname, join } from 'node:path';
 import { after, before, test } from 'node:test';
+import { Chromium, pause } from './chromium.mjs';
 import { ModulePage } from './module.mjs';
 
 const here = path => new URL(path, import.meta.url).pathname;
@@ -18,7 +20,8 @@ after(() => page?.close());
 function documentOf(count) {
   const nodes = [{ id: 1, parent: 0, kind: 'element', style: { display: 'block' } }];
   for (let i = 0; i < count; i++) {
-    nodes.push({ id: 2 + 2 * i, parent: 1, kind: 'element', style: { display: 'block', float: i % 3 ? 'left' : 'right', width: `${20 + i % 70}px` } });
+    const style = { display: 'block', float: i % 3 ? 'left' : 'right', width: `${20 + i % 70}px` };
+    nodes.push({ id: 2 + 2 * i, parent: 1, kind: 'element', style });
     nodes.push({ id: 3 + 2 * i, parent: 2 + 2 * i, kind: 'text', text: 'some words to be laid out' });
   }
   return JSON.stringify({ viewport: [800, 600], nodes });
@@ -31,7 +34,8 @@ test('the module says what it is', async () => {
 });
 
 test('an example, a refusal, other words', async () => {
-  const [good, refused, usage] = await page.calls([[['scratch'], example], [['scratch'], '{"viewport": [1, 1]}'], [['scratched'], example]]);
+  const calls = [[['scratch'], example], [['scratch'], '{"viewport": [1, 1]}'], [['scratched'], example]];
+  const [good, refused, usage] = await page.calls(calls);
   assert.deepEqual([good.status, good.out.toString()], [0, report]);
   assert.deepEqual([refused.status, refused.out.toString()], [1, 'refused I3 nodes run\n']);
   assert.deepEqual([usage.status, usage.out.toString()], [2, 'usage\n']);
@@ -45,7 +49,8 @@ test('where memory ends the status is 5, and what is written is a front of the r
     const answer = await page.call(['scratch'], text, limit);
     assert.ok(answer.status === 0 || answer.status === 5, `status ${answer.status} at ${limit}: ${answer.said}`);
     assert.ok(answer.memory <= Math.max(limit, 5 * MIB), `${answer.memory} bytes at ${limit}`);
-    if (answer.status === 0) assert.ok(answer.out.equals(whole.out)); else assert.ok(whole.out.subarray(0, answer.out.length).equals(answer.out));
+    assert.ok(whole.out.subarray(0, answer.out.length).equals(answer.out));
+    if (answer.status === 0) assert.equal(answer.out.length, whole.out.length);
     seen[answer.status]++;
   }
   assert.ok(seen[0] > 0 && seen[5] > 20, JSON.stringify(seen));
@@ -54,10 +59,10 @@ test('where memory ends the status is 5, and what is written is a front of the r
 });
 
 test('an input that does not fit is answered with status 5', async () => {
-  const answer = await page.call(['scratch'], Buffer.alloc(24 * MIB, 0x20), 16 * MIB);
-  assert.deepEqual([answer.status, answer.out.length], [5, 0]);
-  const large = await page.call(['scratch'], Buffer.alloc(17 * MIB, 0x20));
-  assert.deepEqual([large.status, large.out.toString()], [1, 'refused I1\n']);
+  const spaces = (mib, memory) => page.page.evaluate(`(({ status, out }) => [status, new TextDecoder().decode(out)])(
+    Lay.call(window.layModule, ['scratch'], new Uint8Array(${mib * MIB}).fill(32), { memory: ${memory * MIB} }))`);
+  assert.deepEqual(await spaces(24, 16), [5, '']);
+  assert.deepEqual(await spaces(17, 1024), [1, 'refused I1\n']);
 });
 
 test('a module that is stopped says so, and the next call is as the first', async () => {
@@ -77,15 +82,39 @@ test('a stop within a call is the status \'trap\'', async () => {
   const answer = await page.page.evaluate(`(() => {
     const Instance = WebAssembly.Instance;
     WebAssembly.Instance = class extends Instance { constructor(module) { super(module, { host: { exit: () => {} } }); } };
-    try { const { status, said } = Lay.call(window.layModule, ['other'], new Uint8Array(0)); return { status, said }; } finally { WebAssembly.Instance = Instance; }
+    try {
+      const { status, said } = Lay.call(window.layModule, ['other'], new Uint8Array(0));
+      return { status, said };
+    } finally { WebAssembly.Instance = Instance; }
   })()`);
   assert.equal(answer.status, 'trap');
   assert.ok(answer.said.length > 0);
 });
 
-test('calls do not keep memory: 300 in a row', async () => {
+test('calls do not keep memory: 100 in a row', async () => {
   const text = documentOf(300), first = await page.call(['scratch'], text);
-  for (let i = 0; i < 10; i++) for (const answer of await page.calls(Array(30).fill([['scratch'], text]))) assert.ok(answer.out.equals(first.out));
+  for (let i = 0; i < 5; i++) {
+    for (const answer of await page.calls(Array(20).fill([['scratch'], text]))) assert.ok(answer.out.equals(first.out));
+  }
+});
+
+test('the example of wasm/README.md', async () => {
+  const readme = readFileSync(here('../wasm/README.md'), 'utf8'), example = /```html\n([^]*?)```/.exec(readme)[1];
+  assert.ok(example.split('\n').length <= 34, 'it is an example of some 30 lines');
+  const server = createServer((request, response) => {
+    const name = request.url.slice(1);
+    const isFile = ['lay.js', 'lay_unproved.wasm.gz'].includes(name);
+    response.end(name === '' ? example : isFile ? readFileSync(here('../wasm/' + name)) : '');
+  });
+  await new Promise(done => server.listen(0, '127.0.0.1', done));
+  const browser = await Chromium.start(['--host-resolver-rules=MAP * ~NOTFOUND, EXCLUDE 127.0.0.1']), tab = await browser.page();
+  try {
+    await tab.open(`http://127.0.0.1:${server.address().port}/`);
+    const shown = `document.getElementById('report').textContent`;
+    for (let i = 0; i < 200 && !await tab.evaluate(shown); i++) await pause(50);
+    const wanted = 'publish 0\nfinal 0\nbox 1 0 0 0 20480 1280\nline 1 0 0 0 20480 1280\ntext 2 0 0 128 5632 1024\n';
+    assert.equal(await tab.evaluate(shown), wanted);
+  } finally { await browser.close(); server.close(); server.closeAllConnections(); }
 });
 
 // ---- The heap -------------------------------------------------------------------------------------------------------------------
@@ -108,7 +137,8 @@ test('the heap holds together over drawn takes, resizes and frees', { skip: !has
     const module = new WebAssembly.Module(bytesOf(${JSON.stringify(heapModule())})), out = [];
     for (const pages of [3n, 20n, 2000n]) for (let seed = 1n; seed <= 10n; seed++) {
       const heap = new WebAssembly.Instance(module, {}).exports;
-      out.push([Number(pages), Number(heap.test_heap(seed, 20000n, pages)), Number(heap.test_refused()), Number(heap.test_pages()), Number(heap.test_huge())]);
+      const numbers = [pages, heap.test_heap(seed, 20000n, pages), heap.test_refused(), heap.test_pages(), heap.test_huge()];
+      out.push(numbers.map(Number));
     }
     return out;
   })()`);

@@ -1,6 +1,6 @@
 #!/usr/bin/env node
-// LAY=program node module_cases.mjs [DOCUMENT.json ..]
-// Lays the documents of all cases and examples out by the module in Chromium and by the program, and compares statuses and bytes: of
+// LAY=program node module_cases.mjs [--firefox] [DOCUMENT.json ..]
+// Lays the documents of all cases and examples out by the module in a browser and by the program, and compares statuses and bytes: of
 // `scratch`, of `hit` at a point, and of `check` of the report that the module's `run` writes. Status 1 where any differs.
 import { spawnSync } from 'node:child_process';
 import { readdirSync, readFileSync } from 'node:fs';
@@ -58,12 +58,14 @@ async function judgeRuns(page, files) {
   return legal === files.length;
 }
 
-const given = process.argv.slice(2), files = given.length ? given : documents();
-const page = await ModulePage.start();
+const words = process.argv.slice(2), given = words.filter(word => word !== '--firefox'), files = given.length ? given : documents();
+const page = await ModulePage.start(words.includes('--firefox') ? 'firefox' : 'chromium');
 try {
-  const start = Date.now(), bytes = file => readFileSync(file), edited = files.filter(file => isDocument(file) && /"editors"/.test(bytes(file)));
+  const start = Date.now(), bytes = file => readFileSync(file);
+  const edited = files.filter(file => isDocument(file) && /"editors"/.test(bytes(file)));
   const good = [await compare(page, files, ['scratch'], bytes), await compare(page, files, ['hit', '--x', '50', '--y', '30'], bytes),
     await compare(page, files, ['check'], checkOf), await judgeRuns(page, edited)];
-  console.log(`the module in ${page.browser.version}: ${good.every(Boolean) ? 'as the program' : 'OTHERWISE THAN THE PROGRAM'}, ${Math.round((Date.now() - start) / 1000)} s`);
+  const verdict = good.every(Boolean) ? 'as the program' : 'OTHERWISE THAN THE PROGRAM';
+  console.log(`the module in ${page.browser.version}: ${verdict}, ${Math.round((Date.now() - start) / 1000)} s`);
   process.exitCode = good.every(Boolean) ? 0 : 1;
 } finally { await page.close(); }

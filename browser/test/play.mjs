@@ -1,5 +1,6 @@
 #!/usr/bin/env node
-// node play.mjs PICTURE.png [--width 1400] [--height 900] [--mode dark] [--example 0] [--document FILE]: what play.html shows, as a picture.
+// node play.mjs PICTURE.png [--width 1400] [--height 900] [--mode dark] [--example 0] [--document FILE]
+// What play.html shows, as a picture.
 import { readFileSync, writeFileSync } from 'node:fs';
 import { Chromium, pause } from './chromium.mjs';
 
@@ -16,13 +17,13 @@ try {
   const until = async test => { for (let i = 0; i < 200 && !await page.evaluate(test); i++) await pause(50); };
   await until('layPlay.state.pieces.length > 0 || layPlay.state.refusal');
   console.log(`first layout ${Date.now() - start} ms after opening`);
-  if (options.document) await page.evaluate(`(() => { const editor = document.getElementById('editor'); layPlay.state.pieces = []; layPlay.state.refusal = '';
-    editor.value = ${JSON.stringify(readFileSync(options.document, 'utf8'))}; editor.oninput(); })()`);
-  else await page.evaluate(`(() => { const select = document.getElementById('examples'); layPlay.state.pieces = []; layPlay.state.refusal = '';
-    select.value = '${options.example}'; select.onchange(); })()`);
+  await page.evaluate(`(layPlay.state.pieces = [], layPlay.state.refusal = '', 0)`);
+  if (options.document) await page.evaluate(`layPlay.put(${JSON.stringify(readFileSync(options.document, 'utf8'))})`);
+  else await page.evaluate(`(select => { select.value = '${options.example}'; select.onchange(); })(document.getElementById('examples'))`);
   await until('layPlay.state.pieces.length > 0 || layPlay.state.refusal');
   if (options.script) console.log(await page.evaluate(options.script));
   await pause(300);
-  console.log(await page.evaluate(`[document.getElementById('status').textContent, document.getElementById('verdict').textContent, document.getElementById('differences').innerText, document.getElementById('warnings').innerText].join('\\n')`));
+  const parts = JSON.stringify(['status', 'verdict', 'differences', 'warnings']);
+  console.log(await page.evaluate(`${parts}.map(id => document.getElementById(id).innerText).join('\\n')`));
   for (const file of files) writeFileSync(file, await page.picture());
 } finally { await browser.close(); }

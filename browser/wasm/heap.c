@@ -1,6 +1,6 @@
-/* The heap of a module: blocks that stand one behind another from the end of the module's data to the end of its memory.
-   A block begins with 16 bytes: the block before it, and how many bytes it holds. Blocks that are free stand in lists by size, and no two
-   of them are neighbours, since a block that becomes free is joined with those beside it. The last block holds nothing and is never free. */
+/* The heap of a module: blocks that stand one behind another, from the end of the module's data to the end of its memory.
+   A block begins with 16 bytes: the block before it, and how many bytes it holds. Free blocks stand in lists by size. No two of them are
+   neighbours, since a block that becomes free is joined with those beside it. The last block holds nothing and is never free. */
 typedef unsigned long u64;
 typedef unsigned char u8;
 

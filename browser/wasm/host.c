@@ -39,7 +39,8 @@ static u8 *room_for(struct bytes *what, u64 length)
 
 /* The whole memory, in pages of 64 KiB. Call it first. */
 void host_limit(u64 pages) { heap_limit(pages); }
-/* Where the page writes so many bytes: the words, each ended by a zero byte, and the input. 0 where they don't fit: then the status is 5. */
+/* Where the page writes so many bytes: the words, each ended by a zero byte, and the input. 0 where they don't fit: then the
+   status is 5. */
 u8 *host_words(u64 length) { return room_for(&words, length); }
 u8 *host_in(u64 length) { return room_for(&in, length); }
 u8 *host_out(void) { return out.at; }
