@@ -5,13 +5,13 @@ ghost use Rattle.lay_units.specs.Units.{IsSize};
 ghost use Rattle.lay_auto_columns.specs.AutoColumns.{sum_min};
 ghost use Rattle.lay_auto_columns.specs.Fit.{BoundFits, CellFits, SpanFits};
 
-use crate::cells::ample;
-use crate::spans::{size, sizes_or_none, spanned};
+use crate::lengths::{size, sizes_or_none};
 use anyhow::{Result, bail};
 use lay_auto_columns::{
     Bound, BoundList, BoundsIn, GroupSpan, GroupSpans, SpanCell, SpanCells, column_bounds,
     columns_auto,
 };
+use lay_case_reading::{ample, spanned};
 use lay_grid::WidthOptions;
 use lay_units::Unit;
 use std::alloc::Global;

@@ -3,11 +3,11 @@
 
 ghost use Rattle.std.specs.Prelude.{◌<◌};
 
-use crate::cells::{Cells, ample};
 use anyhow::{Result, bail};
 use lay_borders::{
     BorderStyle, Cand, CandList, CandLists, GridBorders, Origin, edge_width, resolve, winner,
 };
+use lay_case_reading::{Row, ample};
 use lay_units::Unit;
 use std::alloc::Global;
 
@@ -31,7 +31,7 @@ pub(crate) fn resolved(alloc: Global, text: &str) -> Result<String> {
     let Some((size, edges)) = text.split_once(';') else {
         bail!("no size of a grid: {text}");
     };
-    let mut size = Cells::new(size);
+    let mut size = Row::new(size);
     let rows = size.number()?;
     let columns = size.number()?;
     size.end()?;
@@ -76,12 +76,12 @@ fn borders(alloc: Global, text: &str) -> Result<Vec<Cand>> {
         return Ok(borders);
     }
     for border in text.split(',') {
-        borders.push(self::border(Cells::new(border))?)?;
+        borders.push(self::border(Row::new(border))?)?;
     }
     Ok(borders)
 }
 
-fn border(mut cells: Cells<'_>) -> Result<Cand> {
+fn border(mut cells: Row<'_>) -> Result<Cand> {
     let style = style(&mut cells)?;
     let width: u16 = cells.number()?;
     let origin = origin(&mut cells)?;
@@ -97,7 +97,7 @@ fn border(mut cells: Cells<'_>) -> Result<Cand> {
     })
 }
 
-fn style(cells: &mut Cells<'_>) -> Result<BorderStyle> {
+fn style(cells: &mut Row<'_>) -> Result<BorderStyle> {
     Ok(match cells.word() {
         Some("none") => BorderStyle::None,
         Some("hidden") => BorderStyle::Hidden,
@@ -128,7 +128,7 @@ fn word_of_style(style: BorderStyle) -> &'static str {
     }
 }
 
-fn origin(cells: &mut Cells<'_>) -> Result<Origin> {
+fn origin(cells: &mut Row<'_>) -> Result<Origin> {
     Ok(match cells.word() {
         Some("cell") => Origin::Cell,
         Some("row") => Origin::Row,

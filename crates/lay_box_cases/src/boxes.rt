@@ -4,11 +4,10 @@
 
 ghost use Rattle.std.specs.Prelude.{◌≡◌, length};
 
-use crate::cells::ample;
-use crate::documents::document;
 use anyhow::{Result, bail};
 use lay_box_tree::{BoxKind, BoxNode, BoxTree};
 use lay_boxgen::{boxes, is_context};
+use lay_case_reading::{ample, document};
 use lay_doc::{Doc, NodeId};
 use lay_inherit::computed;
 use lay_style::{Computed, Display, LengthPercentageOrAuto, Style};

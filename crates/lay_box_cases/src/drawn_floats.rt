@@ -1,11 +1,11 @@
 //! Places floats from draws, once by `Floats` and once by a plain list, where each float is compared with all that
 //! stand.
 
-use crate::cells::Cells;
 use crate::float_draws::Draws;
 use crate::float_page::Page;
 use crate::plain_floats::Plain;
 use anyhow::Result;
+use lay_case_reading::Row;
 use std::alloc::Global;
 
 /// Whether the places are the same, of so many floats that are drawn from a seed: `SEED COUNT`.
@@ -25,7 +25,7 @@ pub(crate) fn summed(alloc: Global, text: &str) -> Result<String> {
 }
 
 fn asked(text: &str) -> Result<(u16, u16)> {
-    let mut cells = Cells::new(text);
+    let mut cells = Row::new(text);
     let seed = cells.number()?;
     let count = cells.number()?;
     cells.end()?;

@@ -13,8 +13,8 @@
 ghost use Rattle.std.specs.Prelude.{pos, ◌+◌, ◌*◌, ◌^◌, All};
 ghost use Rattle.lay_floats.specs.Within.{BoxWithin, IsWithin, RequestWithin};
 
-use crate::cells::Cells;
 use anyhow::{Result, bail};
+use lay_case_reading::Row;
 use lay_floats::{Clear, FloatReq, Floats, Place, Side, SolidReq, place_within};
 use lay_units::Unit;
 use std::alloc::Global;
@@ -50,14 +50,14 @@ pub(crate) fn answers(alloc: Global, text: &str) -> Result<String> {
         if !out.is_empty() {
             out.push_str(", ")?;
         }
-        page.answer(&mut out, Cells::new(term))?;
+        page.answer(&mut out, Row::new(term))?;
     }
     Ok(out)
 }
 
 impl Page {
     /// Writes the answer to a term.
-    fn answer(&mut self, out: &mut String, mut cells: Cells<'_>) -> Result<()> {
+    fn answer(&mut self, out: &mut String, mut cells: Row<'_>) -> Result<()> {
         match cells.word() {
             Some("left") => push_place(out, self.put(&float_term(Side::Left, cells)?)?),
             Some("right") => push_place(out, self.put(&float_term(Side::Right, cells)?)?),
@@ -82,7 +82,7 @@ impl Page {
         Ok(place)
     }
 
-    fn push_room(&self, out: &mut String, mut cells: Cells<'_>) -> Result<()> {
+    fn push_room(&self, out: &mut String, mut cells: Row<'_>) -> Result<()> {
         let top = cells.number()?;
         let height = cells.number()?;
         cells.end()?;
@@ -90,7 +90,7 @@ impl Page {
         push_px(out, left, right)
     }
 
-    fn push_solid(&self, out: &mut String, mut cells: Cells<'_>) -> Result<()> {
+    fn push_solid(&self, out: &mut String, mut cells: Row<'_>) -> Result<()> {
         let width = cells.number()?;
         let height = cells.number()?;
         let top = cells.number()?;
@@ -105,21 +105,21 @@ impl Page {
         push_place(out, self.floats.fit_solid(&request))
     }
 
-    fn push_next_bottom(&self, out: &mut String, mut cells: Cells<'_>) -> Result<()> {
+    fn push_next_bottom(&self, out: &mut String, mut cells: Row<'_>) -> Result<()> {
         let top = cells.number()?;
         let height = cells.number()?;
         cells.end()?;
         push_px_or_none(out, self.floats.next_bottom(px(top), px(height)))
     }
 
-    fn push_clear_edge(&self, out: &mut String, mut cells: Cells<'_>) -> Result<()> {
+    fn push_clear_edge(&self, out: &mut String, mut cells: Row<'_>) -> Result<()> {
         let clear = clear(&mut cells)?;
         cells.end()?;
         push_px_or_none(out, self.floats.clear_edge(clear))
     }
 }
 
-fn float_term(side: Side, mut cells: Cells<'_>) -> Result<FloatTerm> {
+fn float_term(side: Side, mut cells: Row<'_>) -> Result<FloatTerm> {
     let mut float = FloatTerm {
         side,
         width: cells.number()?,
@@ -141,7 +141,7 @@ fn float_term(side: Side, mut cells: Cells<'_>) -> Result<FloatTerm> {
 
 impl FloatTerm {
     /// Sets what a word says, with the cells behind it.
-    fn set(&mut self, word: &str, cells: &mut Cells<'_>) -> Result<()> {
+    fn set(&mut self, word: &str, cells: &mut Row<'_>) -> Result<()> {
         match word {
             "in" => {
                 self.left = cells.number()?;
@@ -155,7 +155,7 @@ impl FloatTerm {
     }
 }
 
-fn clear(cells: &mut Cells<'_>) -> Result<Clear> {
+fn clear(cells: &mut Row<'_>) -> Result<Clear> {
     match cells.word() {
         Some("none") => Ok(Clear::None),
         Some("left") => Ok(Clear::Left),

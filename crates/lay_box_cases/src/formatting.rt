@@ -2,8 +2,8 @@
 //! inside it in the order of its boxes, and behind `<` the number of the one around it and the place of its box there.
 
 use crate::boxes::{draw, styled, trimmed};
-use crate::cells::ample;
 use anyhow::Result;
+use lay_case_reading::ample;
 use lay_contexts::{FormattingContext, contexts_of, formatting_contexts};
 use std::alloc::Global;
 

@@ -4,8 +4,8 @@
 ghost use Rattle.std.specs.Prelude.{◌+◌, ◌≤◌, length, All, IfOk};
 ghost use Rattle.lay_box_cases.specs.Small.{IsSmall, IsSmallCell, IsSmallNeed, IsSmallRow, IsSmallSpan, MayBeSmall};
 
-use crate::cells::{Cells, ample, number};
 use anyhow::{Result, bail};
+use lay_case_reading::{Row, ample, number, spanned};
 use lay_grid::{
     ColumnsIn, FirstCell, FirstCells, RowCell, RowCells, RowSpec, RowsIn, Span, SpanList,
     WidthOptions, columns_fixed, rows, slots,
@@ -48,7 +48,7 @@ fn row_specs(alloc: Global, text: &str) -> Result<Vec<RowSpec>>
 fn row_spec(alloc: Global, text: &str) -> Result<RowSpec>
     ensures { IfOk result IsSmallRow }
 {
-    let group = Cells::new(text).number()?;
+    let group = Row::new(text).number()?;
     let mut spans = Vec::new(alloc);
     for word in text.split_whitespace().skip(1) {
         if spans.len() == 255 {
@@ -143,25 +143,6 @@ fn row_cells(alloc: Global, text: &str, rows: &[Unit]) -> Result<Vec<RowCell>>
     Ok(cells)
 }
 
-/// A cell's first row or column, how many it spans, and what else is said of it.
-fn spanned(word: &str, count: usize) -> Result<(u8, u8, &str)>
-    ensures some { IfOk result (λ t. 1 ≤ t.1) }
-    ensures inside { IfOk result (λ t. t.0 + t.1 ≤ count) }
-{
-    let Some((place, rest)) = word.split_once('+') else {
-        bail!("no place: {word}");
-    };
-    let Some((span, rest)) = rest.split_once('=') else {
-        bail!("no span: {word}");
-    };
-    let place = number::<u8>(place)?;
-    let span = number::<u8>(span)?;
-    if span == 0 || place as usize + span as usize > count {
-        bail!("a cell outside: {word}");
-    }
-    Ok((place, span, rest))
-}
-
 /// The three sections of a row of these tables.
 fn sections(text: &str) -> Result<(&str, &str, &str)> {
     if let Some((first, rest)) = text.split_once(';') {
@@ -176,7 +157,7 @@ fn two_lengths(text: &str) -> Result<(Unit, Unit)>
     ensures first { IfOk result (λ t. IsSmall t.0.0) }
     ensures second { IfOk result (λ t. IsSmall t.1.0) }
 {
-    let mut cells = Cells::new(text);
+    let mut cells = Row::new(text);
     let first = cells.number()?;
     let second = cells.number()?;
     cells.end()?;

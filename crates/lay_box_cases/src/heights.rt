@@ -3,15 +3,15 @@
 ghost use Rattle.std.specs.Prelude.{IfSome};
 ghost use Rattle.lay_units.specs.Units.{IsPosition};
 
-use crate::cells::Cells;
 use anyhow::Result;
+use lay_case_reading::Row;
 use lay_heights::{FlowEnds, auto_height_flow, auto_height_root, with_min_max};
 use lay_units::Unit;
 use std::alloc::Global;
 
 /// The auto height of a block in flow.
 pub(crate) fn of_flow(alloc: Global, text: &str) -> Result<String> {
-    let mut cells = Cells::new(text);
+    let mut cells = Row::new(text);
     let top = cells.number()?;
     let line = cells.number_or_none()?;
     let margin = cells.number_or_none()?;
@@ -28,7 +28,7 @@ pub(crate) fn of_flow(alloc: Global, text: &str) -> Result<String> {
 
 /// The auto height of the root of a block formatting context.
 pub(crate) fn of_root(alloc: Global, text: &str) -> Result<String> {
-    let mut cells = Cells::new(text);
+    let mut cells = Row::new(text);
     let top = cells.number()?;
     let end = cells.number()?;
     let floats = cells.number_or_none()?;
@@ -41,7 +41,7 @@ pub(crate) fn of_root(alloc: Global, text: &str) -> Result<String> {
 
 /// A height within its bounds.
 pub(crate) fn bounded(alloc: Global, text: &str) -> Result<String> {
-    let mut cells = Cells::new(text);
+    let mut cells = Row::new(text);
     let height = cells.number()?;
     let min = cells.number()?;
     let max = cells.number_or_none()?;

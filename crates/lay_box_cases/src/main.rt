@@ -10,8 +10,6 @@
 mod auto_columns;
 mod borders;
 mod boxes;
-mod cells;
-mod documents;
 mod drawn_floats;
 mod float_draws;
 mod float_page;
@@ -19,14 +17,15 @@ mod floats;
 mod formatting;
 mod grids;
 mod heights;
+mod lengths;
 mod margins;
 mod parts;
 mod plain_floats;
-mod spans;
 mod trees;
 mod widths;
 
 use anyhow::{Context, Result, bail};
+use lay_case_reading::files;
 use std::alloc::Global;
 use std::rt::{Env, Files};
 use std::{env, fs};
@@ -38,7 +37,7 @@ fn main(rt: HostRuntime) -> Result<()> {
             println!(rt; "{answer}")?;
         }
         (Some(folder), None) => {
-            for table in tables(&rt, folder.as_str())? {
+            for table in files(&rt, folder.as_str())? {
                 go_through(&rt, folder.as_str(), table.as_str())?;
             }
         }
@@ -49,16 +48,6 @@ fn main(rt: HostRuntime) -> Result<()> {
 
 fn word(rt: &(impl Env + AllocGlobal), at: usize) -> Result<Option<String>> {
     Ok(env::args(rt)?.nth(at))
-}
-
-/// The names of a folder's files, in order.
-fn tables<R: Files + AllocGlobal + Clone + Drop>(rt: &R, folder: &str) -> Result<Vec<String>> {
-    let mut names = Vec::new(rt.alloc());
-    for entry in fs::read_dir(rt, folder)? {
-        names.push(String::from_str(rt.alloc(), entry?.file_name())?)?;
-    }
-    names.sort()?;
-    Ok(names)
 }
 
 /// Goes through the rows of a table.

@@ -2,8 +2,8 @@
 
 ghost use Rattle.std.specs.Prelude.{◌<◌};
 
-use crate::cells::{Cells, ample};
 use anyhow::{Result, bail};
+use lay_case_reading::{Row, ample};
 use lay_margins::{Edge, Strut, runs};
 use lay_units::Unit;
 use std::alloc::Global;
@@ -11,7 +11,7 @@ use std::alloc::Global;
 /// What three margins collapse to, whether they are added one by one or the last two are joined
 /// with the first.
 pub(crate) fn collapsed(alloc: Global, text: &str) -> Result<String> {
-    let mut cells = Cells::new(text);
+    let mut cells = Row::new(text);
     let first = px(cells.number()?);
     let second = px(cells.number()?);
     let third = px(cells.number()?);

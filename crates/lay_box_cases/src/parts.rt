@@ -2,9 +2,9 @@
 //! part of an inline box and `]` behind the last, and behind `<` the place of the box's former parent.
 
 use crate::boxes::{push_box, root_boxes, trimmed};
-use crate::cells::ample;
 use anyhow::Result;
 use lay_box_tree::inline_parts;
+use lay_case_reading::ample;
 use lay_relative::former_parents;
 use std::alloc::Global;
 

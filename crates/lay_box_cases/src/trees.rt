@@ -4,8 +4,8 @@ ghost use Rattle.std.specs.Prelude.{◌≡◌, [], ◌∷◌, IfOk};
 ghost use Rattle.lay_frag.specs.Pieces.{IsTreeInRange};
 ghost use Rattle.lay_box_cases.specs.Small.{IsShort, IsShortRect};
 
-use crate::cells::{Cells, ample};
 use anyhow::Result;
+use lay_case_reading::{Row, ample};
 use lay_doc::NodeId;
 use lay_frag::{Frag, FragKind, Pieces, Placed, Tree, push_frag, text_of};
 use lay_units::{Rect, Unit};
@@ -14,7 +14,7 @@ use std::sync::Arc;
 
 /// Its lines, with commas between them.
 pub(crate) fn lines(alloc: Global, text: &str) -> Result<String> {
-    let mut cells = Cells::new(text);
+    let mut cells = Row::new(text);
     let tree = read(alloc, &mut cells)?;
     cells.end()?;
     let lines = ample(text_of(alloc, &tree))?;
@@ -30,7 +30,7 @@ pub(crate) fn lines(alloc: Global, text: &str) -> Result<String> {
 
 /// The line of its piece with a number; `none` where there is no such piece.
 pub(crate) fn piece_line(alloc: Global, text: &str) -> Result<String> {
-    let mut cells = Cells::new(text);
+    let mut cells = Row::new(text);
     let tree = read(alloc, &mut cells)?;
     let number: u16 = cells.number()?;
     cells.end()?;
@@ -47,7 +47,7 @@ fn line(alloc: Global, frag: &Frag) -> Result<String> {
 }
 
 /// The tree of the next cells.
-fn read(alloc: Global, cells: &mut Cells<'_>) -> Result<Tree> {
+fn read(alloc: Global, cells: &mut Row<'_>) -> Result<Tree> {
     let own = rect(cells)?;
     let shift = px(cells.number()?);
     let inner = rect(cells)?;
@@ -81,7 +81,7 @@ fn piece(kind: FragKind, node: u32, rect: Rect) -> Frag
     }
 }
 
-fn rect(cells: &mut Cells<'_>) -> Result<Rect>
+fn rect(cells: &mut Row<'_>) -> Result<Rect>
     ensures { IfOk result IsShortRect }
 {
     let x = cells.number()?;

@@ -4,8 +4,8 @@ ghost use Rattle.std.specs.Prelude.{pos, ◌≤ℤ◌, IfSome};
 ghost use Rattle.lay_units.specs.Units.{IsSize};
 ghost use Rattle.lay_widths.specs.Lengths.{BlockFits, LenFits, LenIsSize};
 
-use crate::cells::Cells;
 use anyhow::Result;
+use lay_case_reading::Row;
 use lay_units::{BlockIn, Len, Unit};
 use lay_widths::{BlockOut, ReplacedIn, replaced_size, solve_block, solve_float};
 use std::alloc::Global;
@@ -22,7 +22,7 @@ struct BlockRow {
 
 /// The used margins and width of a block.
 pub(crate) fn of_block(alloc: Global, text: &str) -> Result<String> {
-    let mut cells = Cells::new(text);
+    let mut cells = Row::new(text);
     let row = block_row(&mut cells)?;
     cells.end()?;
     out(alloc, &solve_block(&block(&row)))
@@ -31,7 +31,7 @@ pub(crate) fn of_block(alloc: Global, text: &str) -> Result<String> {
 /// The used margins and width of a float, whose last two cells are its preferred minimum and its
 /// preferred width.
 pub(crate) fn of_float(alloc: Global, text: &str) -> Result<String> {
-    let mut cells = Cells::new(text);
+    let mut cells = Row::new(text);
     let row = block_row(&mut cells)?;
     let minimum = cells.number::<u16>()?;
     let preferred = cells.number::<u16>()?;
@@ -43,7 +43,7 @@ pub(crate) fn of_float(alloc: Global, text: &str) -> Result<String> {
 
 /// The used width and height of a replaced element.
 pub(crate) fn of_replaced(alloc: Global, text: &str) -> Result<String> {
-    let mut cells = Cells::new(text);
+    let mut cells = Row::new(text);
     let natural_width = cells.number()?;
     let natural_height = cells.number()?;
     let width = cells.number_or_none()?;
@@ -68,7 +68,7 @@ pub(crate) fn of_replaced(alloc: Global, text: &str) -> Result<String> {
     Ok(format!(in alloc; "{width} {height}")?)
 }
 
-fn block_row(cells: &mut Cells<'_>) -> Result<BlockRow> {
+fn block_row(cells: &mut Row<'_>) -> Result<BlockRow> {
     Ok(BlockRow {
         margin_left: cells.number_or_none()?,
         width: cells.number_or_none()?,

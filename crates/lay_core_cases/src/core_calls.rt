@@ -3,12 +3,13 @@
 
 ghost use Rattle.std.specs.Prelude.{◌≡◌, ◌<◌, ◌≤◌, []};
 
+use crate::keys::cell_key;
+use crate::said;
+use lay_case_reading::{Key, Said};
 use lay_core::cell_work::{Claim, Layout};
 use lay_core::claim_lists::{ClaimList, Outcomes};
-use lay_core::shape::CellKey;
-use lay_core::{Answer, Core, Idle, Next, Publish, Tally};
-use lay_layout::cells::{Done, Finished, Released};
-use lay_layout::doc::NodeId;
+use lay_core::{Answer, Core, Idle, Next, Tally};
+use lay_layout::cells::Done;
 use lay_layout::edit_lists::{Edits, Reply};
 use lay_layout::units::NoMemory;
 
@@ -38,19 +39,19 @@ pub(crate) fn sync(core: &mut Core, index: u32) -> Option<Reply> {
 }
 
 /// None where too many numbers are drawn.
-pub(crate) fn settle(core: &mut Core) -> Option<Result<(), NoMemory>> {
+pub(crate) fn settle(core: &mut Core) -> Option<Said> {
     if core.draws() > MANY {
         return None;
     }
-    Some(core.settle())
+    Some(said::settled(core.settle()))
 }
 
-pub(crate) fn publish(core: &mut Core) -> Publish {
-    core.publish()
+pub(crate) fn publish(core: &mut Core) -> Said {
+    said::published(core.publish())
 }
 
-pub(crate) fn claim(core: &mut Core, key: CellKey) -> Answer {
-    core.claim(key)
+pub(crate) fn claim(core: &mut Core, key: Key) -> Answer {
+    core.claim(cell_key(key))
 }
 
 pub(crate) fn claim_next(core: &mut Core) -> Next {
@@ -69,24 +70,18 @@ pub(crate) fn claim_some(
     core.claim_some(limit, list)
 }
 
-pub(crate) fn finish(core: &mut Core, done: Done<Layout>) -> Finished {
-    core.finish(done)
+pub(crate) fn finish(core: &mut Core, done: Done<Layout>) -> Said {
+    said::finished(core.finish(done))
 }
 
 pub(crate) fn finish_all(core: &mut Core, outcomes: Outcomes) -> Tally {
     core.finish_all(outcomes)
 }
 
-pub(crate) fn give_back(core: &mut Core, claim: Claim) -> Released {
-    core.give_back(claim)
+pub(crate) fn give_back(core: &mut Core, claim: Claim) -> Said {
+    said::released(core.give_back(claim))
 }
 
-pub(crate) fn laid_of(core: &Core, key: CellKey) -> Option<u64> {
-    core.laid_of(key)
-}
-
-/// The node at a place of the document.
-pub(crate) fn node_at(core: &Core, place: usize) -> Option<NodeId> {
-    let node = core.doc().node(place)?;
-    Some(node.id())
+pub(crate) fn laid_of(core: &Core, key: Key) -> Option<u64> {
+    core.laid_of(cell_key(key))
 }

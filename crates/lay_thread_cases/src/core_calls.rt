@@ -5,6 +5,7 @@ ghost use Rattle.std.specs.Prelude.{◌≡◌, ◌<◌, ◌≤◌, [], IfErr};
 ghost use Rattle.std.specs.List.{All};
 
 use lay_board::{Engine, Pass, Passes};
+use lay_case_reading::Workers;
 use lay_drive::claim_lists::{ClaimList, Outcomes};
 use lay_drive::drive;
 use lay_drive::editing_core::{Core, Idle, Publish, Tally};
@@ -42,12 +43,10 @@ pub(crate) fn batch<R: Threads + Sync, G: Gate + Sync>(
     rt: &R,
     alloc: Global,
     claims: ClaimList,
-    workers: u32,
+    workers: Workers,
     gate: &G,
-) -> Result<Outcomes, ClaimList>
-    requires { (0 < workers) × (workers ≤ 16) }
-{
-    match run_batch(rt, alloc, claims, workers, gate) {
+) -> Result<Outcomes, ClaimList> {
+    match run_batch(rt, alloc, claims, workers.number(), gate) {
         Ok(outcomes) => Ok(outcomes),
         Err((NoMemory, claims)) => Err(claims),
     }
@@ -58,12 +57,10 @@ pub(crate) fn driven<R: Threads + Wait + Sync, G: Gate + Sync>(
     rt: &R,
     alloc: Global,
     run: RunDoc,
-    workers: u32,
+    workers: Workers,
     gate: &G,
-) -> Result<Core, NoMemory>
-    requires { (0 < workers) × (workers ≤ 16) }
-{
-    drive(rt, alloc, run, workers, gate)
+) -> Result<Core, NoMemory> {
+    drive(rt, alloc, run, workers.number(), gate)
 }
 
 /// The core of an engine that was closed; where a pass is out all comes back.

@@ -16,9 +16,9 @@
 //! document is read as (`reading.rt`). With the term `show-kept 1` the answer tells the core that is kept, behind the status:
 //! `Ok, kept 5 entries, laid 3`. With the term `sweep writes` and the like it makes calls in a row (`sweep.rt`).
 //!
-//! With the terms `hold POINT, until POINT` a thread of a run is held at the one point until the other one was reached (`gates.rt`),
+//! With the terms `hold POINT, until POINT` a thread of a run is held at the one point until the other one was reached,
 //! and the answer tells whether that was so: `Ok, met`. Such an answer is wanted without its line `laid`, since how much is laid out
-//! depends on who comes first. Without these terms the editors of a run take turns (`turn_gate.rt`).
+//! depends on who comes first. Without these terms the editors of a run take turns (`turn_gate.rt` of lay_cases).
 
 use crate::answer::Wanted;
 use crate::terms::Terms;

@@ -1,6 +1,6 @@
-//! Spans of columns, and lengths from 0 to 65,535 units.
+//! Lengths from 0 to 65,535 units.
 
-ghost use Rattle.std.specs.Prelude.{◌+◌, ◌≤◌, length, All, IfOk};
+ghost use Rattle.std.specs.Prelude.{◌≤◌, length, All, IfOk};
 ghost use Rattle.lay_units.specs.Units.{IsSize};
 ghost use Rattle.lay_auto_columns.specs.Sizes.{MayBeSize};
 
@@ -41,30 +41,4 @@ pub(crate) fn sizes_or_none(alloc: Global, text: &str) -> Result<Vec<Option<Unit
         sizes.push(size_or_none(word)?)?;
     }
     Ok(sizes)
-}
-
-/// The first of so many columns and how many are spanned, and what is said behind these.
-pub(crate) fn spanned(word: &str, count: usize) -> Result<(u8, u8, &str)>
-    ensures some { IfOk result (λ t. 1 ≤ t.1) }
-    ensures inside { IfOk result (λ t. t.0 + t.1 ≤ count) }
-{
-    let Some((place, rest)) = word.split_once('+') else {
-        bail!("no place: {word}");
-    };
-    let Some((span, rest)) = rest.split_once('=') else {
-        bail!("no span: {word}");
-    };
-    let place = number(place)?;
-    let span = number(span)?;
-    if span == 0 || place as usize + span as usize > count {
-        bail!("columns that aren't there: {word}");
-    }
-    Ok((place, span, rest))
-}
-
-fn number(word: &str) -> Result<u8> {
-    match word.parse::<u8>() {
-        Ok(number) => Ok(number),
-        Err(_) => bail!("no number: {word}"),
-    }
 }

@@ -4,14 +4,14 @@ ghost use Rattle.std.specs.Prelude.{◌≡◌, ◌↔◌, IsTrue, string_bytes};
 
 /// What a call gave.
 #[derive(Drop)]
-pub(crate) struct Answer {
+pub struct Answer {
     status: String,
     bytes: Vec<u8>,
 }
 
 impl Answer {
     /// A call's status, by its name, and the bytes that it wrote.
-    pub(crate) fn new(status: String, bytes: Vec<u8>) -> Answer
+    pub fn new(status: String, bytes: Vec<u8>) -> Answer
         ensures status { result.status ≡ status }
         ensures bytes { result.bytes ≡ bytes }
     {
@@ -19,14 +19,14 @@ impl Answer {
     }
 
     /// The status, by its name.
-    pub(crate) fn status(&self) -> &str
+    pub fn status(&self) -> &str
         ensures { result.now ≡ string_bytes self.now.status }
     {
         self.status.as_str()
     }
 
     /// The bytes that it wrote.
-    pub(crate) fn bytes(&self) -> &[u8]
+    pub fn bytes(&self) -> &[u8]
         ensures { result.now ≡ self.now.bytes.items }
     {
         self.bytes.as_slice()
@@ -35,14 +35,14 @@ impl Answer {
 
 /// The status and the bytes that are wanted.
 #[derive(Clone, Copy)]
-pub(crate) struct Wanted<'a> {
+pub struct Wanted<'a> {
     pub status: &'a str,
     pub text: &'a str,
 }
 
 impl<'a> Wanted<'a> {
     /// A report, or the line of a refusal.
-    pub(crate) fn by_text(text: &'a str) -> Wanted<'a> {
+    pub fn by_text(text: &'a str) -> Wanted<'a> {
         let status = if text.starts_with("refused ") {
             "Refused"
         } else {
@@ -52,7 +52,7 @@ impl<'a> Wanted<'a> {
     }
 
     /// Whether an answer is the wanted one.
-    pub(crate) fn is(&self, answer: &Answer) -> bool
+    pub fn is(&self, answer: &Answer) -> bool
         ensures { IsTrue result ↔ ((string_bytes answer.now.status ≡ self.now.status.now) × (answer.now.bytes.items ≡ self.now.text.now)) }
     {
         answer.status() == self.status && answer.bytes() == self.text.as_bytes()

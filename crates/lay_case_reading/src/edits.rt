@@ -1,14 +1,22 @@
 //! The edits of an editor.
 
 use crate::words::{first, node, small_number};
-use lay_layout::doc::{Edit, NewNode, NodeId};
-use lay_layout::style::{Decl, Decls, Property};
-use lay_layout::units::{NoMemory, Text};
+use lay_doc::{Edit, NewNode, NodeId};
+use lay_edits::Edits;
+use lay_style::{Decl, Decls, Property};
+use lay_units::{NoMemory, Text};
 use lay_values::{ValueFault, property_of, read};
 use std::alloc::Global;
 
-/// The edit of a call; None where it is another call.
-pub(crate) fn edit(alloc: Global, call: &str, rest: &str) -> Result<Option<Edit>, NoMemory> {
+/// The list of the one edit of a call; None where it is another call.
+pub(crate) fn one_edit(alloc: Global, call: &str, rest: &str) -> Result<Option<Edits>, NoMemory> {
+    match edit(alloc, call, rest)? {
+        Some(edit) => Ok(Some(Edits::one(alloc, edit)?)),
+        None => Ok(None),
+    }
+}
+
+fn edit(alloc: Global, call: &str, rest: &str) -> Result<Option<Edit>, NoMemory> {
     match call {
         "set" => Ok(style_setting(alloc, rest)),
         "clear" => Ok(style_clearing(rest)),
@@ -20,7 +28,7 @@ pub(crate) fn edit(alloc: Global, call: &str, rest: &str) -> Result<Option<Edit>
     }
 }
 
-/// A number, and what stands behind it.
+/// A number, and what stands after it.
 fn number_and_rest(text: &str) -> Option<(u32, &str)> {
     let (number, rest) = first(text);
     Some((small_number(number)?, rest))
@@ -64,7 +72,7 @@ fn text_setting(alloc: Global, rest: &str) -> Result<Option<Edit>, NoMemory> {
     Ok(Some(Edit::SetText { node, text }))
 }
 
-/// A parent, an index among its children and the id of a new node, and what stands behind them.
+/// A parent, an index among its children and the id of a new node, and what stands after them.
 fn slot(rest: &str) -> Option<(NodeId, u32, NodeId, &str)> {
     let (parent, rest) = number_and_rest(rest)?;
     let (index, rest) = number_and_rest(rest)?;

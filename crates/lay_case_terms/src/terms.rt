@@ -1,11 +1,11 @@
 //! The terms of a call: its words, how its source and sink behave, and which threads are to meet.
 
-use crate::gates::point;
+use lay_case_reading::point;
 use lay_outside::Point;
 
 /// The terms of a call.
 #[derive(Clone, Copy)]
-pub(crate) struct Terms<'a> {
+pub struct Terms<'a> {
     words: &'a str,
     document: Option<&'a str>,
     reading: Steps,
@@ -20,7 +20,7 @@ pub(crate) struct Terms<'a> {
 
 /// Which calls a case makes in a row (`sweep.rt`).
 #[derive(Clone, Copy)]
-pub(crate) enum Sweep {
+pub enum Sweep {
     Reads,
     Writes,
     Fronts,
@@ -28,7 +28,7 @@ pub(crate) enum Sweep {
 
 /// How many bytes a stream takes at most in a call, and the number of the call that fails, from 1; 0 where none does.
 #[derive(Clone, Copy)]
-pub(crate) struct Steps {
+pub struct Steps {
     pub most: usize,
     pub failing: u64,
 }
@@ -39,7 +39,7 @@ const EASY: Steps = Steps {
 };
 
 /// The terms of a document that is laid out from scratch, between streams that don't fail.
-pub const PLAIN: Terms<'static> = Terms {
+pub(crate) const PLAIN: Terms<'static> = Terms {
     words: "scratch",
     document: None,
     reading: EASY,
@@ -103,7 +103,7 @@ impl<'a> Terms<'a> {
     }
 
     /// The words of the command line, parted by blanks.
-    pub(crate) fn words(&self) -> &'a str {
+    pub fn words(&self) -> &'a str {
         self.words
     }
 
@@ -112,26 +112,28 @@ impl<'a> Terms<'a> {
         self.document
     }
 
-    pub(crate) fn reading(&self) -> Steps {
+    /// How the source behaves.
+    pub fn reading(&self) -> Steps {
         self.reading
     }
 
-    pub(crate) fn writing(&self) -> Steps {
+    /// How the sink behaves.
+    pub fn writing(&self) -> Steps {
         self.writing
     }
 
     /// How many bytes the sink takes.
-    pub(crate) fn room(&self) -> usize {
+    pub fn room(&self) -> usize {
         self.room
     }
 
     /// Whether the answer tells the core that is kept.
-    pub(crate) fn shows_kept(&self) -> bool {
+    pub fn shows_kept(&self) -> bool {
         self.shows_kept
     }
 
     /// The point where a thread is to be held, and the one that another thread is to reach meanwhile.
-    pub(crate) fn meeting(&self) -> Option<(Point, Point)> {
+    pub fn meeting(&self) -> Option<(Point, Point)> {
         match (self.hold, self.until) {
             (Some(hold), Some(until)) => Some((hold, until)),
             _ => None,

@@ -8,7 +8,7 @@
 //! left margin of 10 px, `%` replaced. A number behind the signs says how many such nodes stand
 //! there.
 
-use crate::cells::ample;
+use crate::rows::ample;
 use anyhow::{Result, bail};
 use lay_doc::{Doc, NewNode, NodeId};
 use lay_style::Decls;
@@ -29,7 +29,7 @@ struct Page {
 }
 
 /// The document that a text is.
-pub(crate) fn document(alloc: Global, text: &str) -> Result<Doc> {
+pub fn document(alloc: Global, text: &str) -> Result<Doc> {
     let mut page = Page::new(alloc);
     for letter in text.chars() {
         if !page.sign(alloc, letter)? && !page.bracket(letter)? {

@@ -1,4 +1,4 @@
-//! The cells of a row.
+//! Rows of tables.
 
 use anyhow::{Result, bail};
 use lay_units::NoMemory;
@@ -7,24 +7,24 @@ use std::str::{FromStr, SplitWhitespace};
 
 /// The cells that are left of a row.
 #[derive(Drop)]
-pub(crate) struct Cells<'a> {
+pub struct Row<'a> {
     words: SplitWhitespace<'a>,
 }
 
-impl<'a> Cells<'a> {
-    pub(crate) fn new(row: &'a str) -> Cells<'a> {
-        Cells {
+impl<'a> Row<'a> {
+    pub fn new(row: &'a str) -> Row<'a> {
+        Row {
             words: row.split_whitespace(),
         }
     }
 
     /// The next cell, where there is one more.
-    pub(crate) fn word(&mut self) -> Option<&'a str> {
+    pub fn word(&mut self) -> Option<&'a str> {
         self.words.next()
     }
 
     /// The number in the next cell.
-    pub(crate) fn number<T: FromStr<Err = ParseIntError>>(&mut self) -> Result<T> {
+    pub fn number<T: FromStr<Err = ParseIntError>>(&mut self) -> Result<T> {
         match self.words.next() {
             Some(word) => number(word),
             None => bail!("a cell is missing"),
@@ -32,7 +32,7 @@ impl<'a> Cells<'a> {
     }
 
     /// The number in the next cell, None where `auto` or `none` stands there.
-    pub(crate) fn number_or_none<T: FromStr<Err = ParseIntError>>(&mut self) -> Result<Option<T>> {
+    pub fn number_or_none<T: FromStr<Err = ParseIntError>>(&mut self) -> Result<Option<T>> {
         match self.words.next() {
             Some("auto" | "none") => Ok(None),
             Some(word) => Ok(Some(number(word)?)),
@@ -41,7 +41,7 @@ impl<'a> Cells<'a> {
     }
 
     /// Ends the row, which has no further cell.
-    pub(crate) fn end(mut self) -> Result<()> {
+    pub fn end(mut self) -> Result<()> {
         match self.words.next() {
             Some(word) => bail!("a cell too many: {word}"),
             None => Ok(()),
@@ -50,7 +50,7 @@ impl<'a> Cells<'a> {
 }
 
 /// The number that a word is.
-pub(crate) fn number<T: FromStr<Err = ParseIntError>>(word: &str) -> Result<T> {
+pub fn number<T: FromStr<Err = ParseIntError>>(word: &str) -> Result<T> {
     match word.parse::<T>() {
         Ok(number) => Ok(number),
         Err(_) => bail!("no number: {word}"),
@@ -58,7 +58,7 @@ pub(crate) fn number<T: FromStr<Err = ParseIntError>>(word: &str) -> Result<T> {
 }
 
 /// What is given where there is memory.
-pub(crate) fn ample<T: Drop>(given: Result<T, NoMemory>) -> Result<T> {
+pub fn ample<T: Drop>(given: Result<T, NoMemory>) -> Result<T> {
     match given {
         Ok(given) => Ok(given),
         Err(_) => bail!("out of memory"),

@@ -1,14 +1,14 @@
-//! What a run document is read as, which the top call doesn't show yet: its nodes, its face and its commands.
+//! What a run document is read as, which the top call doesn't show: its nodes, its face and its commands.
 
 use crate::answer::Answer;
 use anyhow::Result;
+use lay_doc::{BadDeclaration, Edit, Kind, NewNode, Node, NodeId};
+use lay_edits::Cmd;
+use lay_face::Face;
 use lay_json::read_run;
-use lay_layout::doc::{BadDeclaration, Edit, Kind, NewNode, Node, NodeId};
-use lay_layout::edit_lists::Cmd;
-use lay_layout::face::Face;
-use lay_layout::run::RunDoc;
-use lay_layout::style::Decls;
-use lay_layout::units::Unit;
+use lay_run::RunDoc;
+use lay_style::Decls;
+use lay_units::Unit;
 use std::alloc::{AllocError, Global};
 use std::fmt::Write;
 

@@ -1,0 +1,152 @@
+//! The core of a case. Where a call on it lacks memory the answer is `no memory`. Where the request was one of the program's own, the
+//! program ends.
+
+use crate::claims::Claims;
+use crate::questions::{counts, question};
+use crate::{core_calls, said};
+use lay_case_reading::{
+    CellCall, CoreCall, EditorCall, Grants, Said, Subject, Taken, ids, shown_reply,
+};
+use lay_core::Core;
+use lay_core::cell_work::Claim;
+use lay_core::claim_lists::{ClaimList, Outcomes};
+use lay_layout::edit_lists::Reply;
+use lay_layout::units::NoMemory;
+use std::alloc::Global;
+
+/// The most claims that are handed out or taken at once.
+const BATCH: u32 = 64;
+
+/// The core of a case, the calls of editors on it, the claims that it granted, and how many there were.
+#[derive(Drop)]
+pub(crate) struct OneCore {
+    core: Core,
+    calls: u32,
+    claims: Claims,
+    grants: Grants,
+}
+
+impl Subject for OneCore {
+    fn answer(&mut self, alloc: Global, line: &str) -> Result<Option<String>, NoMemory> {
+        let Some(call) = CoreCall::read(alloc, line)? else {
+            return Ok(None);
+        };
+        match self.said(alloc, call)? {
+            Some(said) => Ok(Some(said.text(alloc)?)),
+            None => Ok(None),
+        }
+    }
+}
+
+impl OneCore {
+    pub(crate) fn new(alloc: Global, core: Core) -> OneCore {
+        OneCore {
+            core,
+            calls: 0,
+            claims: Claims::new(alloc),
+            grants: Grants::new(alloc),
+        }
+    }
+
+    /// The answer to a call; None where it can't be made.
+    fn said(&mut self, alloc: Global, call: CoreCall) -> Result<Option<Said>, NoMemory> {
+        match call {
+            CoreCall::Editor(call) => self.replied(alloc, call),
+            CoreCall::Cell(call) => cell_said(alloc, &mut self.core, &mut self.claims, call),
+            CoreCall::Question(asked) => Ok(Some(question(alloc, &self.core, asked)?)),
+            CoreCall::Settle => Ok(core_calls::settle(&mut self.core)),
+            CoreCall::Publish => Ok(Some(core_calls::publish(&mut self.core))),
+            CoreCall::Granted => Ok(Some(granted(alloc, &self.core, &mut self.grants)?)),
+        }
+    }
+
+    /// The reply to a call of an editor.
+    fn replied(&mut self, alloc: Global, call: EditorCall) -> Result<Option<Said>, NoMemory> {
+        match editor_reply(&mut self.core, self.calls, call) {
+            Some(reply) => {
+                self.calls = self.calls.wrapping_add(1);
+                Ok(Some(shown_reply(alloc, reply)?))
+            }
+            None => Ok(None),
+        }
+    }
+}
+
+fn editor_reply(core: &mut Core, index: u32, call: EditorCall) -> Option<Reply> {
+    match call {
+        EditorCall::Edit(edits) => core_calls::edit(core, index, edits),
+        EditorCall::Latest => core_calls::latest(core, index),
+        EditorCall::Sync => core_calls::sync(core, index),
+    }
+}
+
+/// The cells that were granted since the last time.
+fn granted(alloc: Global, core: &Core, grants: &mut Grants) -> Result<Said, NoMemory> {
+    let nodes = ids(alloc, core.doc())?;
+    let counts = counts(alloc, core, nodes.as_slice())?;
+    Ok(Said::Text(grants.since(alloc, counts, core.laid())?))
+}
+
+/// The answer to a call of one who works on the cells.
+fn cell_said(
+    alloc: Global,
+    core: &mut Core,
+    claims: &mut Claims,
+    call: CellCall,
+) -> Result<Option<Said>, NoMemory> {
+    match call {
+        CellCall::Claim(key) => Ok(Some(claims.answered(core_calls::claim(core, key))?)),
+        CellCall::ClaimNext => Ok(Some(claims.next(core_calls::claim_next(core))?)),
+        CellCall::ClaimSome(limit) => claim_some(alloc, core, claims, limit),
+        CellCall::Finish { number, under } => match claims.again(number, under)? {
+            Some(claim) => Ok(Some(finish(alloc, core, claim))),
+            None => Ok(None),
+        },
+        CellCall::FinishAll(all) => finish_all(alloc, core, claims, all.as_slice()),
+        CellCall::GiveBack(number) => match claims.again(number, number)? {
+            Some(claim) => Ok(Some(core_calls::give_back(core, claim))),
+            None => Ok(None),
+        },
+    }
+}
+
+fn claim_some(
+    alloc: Global,
+    core: &mut Core,
+    claims: &mut Claims,
+    limit: u32,
+) -> Result<Option<Said>, NoMemory> {
+    if limit == 0 || limit > BATCH {
+        return Ok(None);
+    }
+    let mut list = ClaimList::with_room(alloc, limit)?;
+    match core_calls::claim_some(core, limit, &mut list) {
+        Ok(None) => Ok(Some(claims.all_granted(alloc, list)?)),
+        Ok(Some(idle)) => Ok(Some(said::idle(idle.kind()))),
+        Err(NoMemory) => Ok(Some(Said::LACKS)),
+    }
+}
+
+/// Works a claim out, and finishes it.
+fn finish(alloc: Global, core: &mut Core, claim: Claim) -> Said {
+    match claim.compute(alloc) {
+        Ok(done) => core_calls::finish(core, done),
+        Err(_claim) => Said::LACKS,
+    }
+}
+
+fn finish_all(
+    alloc: Global,
+    core: &mut Core,
+    claims: &Claims,
+    all: &[Taken],
+) -> Result<Option<Said>, NoMemory> {
+    let Some(outcomes) = claims.outcomes(alloc, all)? else {
+        return Ok(None);
+    };
+    if outcomes.len() > BATCH as usize {
+        return Ok(None);
+    }
+    let tally = core_calls::finish_all(core, Outcomes::new(outcomes));
+    Ok(Some(said::tally(alloc, &tally)?))
+}
