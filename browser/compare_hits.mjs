@@ -13,17 +13,13 @@
 // sees what is hidden, so `visibility` isn't given to the browser, and a block with `overflow` makes a context there without it. A
 // document that differs is printed with its first K such points (else 3), and at last how many documents and points are the same. The
 // status is 1 where one differs.
+import './test/help.mjs';
 import { execFile } from 'node:child_process';
 import { readFileSync } from 'node:fs';
 import { basename, dirname, join, resolve } from 'node:path';
 import { fileURLToPath } from 'node:url';
 import { gunzipSync } from 'node:zlib';
 
-if (process.argv.includes('--help')) {
-  const lines = readFileSync(fileURLToPath(import.meta.url), 'utf8').split('\n').slice(1);
-  console.log(lines.slice(0, lines.findIndex(line => !line.startsWith('//'))).map(line => line.slice(3)).join('\n'));
-  process.exit(0);
-}
 const SCALES = [64, 1], UNITS_PER_PX = 64, AT_ONCE = 20;
 const HERE = dirname(fileURLToPath(import.meta.url));
 

@@ -53,7 +53,7 @@ def is_defined(name):
 
 def is_about(section):
     """Whether tools/sections knows files about a section."""
-    done = subprocess.run([ROOT / 'docs' / 'sections', section], capture_output=True, text=True)
+    done = subprocess.run([ROOT / 'tools' / 'sections', section], capture_output=True, text=True)
     return done.returncode == 0 and section in done.stdout
 
 

@@ -1,6 +1,7 @@
 #!/usr/bin/env node
 // LAY=program LAY_PICTURE=program node over.mjs PAGE.html PICTURE.png [WIDTH HEIGHT]: the picture of what `lay` says of a page, over the
 // page as Chromium shows it.
+import './help.mjs';
 import { spawnSync } from 'node:child_process';
 import { writeFileSync } from 'node:fs';
 import { resolve } from 'node:path';

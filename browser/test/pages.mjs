@@ -2,6 +2,7 @@
 // LAY=program node pages.mjs [--width 800] [--out FOLDER] [--show N] PAGE.html ..
 // Exports pages in headless Chromium, lays the documents out, and says how many pieces stand exactly where the browser has them.
 // A page in quirks mode is loaded again in standards mode.
+import './help.mjs';
 import { mkdirSync, mkdtempSync, readFileSync, rmSync, writeFileSync } from 'node:fs';
 import { tmpdir } from 'node:os';
 import { join, resolve } from 'node:path';

@@ -2,6 +2,7 @@
 // LAY=program node round_trip.mjs --bridge FOLDER [--every 15] [--from 0] [--show 5] FILE.jsonl.gz ..
 // Run document -> page -> run document, by a bridge (a folder with chromium/bridge.mjs and chromium/style.mjs, which makes a page of a
 // document, in a font with the document's face). Both documents must give the same report, byte for byte.
+import './help.mjs';
 import { readFileSync } from 'node:fs';
 import { gunzipSync } from 'node:zlib';
 import { join, resolve } from 'node:path';

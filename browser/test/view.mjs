@@ -1,5 +1,6 @@
 #!/usr/bin/env node
 // node view.mjs DOCUMENT.json REPORT.txt PICTURE.png [light|dark] [place on the slider]: what view.html shows, as a picture.
+import './help.mjs';
 import { readFileSync, writeFileSync } from 'node:fs';
 import { Chromium } from './chromium.mjs';
 

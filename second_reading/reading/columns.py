@@ -38,19 +38,28 @@ def shares(amount, count):
     return [share + (place < over) for place in range(count)]
 
 
-def width_of_cell(cell, base):
-    """The width of a cell's border box as it is given; percentages are of the base, or are `auto` and 0 without one."""
+def width_of_cell(cell, base, wanted):
+    """The width of a cell's border box as it is given; a percentage of it is of the base, and one of a padding of the table's width.
+
+    Without these they are `auto` and 0.
+    """
     width = resolve(cell.style['width'], base)
     if width is None:
         return None
-    return width + sum(edges.left + edges.right for edges in (borders(cell), paddings(cell, base)))
+    return width + sum(edges.left + edges.right for edges in (borders(cell), paddings(cell, wanted)))
 
 
-def own_widths(table, base):
+def base_of_columns(table, wanted):
+    """What percentages of columns are of: the width that the table is to have, less all spacings."""
+    return None if wanted is None else max(0, wanted - all_spacings_across(table))
+
+
+def own_widths(table, wanted):
     """The width that each column has of its own: its element's, else its share of that of the cell of the first row."""
+    base = base_of_columns(table, wanted)
     widths = [column.element and resolve(column.element.style['width'], base) for column in table.columns]
     for cell in table.grid.cells_of_first_row():
-        area, width = table.grid.areas[cell], width_of_cell(cell, base)
+        area, width = table.grid.areas[cell], width_of_cell(cell, base, wanted)
         if width is None:
             continue
         rest = max(0, width - spacing_across(table) * (area.columns - 1))

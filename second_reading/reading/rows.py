@@ -24,9 +24,14 @@ def content_height(cell):
 
 
 def baseline_of_cell(cell):
-    """From the cell's top border edge: that of its first line or row in the flow, or the bottom of its content."""
+    """From the cell's top border edge: that of its first line or row in the flow, or the bottom of its content edge.
+
+    A height of its own moves that edge down where it is greater than what its content needs.
+    """
     baseline = first_baseline(cell.flow, cell)
-    return cell.border.top + cell.padding.top + cell.flow.auto_height if baseline is None else baseline
+    if baseline is None:
+        return cell.border.top + cell.padding.top + max(cell.flow.auto_height, cell.definite_height or 0)
+    return baseline
 
 
 def alignment_in_cell(cell):

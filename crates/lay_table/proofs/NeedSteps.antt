@@ -2,7 +2,7 @@
 use Rattle.std.proofs.Common.{◌≡◌, ℕ, zero, suc, ◌+◌, ◌<◌, ◌≤◌, ◌^◌, ℤ, pos, ◌+ℤ◌, ◌-ℤ◌, ◌≤ℤ◌, List, length, length-append, slice_get, Option, Some, None, IfSome, refl, subst, arith}
 use Rattle.std.specs.Option.{unwrap_or}
 use Rattle.std.specs.List.{All}
-use Rattle.std.proofs.lemmas.Int.{ints}
+use Rattle.std.proofs.lemmas.Int.{ints, clamps}
 use Rattle.std.proofs.lemmas.Option.{get_or_from_slice_get, slice_get_within}
 use Rattle.lay_units.specs.Units.{IsUsedSize, IsBoxSize, IsNear}
 use Rattle.lay_units.specs.declared.length.Unit.{Unit as Length}
@@ -18,13 +18,14 @@ use Rattle.lay_grid.proofs.HeightsWithin.{heights_are_within_lem}
 use Rattle.lay_sizes.specs.declared.own_boxes.OwnBox.{OwnBox}
 use Rattle.lay_sizes.specs.declared.sizing.BoxSizes.{BoxSizes}
 use Rattle.lay_sizes.specs.OwnBoxes.{IsBaseline, OwnBoxFits}
-use Rattle.lay_sizes.specs.SizeBounds.{IsInset, IsUsedSizeOrAuto, SizeFits}
+use Rattle.lay_sizes.specs.SizeBounds.{IsUsedSizeOrAuto, SizeFits}
+use Rattle.lay_sizes.specs.UsedLengths.{or_zero}
 use Rattle.lay_table_borders.specs.declared.grid.TableCell.{TableCell}
 use Rattle.lay_table_borders.specs.GridBounds.{CellFits}
 use Rattle.lay_table.specs.declared.cell_align.CellAlign.{CellAlign}
 use Rattle.lay_table.specs.declared.cell_align.CellAlign.TheVariants.{Baseline, Top, Middle, Bottom}
 use Rattle.lay_table.specs.NeedBounds.{MayBeBaseline, NeedFits, NeedsFit}
-use Rattle.lay_table.specs.RowNeeds.{baseline_if, border_height, need_by_content, own_heights_to, row_cell}
+use Rattle.lay_table.specs.RowNeeds.{baseline_if, border_height, content_edge, need_by_content, own_heights_to, row_cell}
 use Rattle.lay_table.specs.TableInputs.{TableInput}
 
 -- no row is higher than 2^61 units
@@ -82,9 +83,17 @@ rows_fit r few own cells spacing total = record {
       total = omega (arith, ints, total.1);
     }
 
-own_baseline_fits : (o : Option Length) (height bottom : Length) → IfSome o (λ u. IsBaseline u.0) → IsBoxSize height.0 → IsInset bottom.0 → IsBaseline (unwrap_or o (record { 0 = height.0 -ℤ bottom.0 })).0
-own_baseline_fits None height bottom may box inset = (omega (arith, ints, box.0, inset.1), omega (arith, ints, box.1, inset.0))
-own_baseline_fits (Some b) height bottom may box inset = may
+or_zero_is : (height : Len) → IsUsedSizeOrAuto height → IsUsedSize (or_zero height).0
+or_zero_is len.Auto is = (omega (arith, ints), omega (arith, ints))
+or_zero_is (len.Of height) is = is
+
+own_baseline_fits : (o : Option Length) (z : BoxSizes) (natural : Length) → IfSome o (λ u. IsBaseline u.0) → IsBoxSize natural.0 → SizeFits z → IsBaseline (unwrap_or o (content_edge z natural)).0
+own_baseline_fits None z natural may box fits =
+    let height = or_zero_is z.height fits.height in (
+      omega (arith, ints, clamps, box.0, fits.bottom.1),
+      omega (arith, ints, clamps, box.1, height.1, fits.top.1, fits.bottom.0, fits.bottom.1),
+    )
+own_baseline_fits (Some b) z natural may box fits = may
 
 may_be_own : (align : CellAlign) (b : Length) → IsBaseline b.0 → MayBeBaseline (baseline_if align b)
 may_be_own Baseline b is = is
@@ -98,7 +107,7 @@ content_fits rows columns cell align o z fits own sizes = record {
   some = fits.some_rows;
   inside = fits.last_row;
   height = own.height;
-  baseline = may_be_own align _ (own_baseline_fits o.baseline o.height z.edges.bottom own.baseline own.height sizes.bottom);
+  baseline = may_be_own align _ (own_baseline_fits o.baseline z o.height own.baseline own.height sizes);
 }
 
 pub height_fits : (rows columns : ℕ) (cell : TableCell) (z : BoxSizes) (height : Length) → CellFits rows columns cell → SizeFits z → IsUsedSize height.0 → NeedFits rows (row_cell cell (border_height z height) None)

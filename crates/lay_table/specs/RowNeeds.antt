@@ -4,6 +4,7 @@
 -- its content alone, and where the cell is at the baseline of its row, it stands with its own baseline there. Row groups have no
 -- height of their own. A percentage is of the height of the table, where that is given; of a row it counts as auto.
 use Rattle.std.specs.Prelude.{ℕ, zero, suc, ◌+◌, pos, ◌+ℤ◌, ◌-ℤ◌, ◌*ℤ◌, List, [], ◌∷◌, ◌++◌, length, slice_index_or, Option, Some, None}
+use Rattle.std.specs.Int.{int_max}
 use Rattle.std.specs.Option.{unwrap_or}
 use Rattle.lay_units.specs.declared.length.Unit.{Unit as Length}
 use Rattle.lay_units.specs.declared.records.Len.{Len}
@@ -72,11 +73,6 @@ own_heights_to i (suc r) = own_heights_to i r ++ own_height (row_style i r) ∷ 
 abbrev pub own_heights : TableInput → List Length
 own_heights i = own_heights_to i (length (grid_of i).rows)
 
--- A cell's own baseline, below the top of its border box: that of its first line or row in flow, and where it has none, its "bottom of
--- content edge", which is this far above its bottom.
-abbrev pub cell_baseline : OwnBox → (bottom : Length) → Length
-cell_baseline o bottom = unwrap_or o.baseline (record { 0 = o.height.0 -ℤ bottom.0 })
-
 -- a cell that needs this height, and is at the baseline of its row or isn't
 abbrev pub row_cell : TableCell → Length → Option Length → RowCell
 row_cell cell height baseline = record { row = cell.row; span = cell.rows; height = height; baseline = baseline }
@@ -84,6 +80,15 @@ row_cell cell height baseline = record { row = cell.row; span = cell.rows; heigh
 -- the border box around a content of this height
 abbrev pub border_height : BoxSizes → Length → Length
 border_height z height = record { 0 = height.0 +ℤ z.edges.top.0 +ℤ z.edges.bottom.0 }
+
+-- The "bottom of content edge" of a cell that has this height by its content alone, from the top of its border box. The content edge
+-- of a cell with a greater `height` of its own is as high as that.
+abbrev pub content_edge : BoxSizes → (natural : Length) → Length
+content_edge z natural = record { 0 = int_max natural.0 (border_height z (or_zero z.height)).0 -ℤ z.edges.bottom.0 }
+
+-- a cell's own baseline, below the top of its border box: that of its first line or row in flow, and where it has none, its content edge
+abbrev pub cell_baseline : OwnBox → BoxSizes → Length
+cell_baseline o z = unwrap_or o.baseline (content_edge z o.height)
 
 -- what a cell needs by its `height`, if it has one
 abbrev pub need_by_height : TableCell → BoxSizes → Len → List RowCell
@@ -98,7 +103,7 @@ baseline_if Bottom baseline = None
 
 -- what its content needs
 abbrev pub need_by_content : TableCell → CellAlign → OwnBox → BoxSizes → RowCell
-need_by_content cell align o z = row_cell cell o.height (baseline_if align (cell_baseline o z.edges.bottom))
+need_by_content cell align o z = row_cell cell o.height (baseline_if align (cell_baseline o z))
 
 -- what the cell c needs, where these are the used sizes of the cells
 abbrev pub needs_of_cell : TableInput → List BoxSizes → ℕ → List RowCell

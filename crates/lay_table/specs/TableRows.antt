@@ -99,7 +99,7 @@ shift_by Bottom row own natural height = record { 0 = height.0 -ℤ natural.0 }
 
 -- the baseline of the cell c itself
 abbrev pub own_baseline : TableInput → TableRows → ℕ → Length
-own_baseline i rows c = cell_baseline (natural_box i c) (sizes_at rows.cells c).edges.bottom
+own_baseline i rows c = cell_baseline (natural_box i c) (sizes_at rows.cells c)
 
 abbrev pub shift_of : TableInput → TableRows → ℕ → Length
 shift_of i rows c =

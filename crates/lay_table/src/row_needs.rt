@@ -1,14 +1,15 @@
 //! What the heights of rows depend on (CSS 2.2, 17.5.3).
 
 ghost use Rattle.std.specs.Prelude.{◌≡◌, ◌<◌, ◌≤◌, ◌++◌, length, None, All, IfOk, OnOk};
-ghost use Rattle.lay_units.specs.Units.{IsUsedSize, IsNear};
+ghost use Rattle.lay_units.specs.Units.{IsBoxSize, IsNear, IsUsedSize};
 ghost use Rattle.lay_units.specs.declared.length.Unit.{Unit as Length};
 ghost use Rattle.lay_grid.specs.RowsFit.{RowsFit};
 ghost use Rattle.lay_sizes.specs.OwnBoxes.{OwnBoxFits};
-ghost use Rattle.lay_sizes.specs.SizeBounds.{IsInset, SizeFits};
+ghost use Rattle.lay_sizes.specs.SizeBounds.{IsUsedSizeOrAuto, SizeFits};
 ghost use Rattle.lay_sizes.specs.SizeColumns.{HaveSizeBounds, sizes_at};
+ghost use Rattle.lay_sizes.specs.UsedLengths.{or_zero};
 ghost use Rattle.lay_table.specs.NeedBounds.{NeedFits, NeedsFit};
-ghost use Rattle.lay_table.specs.RowNeeds.{align_of, baseline_if, border_height, cell_baseline, cell_of, least_height};
+ghost use Rattle.lay_table.specs.RowNeeds.{align_of, baseline_if, border_height, cell_baseline, cell_of, content_edge, least_height};
 ghost use Rattle.lay_table.specs.RowNeeds.{left_for_rows, natural_box, need_by_content, needs_of, needs_of_cell};
 ghost use Rattle.lay_table.specs.RowNeeds.{own_height, own_heights, row_cell, row_spacing, row_style, rows_in};
 
@@ -70,11 +71,11 @@ pub(crate) fn least_height(table: &BoxSizes) -> Unit
     requires { SizeFits table.now }
     ensures { result ≡ least_height table.now }
 {
-    let height = match table.height {
-        Len::Auto => Unit(0),
-        Len::Of(height) => height,
-    };
-    with_min_max(height, table.min_height, table.max_height)
+    with_min_max(
+        given_height(table.height),
+        table.min_height,
+        table.max_height,
+    )
 }
 
 /// What is left of it for the heights of so many rows.
@@ -188,7 +189,7 @@ fn need_by_content(cell: TableCell, align: CellAlign, natural: OwnBox, sizes: Bo
     requires sizes { SizeFits sizes }
     ensures { result ≡ need_by_content cell align natural sizes }
 {
-    let own = cell_baseline(natural, sizes.edges.bottom);
+    let own = cell_baseline(natural, sizes);
     row_cell(cell, natural.height, baseline_if(align, own))
 }
 
@@ -204,15 +205,37 @@ pub(crate) fn row_cell(cell: TableCell, height: Unit, baseline: Option<Unit>) ->
     }
 }
 
-/// A cell's own baseline, where its content ends this far above its bottom.
-pub(crate) fn cell_baseline(natural: OwnBox, bottom: Unit) -> Unit
+/// A cell's own baseline, where this is its box by its content alone.
+pub(crate) fn cell_baseline(natural: OwnBox, sizes: BoxSizes) -> Unit
     requires natural { OwnBoxFits natural }
-    requires bottom { IsInset bottom.0 }
-    ensures { result ≡ cell_baseline natural bottom }
+    requires sizes { SizeFits sizes }
+    ensures { result ≡ cell_baseline natural sizes }
 {
     match natural.baseline {
         Some(baseline) => baseline,
-        None => Unit(natural.height.0 - bottom.0),
+        None => content_edge(sizes, natural.height),
+    }
+}
+
+/// The bottom content edge of a cell that has this height by its content alone.
+fn content_edge(sizes: BoxSizes, natural: Unit) -> Unit
+    requires sizes { SizeFits sizes }
+    requires natural { IsBoxSize natural.0 }
+    ensures { result ≡ content_edge sizes natural }
+{
+    let given = border_height(sizes, given_height(sizes.height));
+    Unit(natural.0.max(given.0) - sizes.edges.bottom.0)
+}
+
+/// A given height, or 0.
+fn given_height(height: Len) -> Unit
+    requires { IsUsedSizeOrAuto height }
+    ensures value { result ≡ or_zero height }
+    ensures size { IsUsedSize result.0 }
+{
+    match height {
+        Len::Auto => Unit(0),
+        Len::Of(height) => height,
     }
 }
 

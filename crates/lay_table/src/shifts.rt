@@ -64,8 +64,7 @@ fn own_baseline(input: &TableInput, rows: &TableRows, c: usize) -> Unit
     requires cell { c < length input.now.table.grid.cells }
     ensures { result ≡ own_baseline input.now rows.now c }
 {
-    let bottom = sizes_at(&rows.cells, c).edges.bottom;
-    cell_baseline(natural_box(input, c), bottom)
+    cell_baseline(natural_box(input, c), sizes_at(&rows.cells, c))
 }
 
 /// How far a content is moved down from where it stands by itself.

@@ -9,7 +9,7 @@ use Rattle.lay_measure.specs.declared.preferred_widths.PreferredWidths.{Preferre
 use Rattle.lay_grid.specs.Columns.{AreColumns, AreOwn}
 use Rattle.lay_grid.specs.Shares.{own_at}
 use Rattle.lay_table_borders.specs.TableGrid.{TableGridValue}
-use Rattle.lay_table_sizes.specs.ColumnWidths.{columns_in, element_widths, width_by_place}
+use Rattle.lay_table_sizes.specs.ColumnWidths.{columns_in, element_widths, left_for_columns, width_by_place}
 use Rattle.lay_table_sizes.specs.PreferredWidths.{AreColumnWidths, content_widths, own_or, widths_at}
 
 pub element_widths_count : (table : Option Length) (boxes : List BoxNode) (places : List ℕ) (n : ℕ) → length (element_widths table boxes places n) ≡ n
@@ -53,4 +53,4 @@ all_columns boxes inner g owns contents widths are count each all = record {
 
 -- each column has a width
 pub columns_count : (table : Option Length) (boxes : List BoxNode) (g : TableGridValue) (wanted : Length) (widths : List Length) → AreColumns (columns_in table boxes g wanted) widths → length widths ≡ g.columns
-columns_count table boxes g wanted widths are = are.shared.as_many ∙ are.own.as_many ∙ element_widths_count table boxes g.column_boxes g.columns
+columns_count table boxes g wanted widths are = are.shared.as_many ∙ are.own.as_many ∙ element_widths_count (left_for_columns g table) boxes g.column_boxes g.columns

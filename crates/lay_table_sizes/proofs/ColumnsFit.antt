@@ -30,7 +30,7 @@ use Rattle.lay_table_borders.specs.GridBounds.{CellFits as GridCellFits, TableGr
 use Rattle.lay_table_borders.specs.TableGrid.{TableGridValue}
 use Rattle.lay_table_borders.specs.declared.grid.TableCell.{TableCell}
 use Rattle.lay_table_sizes.specs.Bounds.{IsEdge, most_columns}
-use Rattle.lay_table_sizes.specs.ColumnWidths.{cell_edges, cell_width, columns_in, element_widths, first_cell, first_cells, given_padding, given_width, or_none, width_by_box, width_by_kind, width_by_place, with_edges}
+use Rattle.lay_table_sizes.specs.ColumnWidths.{cell_edges, cell_width, columns_in, element_widths, first_cell, first_cells, given_padding, given_width, left_for_columns, or_none, width_by_box, width_by_kind, width_by_place, with_edges}
 use Rattle.lay_table_sizes.proofs.ColumnSteps.{element_widths_count}
 use Rattle.lay_table_sizes.proofs.SizeSteps.{zero_is_used_size}
 
@@ -101,24 +101,24 @@ record FirstFits (columns : ℕ) (cell : FirstCell) : Type 0 where
   fits : CellFits columns cell
   up_to : CellUpTo most cell
 
-first_fits : (table : Option Length) (boxes : List BoxNode) (rows columns : ℕ) (c : TableCell) → GridCellFits rows columns c → FirstFits columns (first_cell table boxes c)
-first_fits table boxes rows columns c fits =
-    let width = with_edges_is (cell_edges table c.borders (style_of_box boxes c.place)) (given_width table (style_of_box boxes c.place).sizing.width)
-    (cell_edges_is table c.borders (style_of_box boxes c.place) fits.borders) (given_width_is table (style_of_box boxes c.place).sizing.width) in
+first_fits : (table left : Option Length) (boxes : List BoxNode) (rows columns : ℕ) (c : TableCell) → GridCellFits rows columns c → FirstFits columns (first_cell table left boxes c)
+first_fits table left boxes rows columns c fits =
+    let width = with_edges_is (cell_edges table c.borders (style_of_box boxes c.place)) (given_width left (style_of_box boxes c.place).sizing.width)
+    (cell_edges_is table c.borders (style_of_box boxes c.place) fits.borders) (given_width_is left (style_of_box boxes c.place).sizing.width) in
     record {
-      fits = record { some = fits.some_columns; inside = fits.last_column; width = is_position (cell_width table c.borders (style_of_box boxes c.place)) width };
+      fits = record { some = fits.some_columns; inside = fits.last_column; width = is_position (cell_width table left c.borders (style_of_box boxes c.place)) width };
       up_to = record { some = fits.some_columns; width = width.1 };
     }
 
-firsts_fit : (table : Option Length) (boxes : List BoxNode) (rows columns : ℕ) (cells : List TableCell) → All (GridCellFits rows columns) cells → All (FirstFits columns) (first_cells table boxes cells)
-firsts_fit table boxes rows columns [] are = All-nil (FirstFits columns)
-firsts_fit table boxes rows columns (c ∷ cells) are =
-    by (c.row == 0) (first_fits table boxes rows columns c (All-head (GridCellFits rows columns) c cells are))
-    (firsts_fit table boxes rows columns cells (All-tail (GridCellFits rows columns) c cells are))
+firsts_fit : (table left : Option Length) (boxes : List BoxNode) (rows columns : ℕ) (cells : List TableCell) → All (GridCellFits rows columns) cells → All (FirstFits columns) (first_cells table left boxes cells)
+firsts_fit table left boxes rows columns [] are = All-nil (FirstFits columns)
+firsts_fit table left boxes rows columns (c ∷ cells) are =
+    by (c.row == 0) (first_fits table left boxes rows columns c (All-head (GridCellFits rows columns) c cells are))
+    (firsts_fit table left boxes rows columns cells (All-tail (GridCellFits rows columns) c cells are))
   where
-    by : (b : Bool) → FirstFits columns (first_cell table boxes c) → All (FirstFits columns) (first_cells table boxes cells)
-        → All (FirstFits columns) (if b then first_cell table boxes c ∷ first_cells table boxes cells else first_cells table boxes cells)
-    by true here rest = All-cons (FirstFits columns) (first_cell table boxes c) (first_cells table boxes cells) here rest
+    by : (b : Bool) → FirstFits columns (first_cell table left boxes c) → All (FirstFits columns) (first_cells table left boxes cells)
+        → All (FirstFits columns) (if b then first_cell table left boxes c ∷ first_cells table left boxes cells else first_cells table left boxes cells)
+    by true here rest = All-cons (FirstFits columns) (first_cell table left boxes c) (first_cells table left boxes cells) here rest
     by false here rest = rest
 
 -- widths of so few columns are positions
@@ -127,13 +127,13 @@ widths_are_positions n widths few are k d lt = let up = are k d lt in (omega (ar
 
 pub columns_fit : (table : Option Length) (boxes : List BoxNode) (g : TableGridValue) (wanted : Length) → TableGridFits g → g.columns ≤ most_columns → IsUsedSize wanted.0 → ColumnsFit (columns_in table boxes g wanted)
 columns_fit table boxes g wanted fits few is =
-    let counted = element_widths_count table boxes g.column_boxes g.columns in
-    let given = elements_are table boxes g.column_boxes g.columns in
-    let first = firsts_fit table boxes (length g.rows) g.columns g.cells fits.cells in
+    let counted = element_widths_count (left_for_columns g table) boxes g.column_boxes g.columns in
+    let given = elements_are (left_for_columns g table) boxes g.column_boxes g.columns in
+    let first = firsts_fit table (left_for_columns g table) boxes (length g.rows) g.columns g.cells fits.cells in
     record {
       few = omega (arith, counted, few);
-      given = all_positions (element_widths table boxes g.column_boxes g.columns) given;
-      first = λ k d lt. subst (λ (n : ℕ). CellFits n (slice_index_or (first_cells table boxes g.cells) k d)) (sym counted) (first k d lt).fits;
+      given = all_positions (element_widths (left_for_columns g table) boxes g.column_boxes g.columns) given;
+      first = λ k d lt. subst (λ (n : ℕ). CellFits n (slice_index_or (first_cells table (left_for_columns g table) boxes g.cells) k d)) (sym counted) (first k d lt).fits;
       width = (omega (arith, ints, is.0), omega (arith, ints, is.1));
       spacing = (omega (arith, ints, fits.spacing.across.0), omega (arith, ints, fits.spacing.across.1));
       widths = λ widths are. widths_are_positions g.columns widths few (subst (λ (n : ℕ). AreUpTo (most * (n + 1)) widths) counted
