@@ -10,8 +10,9 @@
 //           kerning and ligatures are the browser's and layout alone is judged.  'plain': texts stay readable, in one font.
 //   freeze  true: what `lay` has no rules for is given by its used lengths.  false: it is read as if it were CSS 2.2.
 //   rects   true: adds the browser's own rectangles of each node, in 1/64 px, and what is needed to compare them.
+//   paint   true: adds what each box is painted with, for comparing two pages without painting them.
 //   doc     the document; ids: a Map from DOM nodes to the ids that they shall have.
-// Answers { run, warnings: [{ what, count, first, places: [{ selector, node }] }], info, rects?, fit?, kinds? }.
+// Answers { run, warnings: [{ what, count, first, places: [{ selector, node }] }], info, rects?, fit?, kinds?, paint? }.
 (function () {
   'use strict';
 
@@ -120,7 +121,7 @@
     const doc = options.doc, win = doc.defaultView;
     return { options, doc, win, root: doc.documentElement, measured: options.mode === 'measured', warned: new Map(), items: [],
       range: doc.createRange(), scrollX: win.scrollX, scrollY: win.scrollY, probes: new Map(), advances: new Map(),
-      nodes: [], rects: {}, fit: {}, kinds: {}, extraId: 2e6, bytes: 0 };
+      nodes: [], rects: {}, fit: {}, kinds: {}, paint: {}, extraId: 2e6, bytes: 0 };
   }
   function warn(job, what, at) {
     if (!job.warned.has(what)) job.warned.set(what, { what, count: 0, places: new Set() });
@@ -146,6 +147,7 @@
       return { what, count, first: told.length ? told[0].selector : '', places: told };
     });
   }
+  const isFirefox = job => /Firefox/.test(job.win.navigator.userAgent);
   function warnOfMode(job) {
     const type = job.doc.doctype;
     if (job.doc.compatMode !== 'CSS1Compat' && job.root.localName === 'html') warn(job, 'quirks mode', job.root);
@@ -356,7 +358,7 @@
   }
   function chooseFace(job) {
     // At a great size, since browsers round ascent and descent to whole pixels; Firefox knows no fonts above 2,000 px.
-    const size = /Firefox/.test(job.win.navigator.userAgent) ? 1000 : 10000, unit = 1000 / size;
+    const size = isFirefox(job) ? 1000 : 10000, unit = 1000 / size;
     const probe = probeFont(job, job.main.used, size + 'px', 'normal');
     job.face = { default: 500, ascent: thousandths(probe.ascent * unit), descent: thousandths((probe.content - probe.ascent) * unit),
       xheight: thousandths(probe.ex * unit), normal: thousandths(probe.line * unit) };
@@ -788,7 +790,9 @@
     making.overflow = 'hidden';
     if (making.position === 'static') style.position = 'relative';
     if (!legend || !legend.rect) return;
-    const high = legend.rect[3] + float(legend.used['margin-top']) + float(legend.used['margin-bottom']);
+    // Firefox has room for both margins of a legend; Chromium centres one that is lower than the border, and has no room for its top margin
+    const before = isFirefox(job) ? float(legend.used['margin-top']) : Math.max(0, (top - legend.rect[3]) / 2);
+    const high = before + legend.rect[3] + float(legend.used['margin-bottom']);
     if (high > top) style['padding-top'] = pixelText(float(used['padding-top']) + high - top);
   }
   // A frozen item stands in its container where it was.
@@ -1035,6 +1039,13 @@
     if (!job.options.rects || !item.rects || !item.rects.length) return;
     job.rects[item.id] = item.rects.map(rect => rect.map(value => Math.round(value * 64 * 16) / 16));
   }
+  function savePaint(job, item) {
+    if (!job.options.paint || item.wrapper) return;
+    const style = job.win.getComputedStyle(item.element, item.pseudo || null), { element } = item;
+    const source = item.kind === 'replaced' ? `${element.localName} ${element.currentSrc || element.src || element.outerHTML}` : '';
+    job.paint[item.id] = { background: style.backgroundColor, image: style.backgroundImage, borders: SIDES.map(side => style.getPropertyValue(`border-${side}-color`)),
+      color: style.color, opacity: style.opacity, outline: style.outlineStyle === 'none' ? '' : `${style.outlineColor} ${style.outlineWidth}`, source };
+  }
   // What to add to the y and the height of a text or inline box of another font than the face's before comparing.
   function saveFit(job, item, font) {
     if (!job.options.rects || !font.probe) return;
@@ -1084,6 +1095,7 @@
     job.nodes.push({ id: item.id, parent, kind: 'replaced', natural: natural.map(value => Math.min(1000000, value)), style });
     job.kinds[item.id] = making.display === 'inline' ? 'atom' : 'block';
     saveRects(job, item);
+    savePaint(job, item);
   }
   function kindOf(item, making) {
     const { display, style } = making, out = !item.up || isOut(style.position) || style.float;
@@ -1111,6 +1123,7 @@
     job.nodes.push(node);
     job.kinds[item.id] = kindOf(item, making);
     if (!item.pseudo && !item.wrapper) saveRects(job, item);
+    savePaint(job, item);
     if (making.display === 'inline') saveFit(job, item, item);
     const widths = isTable(making.display) ? freezeTable(job, making) : null;
     if (isTable(making.display)) freezeRows(job, item);
@@ -1168,6 +1181,7 @@
     const info = { nodes: job.nodes.length, fonts: job.fonts.length, main: job.main.used['font-family'] + ' ' + job.mainSize,
       mainShare: job.characters ? job.main.count / job.characters : 1, url: String(job.doc.location || '') };
     const answer = { run, warnings: warningsOf(job), info };
+    if (job.options.paint) answer.paint = job.paint;
     return job.options.rects ? { ...answer, rects: job.rects, fit: job.fit, kinds: job.kinds } : answer;
   }
   // The clusters of a text, each with one advance.

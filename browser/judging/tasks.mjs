@@ -6,7 +6,7 @@ const isPage = name => /\.(html?|xhtml|xht)$/i.test(name);
 export const isAddress = text => /^https?:\/\//.test(text);
 
 // All pages of a folder, in the order of their names.
-function pagesIn(folder) {
+export function pagesIn(folder) {
   const entries = readdirSync(folder, { withFileTypes: true }).sort((a, b) => (a.name < b.name ? -1 : a.name > b.name ? 1 : 0));
   return entries.flatMap(entry => {
     const path = join(folder, entry.name);

@@ -2,7 +2,8 @@
 import { availableParallelism } from 'node:os';
 
 export const USAGE = `browser/judge_page PAGE.html .. [options]        judges pages, and all pages of folders
-browser/judge_page --reftest TEST.html REFERENCE.html [options]   says whether \`lay\` lays both out alike
+browser/judge_page --reftest TEST.html REFERENCE.html [--mismatch] [options]    says whether \`lay\` lays both out alike
+browser/judge_page --reftest TEST.html .. [options]               the same of tests that name their references, and of folders of them
 browser/judge_page --join LINES.jsonl .. [--out FOLDER]           puts the lines of several shards together
 
   --width W[,W ..]   the width of the page in px, or several (800)
@@ -32,7 +33,6 @@ function faultOf(options) {
   if (!['chromium', 'firefox'].includes(options.browser)) return '--browser takes chromium or firefox';
   const [place, count] = (options.shard || '1/1').split('/');
   if (!isWhole(count ?? '', 1, 1000000) || !isWhole(place, 1, +count)) return '--shard takes I/N, as 3/8';
-  if (options.reftest && options.files.length !== 2) return '--reftest takes a test and its reference';
   if (!options.files.length && !options.list && !options.help) return 'no page was named';
   return '';
 }

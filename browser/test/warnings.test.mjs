@@ -46,6 +46,8 @@ const PAGES = [
   ['button as a replaced element of its used size', '<p><button>one</button></p>'],
   ['svg as a replaced element of its used size', '<p><svg width=10 height=10></svg></p>'],
   ['fieldset has layout of its own', '<fieldset>one</fieldset>'],
+  ['fieldset has layout of its own (its legend frozen)', '<fieldset><legend>one</legend>two</fieldset>'],
+  ['narrowed beside a float (width frozen)', '<p style="float:left;width:9px;height:9px"></p><div style="overflow:hidden">one</div>'],
   ['ruby has layout of its own', '<p><ruby>one</ruby></p>'],
   ['generated content (its widths are sums of advances)', '<style>p::before{content:"> "}</style><p>one</p>'],
   ['generated content that is no text', '<style>ol{counter-reset:a}li{display:block}li::before{content:counter(a)}</style><ol><li>one</ol>'],
@@ -59,7 +61,7 @@ const PAGES = [
   ['right to left text', '<p>\u05d0\u05d1</p>'],
   ['CJK text', '<p>\u65e5\u672c</p>'],
   ['br with clear (clear left out)', '<p>one<br style="clear:both">two</p>'],
-  ['absolute box at its static position', '<p>one</p><p style="position:absolute;top:0">two</p>'],
+  ['absolute box at its static position (frozen)', '<p>one</p><p style="position:absolute;top:0">two</p>'],
   ['aspect-ratio', '<p style="width:100px;aspect-ratio:2">one</p>'],
   ['shadow tree (flattened)', '<div><template shadowrootmode=open><p>one</p></template></div>'],
 ];

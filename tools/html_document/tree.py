@@ -15,6 +15,8 @@ ENDS = {
 }
 WALLS = {'table', 'td', 'th', 'caption', 'button', 'html', 'body'}
 RAW = {'script', 'style'}
+# The line end behind their start tag is no part of their text.
+SKIPS_A_LINE = {'pre', 'textarea', 'listing'}
 
 
 class Element:
@@ -126,6 +128,10 @@ class Builder(HTMLParser):
         if self.body is None and self.open[-1].name not in RAW | {'title', 'noframes', 'template'}:
             self.need_body()
         kids = self.open[-1].kids
+        if self.open[-1].name in SKIPS_A_LINE and not kids:
+            data = data[1:] if data.startswith('\n') else data[2:] if data.startswith('\r\n') else data
+        if not data:
+            return
         if kids and isinstance(kids[-1], str):
             kids[-1] += data
         else:
