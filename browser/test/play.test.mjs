@@ -117,20 +117,27 @@ test('what takes longer than the limit is ended, and the next call is as before'
   assert.match(await told('status'), /^lay: 41 nodes/);
 });
 
+// Notes the longest time between two ticks of a timer, in milliseconds, from now on.
+const watch = () => page.evaluate(`(window.gap = 0, window.ticked = performance.now(), window.ticks ??= setInterval(() => {
+  const now = performance.now();
+  gap = Math.max(gap, now - ticked);
+  ticked = now;
+}, 5), 0)`);
+
 test('16,000 nodes are laid out while one types, and the page is never frozen', async () => {
   await put(sections(4000));
-  await page.evaluate(`(window.gap = 0, window.ticked = performance.now(), window.ticks = setInterval(() => {
-    const now = performance.now();
-    gap = Math.max(gap, now - ticked);
-    ticked = now;
-  }, 5), layPlay.editor.place.focus(), getSelection().collapse(layPlay.editor.place.firstChild.firstChild, 1), 0)`);
+  await watch();
+  await pause(1500);
+  const idle = await page.evaluate('gap');                                      // a busy machine has gaps of its own
+  await page.evaluate(`(layPlay.editor.place.focus(), getSelection().collapse(layPlay.editor.place.firstChild.firstChild, 1), 0)`);
+  await watch();
   const turn = await page.evaluate('layPlay.state.turn');
   for (let i = 0; i < 30; i++) { await page.send('Input.insertText', { text: ' ' }); await pause(60); }
   await until(`layPlay.state.turn > ${turn} && (${isDone})`);
   const gap = await page.evaluate('(clearInterval(ticks), gap)');
-  console.log(`# the longest time without an answer to a timer: ${Math.round(gap)} ms`);
+  console.log(`# the longest time without an answer to a timer: ${Math.round(gap)} ms, and ${Math.round(idle)} ms where nothing is done`);
   assert.match(await told('status'), /^lay: 16,001 nodes/);
-  assert.ok(gap < 1500, `${gap} ms`);
+  assert.ok(gap < 400 + 30 * idle, `${gap} ms, ${idle} ms where nothing is done`);
 });
 
 // Chooses the bookmark on a page, and waits until its box says something; the test opens the closed shadow tree in which it stands.
