@@ -81,6 +81,28 @@ test('pointing at a box tells its box model', async () => {
   assert.match(words, /200 × 100/);
 });
 
+test('a great text is pasted where the cursor is, and over what is selected', async () => {
+  const lines = from => Array.from({ length: 700 }, (_, i) => `<p>line ${from + i} of what is pasted, as long as this</p>`).join('\n');
+  const paste = text => page.evaluate(`(() => {
+    const clipboardData = new DataTransfer();
+    clipboardData.setData('text/plain', ${JSON.stringify(text)});
+    layPlay.editor.place.dispatchEvent(new ClipboardEvent('paste', { clipboardData, bubbles: true, cancelable: true }));
+    return layPlay.editor.value;
+  })()`);
+  const first = lines(0), second = lines(5000);
+  await put('one\ntwo\nthree');
+  await page.evaluate(`(layPlay.editor.place.focus(), getSelection().collapse(layPlay.editor.place.firstChild.firstChild, 5), 0)`);
+  assert.equal(await paste(first), `one\nt${first}wo\nthree`);
+  // from the third block of lines to the fifth
+  await page.evaluate(`(() => { const blocks = layPlay.editor.place.childNodes;
+    getSelection().setBaseAndExtent(blocks[2].firstChild, 7, blocks[4].firstChild, 9); })()`);
+  const blocks = await page.evaluate(`[...layPlay.editor.place.childNodes].map(block => block.textContent)`);
+  const wanted = [...blocks.slice(0, 2), blocks[2].slice(0, 7)].join('\n') + second + [blocks[4].slice(9), ...blocks.slice(5)].join('\n');
+  assert.equal(await paste(second), wanted);
+  await page.evaluate(`getSelection().selectAllChildren(layPlay.editor.place)`);
+  assert.equal(await paste(first), first);
+});
+
 test('an address holds the document', async () => {
   const text = '<p>ä “quoted” & <b>bold</b></p>\n';
   await put(text);
