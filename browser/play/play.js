@@ -128,8 +128,8 @@
     drawing.clear();
     element('versions').hidden = true;
     showVerdict();
-    element('legend').innerHTML = '';
-    element('info').innerHTML = Info.ofRefusal(Refusals.explain(state.refusal, state.run));
+    element('legend').innerHTML = element('info').innerHTML = '';
+    element('layer').innerHTML = Info.ofRefusal(Refusals.explain(state.refusal, state.run));
   }
   function summary() {
     const count = state.pieces.length ? `<p>${Told.counted(state.pieces.length, 'piece')}. Point at one, or click to keep it.</p>` : '';

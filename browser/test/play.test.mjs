@@ -57,7 +57,7 @@ test('scripts of the page that is judged do not run, and nothing is fetched', as
 
 test('a refusal is told in words, and names the node', async () => {
   await put('{ "viewport": [100, 100], "nodes": [{ "id": 1, "parent": 0, "kind": "element", "style": { "width": "10" } }] }');
-  const words = await told('info');
+  const words = await told('layer');
   assert.match(words, /refused I6 0 V2/);
   assert.match(words, /id 1/);
   assert.match(await told('status'), /refuses/);
