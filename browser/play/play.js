@@ -188,6 +188,7 @@
     element('mode').onchange = ({ target }) => { document.documentElement.dataset.mode = target.value; };
     element('link').onclick = copyLink;
     element('about').ontoggle = makeBookmark;
+    element('bookmark').onclick = event => { event.preventDefault(); say('drag this link to the bookmarks bar'); };
     element('unproved').onclick = () => { element('about').open = true; element('about').scrollIntoView(); };
   }
   function listenToPicture() {
