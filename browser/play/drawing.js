@@ -5,7 +5,7 @@ class Drawing {
 
   // pane: what scrolls; layer: what the picture stands in; frames: what stands under it
   constructor(pane, layer, frames) {
-    Object.assign(this, { pane, layer, frames, tree: null, scale: 1, drawn: [], from: 0, to: 0, origin: [0, 0] });
+    Object.assign(this, { pane, layer, frames, tree: null, scale: 1, drawn: [], from: 0, to: 0, left: 0, origin: [0, 0] });
   }
   get room() { return Math.max(100, this.pane.clientWidth - 8); }
 
@@ -16,7 +16,7 @@ class Drawing {
     this.draw();
   }
   clear() {
-    this.tree = null;
+    Object.assign(this, { tree: null, left: 0 });
     this.layer.innerHTML = '';
   }
   // A page that is wider than the room for it is drawn smaller.

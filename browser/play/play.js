@@ -100,7 +100,8 @@
     tell(null);
   }
   function draw() {
-    const { run, nodes, pieces, changes, compared, hidden } = state, view = element('shown').value, over = Boolean(compared) && view !== 'lay';
+    const { run, nodes, pieces, changes, compared, hidden } = state, view = element('shown').value;
+    const over = Boolean(compared) && view !== 'lay';
     if (!run || !pieces.length) { drawing.clear(); return; }
     document.body.classList.toggle('over', over);
     document.body.classList.toggle('only-browser', over && view === 'browser');
@@ -127,12 +128,13 @@
     drawing.clear();
     element('versions').hidden = true;
     showVerdict();
-    element('legend').innerHTML = '';
-    element('info').innerHTML = Info.ofRefusal(Refusals.explain(state.refusal, state.run));
+    element('legend').innerHTML = element('info').innerHTML = '';
+    element('layer').innerHTML = Info.ofRefusal(Refusals.explain(state.refusal, state.run));
   }
   function summary() {
     const count = state.pieces.length ? `<p>${Told.counted(state.pieces.length, 'piece')}. Point at one, or click to keep it.</p>` : '';
-    return state.changes ? count + Info.ofChanges(state.changes) : count;
+    const left = drawing.left ? `<p>${Told.counted(drawing.left, 'piece')} of what is seen here aren't drawn: there are too many.</p>` : '';
+    return count + left + (state.changes ? Info.ofChanges(state.changes) : '');
   }
   const pieceOf = node => state.pieces.find(piece => piece.node === node && piece.word !== 'line');
   // Tells of a node, or of one of its pieces; null tells of the whole.
@@ -186,6 +188,8 @@
     element('mode').onchange = ({ target }) => { document.documentElement.dataset.mode = target.value; };
     element('link').onclick = copyLink;
     element('about').ontoggle = makeBookmark;
+    element('bookmark').onclick = event => { event.preventDefault(); say('drag this link to the bookmarks bar'); };
+    element('unproved').onclick = () => { element('about').open = true; element('about').scrollIntoView(); };
   }
   function listenToPicture() {
     const layer = element('layer'), pane = element('picture');

@@ -45,8 +45,8 @@ const Told = (() => {
   function verdictText({ counts }) {
     const { blocks, texts } = Comparison.sums(counts);
     const within = blocks.within > blocks.exact ? `; ${blocks.within} blocks do within their parents` : '';
-    return `${blocks.exact} of ${counted(blocks.all, 'block')} and ${texts.exact} of ${counted(texts.all, 'text')} stand where lay has them` +
-      within + '.';
+    const whole = `${blocks.exact} of ${counted(blocks.all, 'block')} and ${texts.exact} of ${counted(texts.all, 'text')}`;
+    return `${whole} stand where lay has them${within}.`;
   }
   function timesText(page, answer, nodes) {
     const measured = page ? `${counted(page.nodes, 'element')} measured in ${Math.round(page.milliseconds)} ms; ` : '';

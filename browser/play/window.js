@@ -1,7 +1,7 @@
 // The pieces that are drawn: of a great tree those near what is seen alone, so that drawing takes no longer than for a small one.
 const Window = (() => {
   'use strict';
-  const ALL = 1500;                                                             // up to so many pieces are drawn at once
+  const ALL = 1500, MOST = 8000;                                                // so many pieces are drawn in any case, and at most
   const ORDER = { text: 0, box: 1, line: 2 };
   const meets = (piece, top, bottom) => piece.y <= bottom && piece.y + piece.height >= top;
 
@@ -14,12 +14,12 @@ const Window = (() => {
     }
     return Object.assign(extent, { width: right - extent.x, height: bottom - extent.y });
   }
-  // The pieces to draw where the part of the page from `top` to `bottom` is seen, and from where to where they are all there. The last one
-  // is as large as the whole tree and of the kind `extent`, which is hidden: so a picture of them is as large as one of all.
+  // The pieces to draw where the part of the page from `top` to `bottom` is seen, from where to where they are, and how many are left out.
+  // The last one is as large as the whole tree and of the kind `extent`, which is hidden: so a picture of them is as large as one of all.
   function near(pieces, extent, top, bottom) {
-    if (pieces.length <= ALL) return { drawn: pieces.concat(extent), from: -Infinity, to: Infinity };
-    const more = bottom - top, from = top - more, to = bottom + more;
-    return { drawn: pieces.filter(piece => meets(piece, from, to)).slice(0, 4 * ALL).concat(extent), from, to };
+    if (pieces.length <= ALL) return { drawn: pieces.concat(extent), from: -Infinity, to: Infinity, left: 0 };
+    const more = bottom - top, from = top - more, to = bottom + more, found = pieces.filter(piece => meets(piece, from, to));
+    return { drawn: found.slice(0, MOST).concat(extent), from, to, left: Math.max(0, found.length - MOST) };
   }
   // The innermost piece at a point: the smallest of those that hold it, texts before boxes and lines last.
   function at(pieces, x, y, hidden) {

@@ -1,7 +1,9 @@
 #!/usr/bin/env node
 // LAY=program node module_cases.mjs [--firefox] [DOCUMENT.json ..]
 // Lays the documents of all cases and examples out by the module in a browser and by the program, and compares statuses and bytes: of
-// `scratch`, of `hit` at a point, and of `check` of the report that the module's `run` writes. Status 1 where any differs.
+// `scratch`, of `hit` at a point, of `check` of a document with its layout, and of `check` of the report that the module's `run` writes.
+// Status 1 where any differs.
+import './help.mjs';
 import { spawnSync } from 'node:child_process';
 import { readdirSync, readFileSync } from 'node:fs';
 import { relative } from 'node:path';

@@ -1,6 +1,7 @@
 #!/usr/bin/env node
 // node play.mjs PICTURE.png [--width 1400] [--height 900] [--mode dark] [--example 0] [--document FILE]
 // What play.html shows, as a picture.
+import './help.mjs';
 import { readFileSync, writeFileSync } from 'node:fs';
 import { Chromium, pause } from './chromium.mjs';
 

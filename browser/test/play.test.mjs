@@ -57,7 +57,7 @@ test('scripts of the page that is judged do not run, and nothing is fetched', as
 
 test('a refusal is told in words, and names the node', async () => {
   await put('{ "viewport": [100, 100], "nodes": [{ "id": 1, "parent": 0, "kind": "element", "style": { "width": "10" } }] }');
-  const words = await told('info');
+  const words = await told('layer');
   assert.match(words, /refused I6 0 V2/);
   assert.match(words, /id 1/);
   assert.match(await told('status'), /refuses/);
@@ -79,6 +79,28 @@ test('pointing at a box tells its box model', async () => {
   const words = (await told('info')).replace(/\s+/g, ' ');
   assert.match(words, /x 20, y 20, 230 × 130 px/);
   assert.match(words, /200 × 100/);
+});
+
+test('a great text is pasted where the cursor is, and over what is selected', async () => {
+  const lines = from => Array.from({ length: 700 }, (_, i) => `<p>line ${from + i} of what is pasted, as long as this</p>`).join('\n');
+  const paste = text => page.evaluate(`(() => {
+    const clipboardData = new DataTransfer();
+    clipboardData.setData('text/plain', ${JSON.stringify(text)});
+    layPlay.editor.place.dispatchEvent(new ClipboardEvent('paste', { clipboardData, bubbles: true, cancelable: true }));
+    return layPlay.editor.value;
+  })()`);
+  const first = lines(0), second = lines(5000);
+  await put('one\ntwo\nthree');
+  await page.evaluate(`(layPlay.editor.place.focus(), getSelection().collapse(layPlay.editor.place.firstChild.firstChild, 5), 0)`);
+  assert.equal(await paste(first), `one\nt${first}wo\nthree`);
+  // from the third block of lines to the fifth
+  await page.evaluate(`(() => { const blocks = layPlay.editor.place.childNodes;
+    getSelection().setBaseAndExtent(blocks[2].firstChild, 7, blocks[4].firstChild, 9); })()`);
+  const blocks = await page.evaluate(`[...layPlay.editor.place.childNodes].map(block => block.textContent)`);
+  const wanted = [...blocks.slice(0, 2), blocks[2].slice(0, 7)].join('\n') + second + [blocks[4].slice(9), ...blocks.slice(5)].join('\n');
+  assert.equal(await paste(second), wanted);
+  await page.evaluate(`getSelection().selectAllChildren(layPlay.editor.place)`);
+  assert.equal(await paste(first), first);
 });
 
 test('an address holds the document', async () => {
@@ -117,24 +139,32 @@ test('what takes longer than the limit is ended, and the next call is as before'
   assert.match(await told('status'), /^lay: 41 nodes/);
 });
 
+// Notes the longest time between two ticks of a timer, in milliseconds, from now on.
+const watch = () => page.evaluate(`(window.gap = 0, window.ticked = performance.now(), window.ticks ??= setInterval(() => {
+  const now = performance.now();
+  gap = Math.max(gap, now - ticked);
+  ticked = now;
+}, 5), 0)`);
+
 test('16,000 nodes are laid out while one types, and the page is never frozen', async () => {
   await put(sections(4000));
-  await page.evaluate(`(window.gap = 0, window.ticked = performance.now(), window.ticks = setInterval(() => {
-    const now = performance.now();
-    gap = Math.max(gap, now - ticked);
-    ticked = now;
-  }, 5), layPlay.editor.place.focus(), getSelection().collapse(layPlay.editor.place.firstChild.firstChild, 1), 0)`);
+  await watch();
+  await pause(1500);
+  const idle = await page.evaluate('gap');                                      // a busy machine has gaps of its own
+  await page.evaluate(`(layPlay.editor.place.focus(), getSelection().collapse(layPlay.editor.place.firstChild.firstChild, 1), 0)`);
+  await watch();
   const turn = await page.evaluate('layPlay.state.turn');
   for (let i = 0; i < 30; i++) { await page.send('Input.insertText', { text: ' ' }); await pause(60); }
   await until(`layPlay.state.turn > ${turn} && (${isDone})`);
   const gap = await page.evaluate('(clearInterval(ticks), gap)');
-  console.log(`# the longest time without an answer to a timer: ${Math.round(gap)} ms`);
+  console.log(`# the longest time without an answer to a timer: ${Math.round(gap)} ms, and ${Math.round(idle)} ms where nothing is done`);
   assert.match(await told('status'), /^lay: 16,001 nodes/);
-  assert.ok(gap < 1500, `${gap} ms`);
+  assert.ok(gap < 400 + 30 * idle, `${gap} ms, ${idle} ms where nothing is done`);
 });
 
 // Chooses the bookmark on a page, and waits until its box says something; the test opens the closed shadow tree in which it stands.
-async function chooseBookmark(address, words) {
+// Where the page has a policy that forbids scripts, the test runs it as a console would.
+async function chooseBookmark(address, words, isForbidden = false) {
   await page.evaluate(`document.getElementById('about').open = true`);
   await until(`document.getElementById('bookmark').href.startsWith('javascript:')`);
   const href = await page.evaluate(`document.getElementById('bookmark').href`);
@@ -144,7 +174,8 @@ async function chooseBookmark(address, words) {
   const before = await tab.evaluate('document.body.outerHTML');
   await tab.evaluate(`(() => { const attach = Element.prototype.attachShadow;
     Element.prototype.attachShadow = function () { return window.opened = attach.call(this, { mode: 'open' }); }; })()`);
-  await tab.evaluate(`(() => { ${decodeURIComponent(href.slice('javascript:'.length))} })()`);
+  if (isForbidden) await tab.evaluate(`(() => { ${decodeURIComponent(href.slice('javascript:'.length))} })()`);
+  else await tab.send('Page.navigate', { url: href });
   for (let i = 0; i < 600 && !words.test(await tab.evaluate(box)); i++) await pause(50);
   assert.equal(await tab.evaluate('document.body.outerHTML'), before, 'the page is as it was');
   return { tab, text: await tab.evaluate(box) };
@@ -161,7 +192,7 @@ test('the bookmark judges a page over the page itself', async () => {
 
 test('on a page that forbids WebAssembly the bookmark offers the document', async () => {
   const html = '<!doctype html><meta http-equiv="Content-Security-Policy" content="script-src \'self\'"><p>one</p>';
-  const { tab, text } = await chooseBookmark('data:text/html,' + encodeURIComponent(html), /page\.run\.json/);
+  const { tab, text } = await chooseBookmark('data:text/html,' + encodeURIComponent(html), /page\.run\.json/, true);
   assert.match(text, /doesn't let lay run/);
   await tab.close();
 });
