@@ -1,7 +1,9 @@
 pub mod Keys
+pub mod SpecificityNumbers
 pub mod Numbers
 pub mod Taking
 pub mod Looking
+pub mod Lists
 pub mod Restyling
 pub mod OneStyle
 pub mod Declaring

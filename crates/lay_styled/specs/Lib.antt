@@ -1,4 +1,5 @@
 pub mod Weights
+pub mod SpecificityNumbers
 pub mod Winners
 pub mod Index
 pub mod Cascade
