@@ -1,4 +1,5 @@
 pub mod Climbing
 pub mod Leading
+pub mod Columns
 pub mod Standing
 pub mod Adjacent

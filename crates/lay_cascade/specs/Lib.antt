@@ -3,4 +3,5 @@ pub mod Siblings
 pub mod LastChildren
 pub mod Matching
 pub mod Rising
+pub mod Columns
 pub mod Specificity

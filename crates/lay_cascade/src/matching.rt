@@ -39,7 +39,7 @@ fn adjacent_to(adjacent: &[Option<usize>], place: usize) -> Option<usize>
 }
 
 /// The one node to which the node at a place stands as a joint says. There may be many that it is a descendant of.
-fn before(named: Named<'_>, joint: Joint, place: usize) -> Option<usize>
+pub(crate) fn before(named: Named<'_>, joint: Joint, place: usize) -> Option<usize>
     requires named { IsNamed named.nodes.now named.names.now named.adjacent.now }
     requires place { place < length named.nodes.now }
     requires one { joint ≢ Joint.Descendant }
@@ -140,7 +140,7 @@ fn all_before(
     }
 }
 
-fn step_at(steps: &[Step], k: usize) -> &Step
+pub(crate) fn step_at(steps: &[Step], k: usize) -> &Step
     requires { k < length steps.now }
     ensures { result.now ≡ slice_index_or steps.now k result.now }
 {

@@ -4,6 +4,7 @@ pub mod Numbers
 pub mod Taking
 pub mod Looking
 pub mod Lists
+pub mod Told
 pub mod Restyling
 pub mod OneStyle
 pub mod Declaring

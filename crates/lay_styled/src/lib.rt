@@ -7,6 +7,7 @@
 #![tactic(auto)]
 
 mod candidates;
+mod columns;
 mod entry;
 mod laws;
 mod nodes;

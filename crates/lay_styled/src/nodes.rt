@@ -1,31 +1,35 @@
 //! What a node takes of a sheet.
 
-ghost use Rattle.std.specs.Prelude.{ℕ, ◌≡◌, ◌<◌, ◌++◌, ◌∷◌, [], false, Some, List, IfOk, OnOk, length, slice_index_or};
+ghost use Rattle.std.specs.Prelude.{ℕ, Bool, ◌≡◌, ◌<◌, ◌++◌, ◌∷◌, [], false, Some, List, IfOk, OnOk, length, slice_index_or};
 ghost use Rattle.lay_doc.specs.Document.{is_text_at};
 ghost use Rattle.std.specs.List.{slice_get, Contains};
 ghost use Rattle.lay_sheet.specs.declared.selector.Step.{Step as StepValue};
+ghost use Rattle.lay_cascade.specs.Matching.{IsMatched, Says};
 ghost use Rattle.lay_cascade.specs.Rising.{IsNamed};
 ghost use Rattle.lay_cascade.specs.Specificity.{specificity_of};
 ghost use Rattle.lay_styled.specs.declared.entry.Entry.{Entry as EntryValue};
 ghost use Rattle.lay_styled.specs.Index.{of_lists, of_classes, AreListsOf, IsIndexed};
+ghost use Rattle.lay_styled.specs.Told.{AreColumns};
 ghost use Rattle.lay_styled.specs.Cascade.{AreWinners};
 ghost use Rattle.lay_styled.specs.Seen.{AreWinnersOf};
 
 use crate::candidates::{Candidate, no_winners, take_all};
+use crate::columns::{ColumnList, told};
 use crate::entry::Entry;
 use crate::selector_index::{SelectorIndex, list_of, rule_at, steps_at};
 use lay_cascade::{Named, Specificity, is_matched, specificity_of};
 use lay_names::Names;
-use lay_sheet::Rule;
+use lay_sheet::{Rule, Step};
 use lay_units::{NoMemory, Text};
 use std::alloc::Global;
 
-/// A document's nodes with their names, and a sheet with its selectors by names.
+/// A document's nodes with their names, and a sheet with its selectors by names and with what is told of the long ones.
 #[derive(Clone, Copy)]
 pub(crate) struct Cascade<'a> {
     pub named: Named<'a>,
     pub rules: &'a [Rule],
     pub index: &'a SelectorIndex,
+    pub columns: &'a [ColumnList],
 }
 
 /// The specificity of a rule set's selector at a place.
@@ -34,6 +38,25 @@ fn specificity_at(rule: &Rule, s: usize) -> Specificity
     ensures { (selector : List StepValue) → slice_get rule.now.selectors s ≡ Some selector → result ≡ specificity_of selector }
 {
     specificity_of(&rule.selectors()[s])
+}
+
+/// Whether a selector, by its steps, matches the node at a place, of which something may be told.
+fn matches_at(
+    alloc: Global,
+    named: Named<'_>,
+    k: usize,
+    steps: &[Step],
+    told: Option<bool>,
+) -> Result<bool, NoMemory>
+    requires named { IsNamed named.nodes.now named.names.now named.adjacent.now }
+    requires place { k < length named.nodes.now }
+    requires told { (b : Bool) → told ≡ Some b → Says b (IsMatched named.nodes.now named.names.now steps.now k) }
+    ensures { IfOk result (λ b. Says b (IsMatched named.entry.nodes.now named.entry.names.now steps.now k)) }
+{
+    match told {
+        Some(is_matched) => Ok(is_matched),
+        None => is_matched(alloc, named, k, steps),
+    }
 }
 
 /// Takes the declarations of a selector's rule set, where the selector matches the node at a place.
@@ -45,6 +68,7 @@ fn take_entry(
     winners: &mut Vec<Option<Candidate>>,
 ) -> Result<(), NoMemory>
     requires named { IsNamed cascade.named.nodes.now cascade.named.names.now cascade.named.adjacent.now }
+    requires told { AreColumns cascade.rules.now cascade.named.nodes.now cascade.named.names.now cascade.columns.now }
     requires place { k < length cascade.named.nodes.now }
     requires no_text { is_text_at cascade.named.nodes.now k ≡ false }
     requires count { length winners.old.items ≡ 46 }
@@ -63,7 +87,8 @@ fn take_entry(
         return Ok(());
     }
     let steps = steps_at(rule, entry.selector);
-    if is_matched(alloc, cascade.named, k, steps)? {
+    let told = told(cascade.columns, entry, k);
+    if matches_at(alloc, cascade.named, k, steps, told)? {
         take_all(
             winners,
             specificity_at(rule, entry.selector),
@@ -90,6 +115,7 @@ fn take_entries(
     winners: &mut Vec<Option<Candidate>>,
 ) -> Result<(), NoMemory>
     requires named { IsNamed cascade.named.nodes.now cascade.named.names.now cascade.named.adjacent.now }
+    requires told { AreColumns cascade.rules.now cascade.named.nodes.now cascade.named.names.now cascade.columns.now }
     requires place { k < length cascade.named.nodes.now }
     requires no_text { is_text_at cascade.named.nodes.now k ≡ false }
     requires count { length winners.old.items ≡ 46 }
@@ -142,6 +168,7 @@ fn take_lists(
     winners: &mut Vec<Option<Candidate>>,
 ) -> Result<(), NoMemory>
     requires named { IsNamed cascade.named.nodes.now cascade.named.names.now cascade.named.adjacent.now }
+    requires told { AreColumns cascade.rules.now cascade.named.nodes.now cascade.named.names.now cascade.columns.now }
     requires place { k < length cascade.named.nodes.now }
     requires no_text { is_text_at cascade.named.nodes.now k ≡ false }
     requires index { length cascade.index.now.by_name.items ≡ 4096 }
@@ -170,6 +197,7 @@ fn take_classes(
     winners: &mut Vec<Option<Candidate>>,
 ) -> Result<(), NoMemory>
     requires named { IsNamed cascade.named.nodes.now cascade.named.names.now cascade.named.adjacent.now }
+    requires told { AreColumns cascade.rules.now cascade.named.nodes.now cascade.named.names.now cascade.columns.now }
     requires place { k < length cascade.named.nodes.now }
     requires no_text { is_text_at cascade.named.nodes.now k ≡ false }
     requires index { length cascade.index.now.by_name.items ≡ 4096 }
@@ -200,6 +228,7 @@ pub(crate) fn winners_at(
     k: usize,
 ) -> Result<Vec<Option<Candidate>>, NoMemory>
     requires named { IsNamed cascade.named.nodes.now cascade.named.names.now cascade.named.adjacent.now }
+    requires told { AreColumns cascade.rules.now cascade.named.nodes.now cascade.named.names.now cascade.columns.now }
     requires place { k < length cascade.named.nodes.now }
     requires no_text { is_text_at cascade.named.nodes.now k ≡ false }
     requires index { IsIndexed cascade.rules.now cascade.index.now.by_name.items cascade.index.now.rest }
