@@ -1,4 +1,5 @@
 pub mod NodeNames
+pub mod ClassSets
 pub mod Siblings
 pub mod LastChildren
 pub mod Matching

@@ -75,7 +75,8 @@ fn inside_for(
     joint: Joint,
 ) -> Result<Vec<bool>, NoMemory>
     requires { IsTree (parents_of nodes.now) }
-    ensures { IfOk result (λ v. joint ≡ Joint.Descendant → IsColumn (length nodes.now) (IsReached nodes.now ends.now Joint.Descendant) v.items) }
+    ensures { IfOk result
+        (λ v. joint ≡ Joint.Descendant → IsColumn (length nodes.now) (IsReached nodes.now ends.now Joint.Descendant) v.items) }
 {
     match joint {
         Joint::Descendant => inside_of(alloc, nodes, ends),
@@ -85,7 +86,7 @@ fn inside_for(
 
 /// Whether the node at a place stands to one that a column names as a joint says, which asks for one node alone.
 fn is_behind(named: Named<'_>, ends: &[bool], joint: Joint, k: usize) -> bool
-    requires named { IsNamed named.nodes.now named.names.now named.adjacent.now }
+    requires named { IsNamed named.nodes.now named.names.now named.adjacent.now named.sets.now }
     requires place { k < length named.nodes.now }
     requires one { joint ≢ Joint.Descendant }
     ensures { Says result (IsReached named.entry.nodes.now ends.now joint k) }
@@ -98,9 +99,10 @@ fn is_behind(named: Named<'_>, ends: &[bool], joint: Joint, k: usize) -> bool
 
 /// Whether the node at a place stands to one that a column names as a joint says.
 fn is_reached(named: Named<'_>, ends: &[bool], inside: &[bool], joint: Joint, k: usize) -> bool
-    requires named { IsNamed named.nodes.now named.names.now named.adjacent.now }
+    requires named { IsNamed named.nodes.now named.names.now named.adjacent.now named.sets.now }
     requires place { k < length named.nodes.now }
-    requires inside { joint ≡ Joint.Descendant → IsColumn (length named.nodes.now) (IsReached named.nodes.now ends.now Joint.Descendant) inside.now }
+    requires inside { joint ≡ Joint.Descendant →
+        IsColumn (length named.nodes.now) (IsReached named.nodes.now ends.now Joint.Descendant) inside.now }
     ensures { Says result (IsReached named.entry.nodes.now ends.now joint k) }
 {
     match joint {
@@ -111,7 +113,7 @@ fn is_reached(named: Named<'_>, ends: &[bool], inside: &[bool], joint: Joint, k:
 
 /// Whether a step comes to the node at a place from one that a column names.
 fn comes_next(named: Named<'_>, ends: &[bool], inside: &[bool], step: &Step, k: usize) -> bool
-    requires named { IsNamed named.nodes.now named.names.now named.adjacent.now }
+    requires named { IsNamed named.nodes.now named.names.now named.adjacent.now named.sets.now }
     requires place { k < length named.nodes.now }
     requires inside { step.now.joint ≡ Joint.Descendant →
         IsColumn (length named.nodes.now) (IsReached named.nodes.now ends.now Joint.Descendant) inside.now }
@@ -120,7 +122,7 @@ fn comes_next(named: Named<'_>, ends: &[bool], inside: &[bool], step: &Step, k: 
     if !is_reached(named, ends, inside, step.joint, k) {
         return false;
     }
-    fits_at(named.names, k, &step.simple)
+    fits_at(named.names, named.sets, k, &step.simple)
 }
 
 /// For each node whether a step comes to it from one that a column names.
@@ -130,7 +132,7 @@ fn next_ends(
     ends: &[bool],
     step: &Step,
 ) -> Result<Vec<bool>, NoMemory>
-    requires { IsNamed named.nodes.now named.names.now named.adjacent.now }
+    requires { IsNamed named.nodes.now named.names.now named.adjacent.now named.sets.now }
     ensures { IfOk result
         (λ v. IsColumn (length named.entry.nodes.now) (ComesNext named.entry.nodes.now named.entry.names.now ends.now step.now) v.items) }
 {
@@ -145,19 +147,19 @@ fn next_ends(
 
 /// For each node whether it fits a simple selector.
 fn all_fitting(alloc: Global, named: Named<'_>, simple: &Simple) -> Result<Vec<bool>, NoMemory>
-    requires { IsNamed named.nodes.now named.names.now named.adjacent.now }
+    requires { IsNamed named.nodes.now named.names.now named.adjacent.now named.sets.now }
     ensures { IfOk result (λ v. IsColumn (length named.entry.nodes.now) (λ k. fits_at named.entry.names.now k simple.now ≡ true) v.items) }
 {
     let mut fitting = Vec::new(alloc);
     for k in 0..named.nodes.len() {
-        fitting.push(fits_at(named.names, k, simple))?;
+        fitting.push(fits_at(named.names, named.sets, k, simple))?;
     }
     Ok(fitting)
 }
 
 /// For each node whether a selector, by its steps, matches it. Each step is asked about each node once, until the steps come to none.
 pub fn matched_nodes(alloc: Global, named: Named<'_>, steps: &[Step]) -> Result<Vec<bool>, NoMemory>
-    requires named { IsNamed named.nodes.now named.names.now named.adjacent.now }
+    requires named { IsNamed named.nodes.now named.names.now named.adjacent.now named.sets.now }
     requires some { 0 < length steps.now }
     ensures { IfOk result
         (λ v. IsColumn (length named.entry.nodes.now) (IsMatched named.entry.nodes.now named.entry.names.now steps.now) v.items) }

@@ -43,7 +43,8 @@ OpenStringEnds = (mark : ℕ) (inner : List ℕ) → is_mark mark ≡ true → l
     plain_text (mark ∷ inner) ≡ plain_text (mark ∷ inner ++ mark ∷ [])
 
 abbrev pub OpenCommentEnds : Type 0
-OpenCommentEnds = (inner : List ℕ) → has_comment_end inner ≡ false → plain_text (47 ∷ 42 ∷ inner) ≡ plain_text (47 ∷ 42 ∷ inner ++ 42 ∷ 47 ∷ [])
+OpenCommentEnds = (inner : List ℕ) → has_comment_end inner ≡ false →
+    plain_text (47 ∷ 42 ∷ inner) ≡ plain_text (47 ∷ 42 ∷ inner ++ 42 ∷ 47 ∷ [])
 
 -- where a text ends: outside of strings, comments and escapes, or in one
 abbrev pub place_after : Place → List ℕ → Place
@@ -53,7 +54,9 @@ place_after place (b ∷ bs) = place_after (place_behind place b bs) bs
 -- how many braces are open at the end of what is seen of a text, with so many before it; one that closes nothing doesn't count
 abbrev pub open_after : ℕ → List ℕ → ℕ
 open_after depth [] = depth
-open_after depth (b ∷ bs) = if b == 123 then open_after (depth + 1) bs else (if b == 125 then open_after (depth - 1) bs else open_after depth bs)
+open_after depth (b ∷ bs) =
+    if b == 123 then open_after (depth + 1) bs
+    else (if b == 125 then open_after (depth - 1) bs else open_after depth bs)
 
 -- a text whose last statement lacks its `}`
 pub record LacksBrace (text : List ℕ) : Type 0 where
@@ -66,7 +69,8 @@ OpenBlockEnds = (text : List ℕ) (rules : List RuleValue) → LacksBrace text �
 
 -- a text that ends with the `}` of its last statement, and a second one: both together are the sheet of the first, and then of the second
 abbrev pub SheetsFollow : Type 0
-SheetsFollow = (text second : List ℕ) (rules others : List RuleValue) → LacksBrace text → IsSheet (text ++ 125 ∷ []) rules → IsSheet second others →
+SheetsFollow = (text second : List ℕ) (rules others : List RuleValue) → LacksBrace text →
+    IsSheet (text ++ 125 ∷ []) rules → IsSheet second others →
     IsSheet ((text ++ 125 ∷ []) ++ second) (rules ++ others)
 
 -- a semicolon, or the brace that begins a block

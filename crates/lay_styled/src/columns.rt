@@ -46,7 +46,7 @@ impl Model for ColumnList {
 
 /// The column of a selector, which is empty for one of few steps.
 fn column_for(alloc: Global, named: Named<'_>, steps: &[Step]) -> Result<Column, NoMemory>
-    requires { IsNamed named.nodes.now named.names.now named.adjacent.now }
+    requires { IsNamed named.nodes.now named.names.now named.adjacent.now named.sets.now }
     ensures { IfOk result (IsTold named.entry.nodes.now named.entry.names.now steps.now) }
 {
     if steps.len() <= FEW {
@@ -60,7 +60,7 @@ fn column_for(alloc: Global, named: Named<'_>, steps: &[Step]) -> Result<Column,
 
 /// The columns of a rule set's selectors.
 fn columns_for(alloc: Global, named: Named<'_>, rule: &Rule) -> Result<ColumnList, NoMemory>
-    requires { IsNamed named.nodes.now named.names.now named.adjacent.now }
+    requires { IsNamed named.nodes.now named.names.now named.adjacent.now named.sets.now }
     ensures { IfOk result (AreTold named.entry.nodes.now named.entry.names.now rule.now.selectors) }
 {
     let mut items = Vec::new(alloc);
@@ -77,7 +77,7 @@ pub(crate) fn columns_of(
     named: Named<'_>,
     rules: &[Rule],
 ) -> Result<Vec<ColumnList>, NoMemory>
-    requires { IsNamed named.nodes.now named.names.now named.adjacent.now }
+    requires { IsNamed named.nodes.now named.names.now named.adjacent.now named.sets.now }
     ensures { IfOk result (λ v. AreColumns rules.now named.entry.nodes.now named.entry.names.now v.items) }
 {
     let mut columns = Vec::new(alloc);

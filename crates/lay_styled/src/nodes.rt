@@ -48,7 +48,7 @@ fn matches_at(
     steps: &[Step],
     told: Option<bool>,
 ) -> Result<bool, NoMemory>
-    requires named { IsNamed named.nodes.now named.names.now named.adjacent.now }
+    requires named { IsNamed named.nodes.now named.names.now named.adjacent.now named.sets.now }
     requires place { k < length named.nodes.now }
     requires told { (b : Bool) → told ≡ Some b → Says b (IsMatched named.nodes.now named.names.now steps.now k) }
     ensures { IfOk result (λ b. Says b (IsMatched named.entry.nodes.now named.entry.names.now steps.now k)) }
@@ -67,7 +67,7 @@ fn take_entry(
     entry: Entry,
     winners: &mut Vec<Option<Candidate>>,
 ) -> Result<(), NoMemory>
-    requires named { IsNamed cascade.named.nodes.now cascade.named.names.now cascade.named.adjacent.now }
+    requires named { IsNamed cascade.named.nodes.now cascade.named.names.now cascade.named.adjacent.now cascade.named.sets.now }
     requires told { AreColumns cascade.rules.now cascade.named.nodes.now cascade.named.names.now cascade.columns.now }
     requires place { k < length cascade.named.nodes.now }
     requires no_text { is_text_at cascade.named.nodes.now k ≡ false }
@@ -114,7 +114,7 @@ fn take_entries(
     entries: &[Entry],
     winners: &mut Vec<Option<Candidate>>,
 ) -> Result<(), NoMemory>
-    requires named { IsNamed cascade.named.nodes.now cascade.named.names.now cascade.named.adjacent.now }
+    requires named { IsNamed cascade.named.nodes.now cascade.named.names.now cascade.named.adjacent.now cascade.named.sets.now }
     requires told { AreColumns cascade.rules.now cascade.named.nodes.now cascade.named.names.now cascade.columns.now }
     requires place { k < length cascade.named.nodes.now }
     requires no_text { is_text_at cascade.named.nodes.now k ≡ false }
@@ -167,7 +167,7 @@ fn take_lists(
     numbers: &[usize],
     winners: &mut Vec<Option<Candidate>>,
 ) -> Result<(), NoMemory>
-    requires named { IsNamed cascade.named.nodes.now cascade.named.names.now cascade.named.adjacent.now }
+    requires named { IsNamed cascade.named.nodes.now cascade.named.names.now cascade.named.adjacent.now cascade.named.sets.now }
     requires told { AreColumns cascade.rules.now cascade.named.nodes.now cascade.named.names.now cascade.columns.now }
     requires place { k < length cascade.named.nodes.now }
     requires no_text { is_text_at cascade.named.nodes.now k ≡ false }
@@ -196,7 +196,7 @@ fn take_classes(
     classes: &[Text],
     winners: &mut Vec<Option<Candidate>>,
 ) -> Result<(), NoMemory>
-    requires named { IsNamed cascade.named.nodes.now cascade.named.names.now cascade.named.adjacent.now }
+    requires named { IsNamed cascade.named.nodes.now cascade.named.names.now cascade.named.adjacent.now cascade.named.sets.now }
     requires told { AreColumns cascade.rules.now cascade.named.nodes.now cascade.named.names.now cascade.columns.now }
     requires place { k < length cascade.named.nodes.now }
     requires no_text { is_text_at cascade.named.nodes.now k ≡ false }
@@ -227,7 +227,7 @@ pub(crate) fn winners_at(
     cascade: Cascade<'_>,
     k: usize,
 ) -> Result<Vec<Option<Candidate>>, NoMemory>
-    requires named { IsNamed cascade.named.nodes.now cascade.named.names.now cascade.named.adjacent.now }
+    requires named { IsNamed cascade.named.nodes.now cascade.named.names.now cascade.named.adjacent.now cascade.named.sets.now }
     requires told { AreColumns cascade.rules.now cascade.named.nodes.now cascade.named.names.now cascade.columns.now }
     requires place { k < length cascade.named.nodes.now }
     requires no_text { is_text_at cascade.named.nodes.now k ≡ false }
