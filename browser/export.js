@@ -403,7 +403,7 @@
 
   // ---- Where the browser breaks words -------------------------------------------------------------------------------------
 
-  const WORD = /[^ \t\r\n\f\u200b\u00a0]+/g;
+  const WORD = /[^ \t\r\n\f\u200b]+/g;
 
   // Texts of one line content together: a word can go on in the next text.
   function lineGroups(job) {
@@ -474,7 +474,7 @@
     const used = item.up.used, pre = /^(pre|nowrap)$/.test(used['white-space']);
     return { job, item, used, data: item.data, fontSize: item.up.fontSize, letter: lengthUnits(used['letter-spacing']),
       space: item.up.spaceWidth, breaks: pre ? null : item.breaks || new Set(), everywhere: /break-all/.test(used['word-break']), pre,
-      out: [], next: 0, top: null, left: 0, right: 0, written: 0, solid: false, last: null, end: null, isFresh: true };
+      out: [], next: 0, top: null, left: 0, right: 0, written: 0, solid: false, last: null, lastOfLine: null, end: null, isFresh: true };
   }
   function rectBetween(pen, from, to) {
     if (pen.item.made) return null;
@@ -490,7 +490,8 @@
   }
   function endText(pen) {
     const { job, item, end } = pen;
-    if (!end || pen.top === null) return;
+    if (!end || pen.top === null) { job.text = null; return; }
+    job.text = { item, solid: pen.solid, bottom: end.bottom, right: end.right };
     job.line = { group: item.group, top: end.top, bottom: end.bottom, right: end.right, over: pen.left * 64 + pen.written - end.right * 64 };
   }
   function toLineOf(pen, rect) {
@@ -504,7 +505,7 @@
     const ends = pen.next >= pen.data.length || /[\s\u00a0]/.test(pen.data[pen.next]);
     if (ends && !pen.item.made) while (advance > 0 && scaled(advance, pen.fontSize) > want + 0.05) advance--;
     const units = scaled(advance, pen.fontSize);
-    pen.last = { at: pen.out.length, units };
+    pen.last = pen.lastOfLine = { at: pen.out.length, units };
     pen.written += units + pen.letter;
     pen.out.push(codeOf(pen.job, advance));
     pen.solid = true;
@@ -513,11 +514,14 @@
   function writeBreakPlace(pen) { pen.out.push('\u200b'); pen.written += pen.letter; }
   // Whether a visible character of this text stands behind a space on its line.
   function goesOn(pen, rect) {
-    if (pen.next >= pen.data.length || /[\s\u00a0]/.test(pen.data[pen.next])) return false;
-    const next = rectBetween(pen, pen.next, pen.next + 1);
+    let at = pen.next;
+    while (!/^pre/.test(pen.used['white-space']) && /[ \t\r\n\f]/.test(pen.data[at] ?? '')) at++;
+    if (at >= pen.data.length || /[\s\u00a0]/.test(pen.data[at])) return false;
+    const next = rectBetween(pen, at, at + 1);
     return next !== null && next.width > 0 && Math.abs(next.top - rect.top) <= 0.5 && next.left >= rect.right - 0.5;
   }
   function writeSpace(pen, cluster, from) {
+    if (cluster === '\u00a0' && pen.solid && pen.breaks && pen.breaks.has(from)) writeBreakPlace(pen);
     pen.solid = cluster === '\u00a0';
     const rect = rectBetween(pen, from, pen.next);
     // Nothing breaks at a space of `pre`: it becomes a character of its width. So does a tab, which would count the face's spaces;
@@ -563,7 +567,7 @@
     // a new line goes on left of where the last character ended; a raised or transformed one doesn't
     const cut = breaks && rect && pen.top !== null && rect.top > pen.top + 0.5 && rect.left < pen.right - 0.5 &&
       !pen.item.up.turned && !breaks.has(from);
-    if (rect) pen.right = rect.right;
+    if (rect) { breakBetween(pen, rect); keepBreak(pen, rect, from); pen.right = rect.right; }
     if (cut && !pen.everywhere) warn(pen.job, 'word broken inside', at);
     if (breaks && (breaks.has(from) || pen.everywhere || cut)) writeBreakPlace(pen);
     if (pen.item.made) emit(pen, canvasAdvance(pen.job, pen.used, cluster) * pen.fontSize / 1000);
@@ -583,9 +587,37 @@
     if (last[1] < before[1] + 1) return;
     while (k > 0 && tail > 0.4) { k--; at -= clusters[k].length; tail -= canvasAdvance(job, used, clusters[k]) * size + letter; }
     if (at > 0 && Math.abs(tail) <= 1) (item.breaks || (item.breaks = new Set())).add(at);
+    const parts = item.group ? item.group.parts : [], place = parts.findIndex(([, other]) => other === item);
+    // where all of it stands on the last line, with its left edges, the text before it ends with a break
+    const start = float(used['padding-left']) + float(used['border-left-width']) + float(used['margin-left']);
+    if (at === 0 && tail > -1 && tail <= start + 1 && place > 0) parts[place - 1][1].breakAfter = true;
+  }
+  // A word that goes on in the next text may be broken between both, as by `overflow-wrap`: the text before ends with a break then.
+  function breakBetween(pen, rect) {
+    const { job, item } = pen, before = pen.isFresh && !pen.out.length && job.text;
+    if (!before || pen.item.made || before.item.group !== item.group || !before.solid || pen.pre || item.up.turned) return;
+    if (rect.top < before.bottom - 2 || rect.left >= before.right - 0.5 || before.item.out.endsWith('\u200b')) return;
+    before.item.out += '\u200b';
+    warn(job, 'word broken inside', item.up.element);
+  }
+  // A line that is full to less than 1 px is broken by kerning that is gone behind the break: where the word that begins a line would fit
+  // on the line before, the last character there is made so wide that it doesn't.
+  function keepBreak(pen, rect, from) {
+    const { job, item, end, lastOfLine } = pen, block = item.group && item.group.block;
+    if (pen.top === null || rect.top <= pen.top + 0.5 || !end || !lastOfLine || pen.pre || !block || !block.rect || pen.item.made) return;
+    if (!/^(left|start|justify|-webkit-auto)$/.test(pen.used['text-align'])) return;
+    let to = from + 1;
+    while (to < pen.data.length && !/[ \t\r\n\f\u200b]/.test(pen.data[to]) && !(pen.breaks && pen.breaks.has(to))) to++;
+    job.range.setStart(item.element, from); job.range.setEnd(item.element, to);
+    const rects = [...job.range.getClientRects()].filter(part => part.width > 0);
+    if (rects.length !== 1) return;
+    const edge = block.rect[0] + block.rect[2] - float(block.used['border-right-width']) - float(block.used['padding-right']) - job.scrollX - item.scrolled[0];
+    const space = pen.solid ? 0 : pen.space + pen.letter, left = Math.floor((edge - end.right - rects[0].width) * 64) - space;
+    if (left < 0 || left >= 64) return;
+    const advance = Math.ceil((lastOfLine.units + left + 3) * 1000 / pen.fontSize);
+    if (advance <= 10000) pen.out[lastOfLine.at] = codeOf(job, advance);
   }
   function rewriteText(job, item) {
-    if (item.made && item.up.pseudo) breakGenerated(job, item);
     const pen = startPen(job, item);
     for (const cluster of job.clusters(item.data)) {
       const from = pen.next;
@@ -599,6 +631,7 @@
   }
   function rewriteTexts(job) {
     findBreaks(job);
+    for (const item of job.items) if (item.kind === 'text' && item.made && item.up.pseudo) breakGenerated(job, item);
     for (const item of job.items) if (item.kind === 'text') item.out = rewriteText(job, item);
   }
 

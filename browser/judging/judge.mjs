@@ -23,7 +23,7 @@ function verdictOf(sum, refused) {
   if (refused) return 'refused';
   return ['blocks', 'texts'].every(kind => sum[kind].all === sum[kind].exact) ? 'whole' : 'differs';
 }
-// { result, answer, report, picture }: `result` is what is written as JSON.
+// { result, answer, report, pictures }: `result` is what is written as JSON.
 export async function judge(opener, task, wantsPicture) {
   const { tab, mode } = await opener.open(task);
   try {
@@ -35,7 +35,7 @@ export async function judge(opener, task, wantsPicture) {
       verdict: verdictOf(sum, refused), fault: refused ? report.trim() : '', nodes: answer.info.nodes, fonts: answer.info.fonts, milliseconds, unchanged,
       ...sum, differing: compared.off.length, differences, warnings: answer.warnings };
     const bottom = Math.max(0, ...Object.values(answer.rects).map(rects => Math.max(...rects.map(rect => rect[1] + rect[3])))) / 64;
-    const picture = wantsPicture(result) ? await opener.picture(tab, task.width, Math.max(bottom + 20, task.height)) : null;
-    return { result, answer, report, picture };
+    const pictures = wantsPicture(result) ? await opener.pictures(tab, task.width, task.height, bottom + 20) : [];
+    return { result, answer, report, pictures };
   } finally { await opener.shut(tab); }
 }

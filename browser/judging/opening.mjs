@@ -10,7 +10,10 @@ import { isAddress } from './tasks.mjs';
 // These run in the page.
 const QUIRKS = `document.compatMode !== 'CSS1Compat' || /(Transitional|Frameset)/.test(document.doctype && document.doctype.publicId)`;
 const SETTLED = `document.fonts && document.fonts.ready ? document.fonts.ready.then(() => 0) : 0`;
-const TALLEST = 16000;
+// A sum of where all elements are.
+const PLACES = `[...document.querySelectorAll('*')].reduce((sum, element) => { const rect = element.getBoundingClientRect();
+  return (sum * 31 + Math.round((rect.left + scrollX) * 64) + Math.round((rect.top + scrollY) * 64) * 7 + Math.round(rect.width * 64)) % 2147483647; }, 0)`;
+const TALLEST = 16000, MOST_TILES = 40;
 
 // Chromium with a tab a page, or Firefox with one window.
 export class Opener {
@@ -41,11 +44,20 @@ export class Opener {
     writeFileSync(copy, `<!doctype html><base href="${pathToFileURL(resolve(file)).href}">` + text, 'latin1');
     return pathToFileURL(copy).href;
   }
-  // The whole page as a PNG, up to a height that browsers paint.
-  async picture(tab, width, height) {
-    if (this.isFirefox) return Buffer.from((await tab.send('WebDriver:TakeScreenshot', { full: true })).value, 'base64');
-    const clip = { x: 0, y: 0, width, height: Math.min(TALLEST, Math.max(1, Math.ceil(height))), scale: 1 };
-    return Buffer.from((await tab.send('Page.captureScreenshot', { format: 'png', captureBeyondViewport: true, clip })).data, 'base64');
+  // The page as PNGs, [{ top, data }], up to a height that browsers paint: as one, where it looks the same in a window as high as it is,
+  // else by windows, to which it is scrolled.
+  async pictures(tab, width, height, bottom) {
+    if (this.isFirefox) return [{ top: 0, data: Buffer.from((await tab.send('WebDriver:TakeScreenshot', { full: true })).value, 'base64') }];
+    const whole = Math.min(TALLEST, Math.max(height, Math.ceil(bottom))), before = await tab.evaluate(PLACES);
+    await tab.resize(width, whole);
+    if (before === await tab.evaluate(PLACES)) return [{ top: 0, data: await tab.picture() }];
+    await tab.resize(width, height);
+    const tiles = [];
+    for (let top = 0; top < whole && tiles.length < MOST_TILES; top += height) {
+      const reached = await tab.evaluate(`(scrollTo({ top: ${top}, behavior: 'instant' }), scrollY)`);
+      tiles.push({ top: reached, data: await tab.picture() });
+    }
+    return tiles;
   }
   async shut(tab) { if (!this.isFirefox) await tab.close().catch(() => {}); }
   async close() { await this.browser.close(); rmSync(this.folder, { recursive: true, force: true }); }

@@ -36,13 +36,14 @@ async function judgeOne(browsers, options, task) {
     }
   }
 }
-function writeResults(folder, { result, answer, report, picture }) {
+function writeResults(folder, { result, answer, report, pictures }) {
   const file = ending => join(folder, result.name + ending);
-  writeFileSync(file('.png'), picture);
+  const named = pictures.map(({ top }, i) => ({ top, name: result.name + (i ? `-${i + 1}` : '') + '.png' }));
+  pictures.forEach(({ data }, i) => writeFileSync(join(folder, named[i].name), data));
   writeFileSync(file('.run.json'), JSON.stringify(answer.run));
   writeFileSync(file('.report.txt'), report);
   writeFileSync(file('.json'), JSON.stringify(result, null, 1) + '\n');
-  writeFileSync(file('.html'), resultPage(result, answer, report));
+  writeFileSync(file('.html'), resultPage(result, answer, report, named));
 }
 // Runs `work` of all tasks, `jobs` at a time.
 async function inTurns(jobs, tasks, work) {

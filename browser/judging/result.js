@@ -11,8 +11,7 @@ function draw() {
   }
   const bottom = Math.max(1, ...data.pieces.map(piece => piece[3] + piece[5])) / 64;
   stage.insertAdjacentHTML('beforeend', `<svg width="${data.width}" height="${bottom}">${parts.join('')}</svg>`);
-  const image = stage.querySelector('img');
-  image.style.minHeight = Math.min(bottom, 16000) + 'px';
+  stage.style.cssText = `width: ${data.width}px; height: ${bottom}px`;
 }
 function mark(node, scrolls) {
   for (const on of document.querySelectorAll('.on')) on.classList.remove('on');

@@ -42,7 +42,8 @@ function sentence({ verdict, fault, differing, differences, warnings }) {
   if (!differing) return `Everything stands where the browser has it, to 1/32 px.${frozen}`;
   return `${differing} ${differing === 1 ? 'piece differs' : 'pieces differ'}; ${differences.filter(({ innermost }) => innermost).length} of them hold no other that does.${frozen}`;
 }
-export function resultPage(result, answer, report) {
+// `pictures` are the files of the screenshot, each with where it begins.
+export function resultPage(result, answer, report, pictures) {
   const { name, page, width, browser, mode, verdict, differences, warnings } = result;
   return `<!doctype html>
 <html lang="en"><meta charset="utf-8"><meta name="viewport" content="width=device-width"><title>${escaped(name)}: ${verdict}</title>
@@ -53,7 +54,7 @@ export function resultPage(result, answer, report) {
 <label><input type="radio" name="show" value="lay"> lay</label></span>
 <label><input type="checkbox" id="all" checked> all boxes</label>
 <label>colours <select id="mode"><option value="">as the system</option><option>light</option><option>dark</option></select></label></header>
-<main><div id="stage"><img src="${escaped(name)}.png" alt="the page in the browser"></div></main>
+<main><div id="stage">${pictures.map(picture => `<img src="${escaped(picture.name)}" style="top:${picture.top}px" alt="the page in the browser">`).join('')}</div></main>
 <aside><p>${sentence(result)}</p>${counts(result)}
 <p><small>${escaped(page)}<br>${width} px, ${escaped(browser)}${mode ? ', ' + mode : ''}. Lengths in px. Red is lay's, orange the browser's.
 <a href="${escaped(name)}.run.json">document</a>, <a href="${escaped(name)}.report.txt">report</a>, <a href="${escaped(name)}.json">JSON</a>; drop the first two into browser/view.html.</small></p>
