@@ -26,16 +26,6 @@ def plain(name, text):
     return 'const %s = (() => {\n%s\nreturn { %s };\n})();\n' % (name, re.sub(r'^export ', '', text, flags=re.M), ', '.join(names))
 
 
-def rules():
-    """judging/rules.mjs, with the headings of docs/BROWSERS.md in it: a page reads no files."""
-    path, text = BROWSER.parent / 'docs' / 'BROWSERS.md', text_of('judging/rules.mjs')
-    lines = re.findall(r'^#{2,4} .*$', path.read_text(), re.M) if path.exists() else []
-    head, reading = r"^import .*\n|^const PAGE = .*\n", r'known \?\?= .*;'
-    assert len(re.findall(reading, text)) == 1, 'judging/rules.mjs reads its page otherwise'
-    known = 'known ??= headings(%s);' % json.dumps('\n'.join(lines))
-    return plain('Rules', re.sub(reading, lambda _: known, re.sub(head, '', text, flags=re.M)))
-
-
 def shortened(text):
     """JavaScript without indentation, empty lines and lines that are comments."""
     lines = (line.strip() for line in text.splitlines())
@@ -61,7 +51,7 @@ def parts():
     library, compared = text_of('wasm/lay.js'), plain('Comparison', text_of('test/compare.mjs')) + text_of('play/causes.js')
     return {
         'style': '\n'.join(map(text_of, STYLES)),
-        'scripts': '\n'.join([compared, rules(), *map(text_of, SCRIPTS)]),
+        'scripts': '\n'.join([compared, plain('Rules', text_of('judging/rules.mjs')), *map(text_of, SCRIPTS)]),
         'packed': base64.b64encode(MODULE.read_bytes()).decode(), 'exporter': shortened(text_of('export.js')),
         'frame': shortened(text_of('play/frame.js')),
         'worker': shortened(library + compared + text_of('play/worker.js')),
