@@ -49,7 +49,8 @@ class Chromium:
         ends = [moved(for_commands), moved(for_answers)]
         actions = [(os.POSIX_SPAWN_OPEN, wanted, os.devnull, os.O_RDWR, 0) for wanted in (0, 1, 2)]
         actions += [(os.POSIX_SPAWN_DUP2, end, wanted) for end, wanted in zip(ends, (3, 4))]
-        self.process = os.posix_spawn(path, [path, *FLAGS, f"--user-data-dir={self.folder}", "about:blank"], os.environ, file_actions=actions)
+        words = [path, *FLAGS, f"--user-data-dir={self.folder}", "about:blank"]
+        self.process = os.posix_spawn(path, words, os.environ, file_actions=actions)
         for end in ends:
             os.close(end)
         self.last, self.session, self.rest, self.seen = 0, None, b"", set()
