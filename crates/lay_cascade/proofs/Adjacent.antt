@@ -147,6 +147,9 @@ module _ (nodes : List Node) where
   length_parents : length (parents_of nodes) ≡ length nodes
   length_parents = length-map nodes (λ n. n.parent)
 
+  pub parent_before : (k : ℕ) → IsTree (parents_of nodes) → k < length nodes → 0 < k → parent k < k
+  parent_before k tree here some = tree.before k some (subst (λ z. k < z) (sym length_parents) here)
+
   pub parent_within : (k : ℕ) → IsTree (parents_of nodes) → k < length nodes → 0 < k → parent k < length nodes
   parent_within k tree here some = let h = tree.before k some (subst (λ z. k < z) (sym length_parents) here) in omega (arith, h, here)
 

@@ -153,11 +153,11 @@ before_first nodes names places found simple rising some was = record {
         by_place m w.0 w.1 (cases_lt 0 w.0) (subst (λ z. Stands nodes Descendant m z) (sym e) s)
 
 -- one more step is the first of those listed from the last on
-reversed_more : (steps : List Step) (i : ℕ) (step : Step) → i < length steps → step ≡ slice_index_or steps i step → reverse (take (i + 1) steps) ≡ step ∷ reverse (take i steps)
+pub reversed_more : (steps : List Step) (i : ℕ) (step : Step) → i < length steps → step ≡ slice_index_or steps i step → reverse (take (i + 1) steps) ≡ step ∷ reverse (take i steps)
 reversed_more steps i step h is =
     ap reverse (take_more steps i step h ∙ ap (λ z. take i steps ++ z ∷ []) (sym is)) ∙ reverse-append (take i steps) (step ∷ [])
 
-length_take : (steps : List Step) (i : ℕ) → i ≤ length steps → length (take i steps) ≡ i
+pub length_take : (steps : List Step) (i : ℕ) → i ≤ length steps → length (take i steps) ≡ i
 length_take [] zero h = refl
 length_take [] (suc i) h = absurd (omega (arith, h))
 length_take (s ∷ ss) zero h = refl
@@ -179,7 +179,7 @@ module _ (nodes : List Node) (names : List Names) where
       of_match step before m (first s-1 k-1 e) = e
       of_match step before m (next s-1 b-1 n k-1 w stands e) = e
 
-  step_back : (step : Step) (before : List Step) (m : ℕ) → 0 < length before → Matches nodes names (step ∷ before) m → (n : ℕ) × Matches nodes names before n × Stands nodes step.joint n m
+  pub step_back : (step : Step) (before : List Step) (m : ℕ) → 0 < length before → Matches nodes names (step ∷ before) m → (n : ℕ) × Matches nodes names before n × Stands nodes step.joint n m
   step_back step before m some (first s-1 k-1 e) = absurd (omega (arith, some))
   step_back step before m some (next s-1 b-1 n k-1 w stands e) = (n, w, stands)
 

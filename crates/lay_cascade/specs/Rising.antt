@@ -10,14 +10,17 @@ use Rattle.lay_sheet.specs.declared.selector.Joint.{Joint}
 use Rattle.lay_sheet.specs.declared.selector.Joint.TheVariants.{Descendant}
 use Rattle.lay_sheet.specs.declared.selector.Simple.{Simple}
 use Rattle.lay_cascade.specs.NodeNames.{fits_at}
+use Rattle.lay_cascade.specs.declared.class_sets.ClassSet.{ClassSet}
+use Rattle.lay_cascade.specs.ClassSets.{AreSets}
 use Rattle.lay_cascade.specs.Matching.{Stands}
 use Rattle.lay_cascade.specs.Siblings.{AreAdjacent}
 
--- the nodes of a tree have these names, and these siblings before them
-pub record IsNamed (nodes : List Node) (names : List Names) (adjacent : List (Option ℕ)) : Type 0 where
+-- the nodes of a tree have these names, these siblings before them, and these sets of classes
+pub record IsNamed (nodes : List Node) (names : List Names) (adjacent : List (Option ℕ)) (class_sets : List ClassSet) : Type 0 where
   pub tree : IsTree (parents_of nodes)
   pub count : length names ≡ length nodes
   pub siblings : AreAdjacent nodes adjacent
+  pub sets : AreSets names class_sets
 
 -- each is the place of one of n nodes
 abbrev pub AreWithin : ℕ → List ℕ → Type 0

@@ -1,14 +1,19 @@
 //! Which nodes the selectors of a sheet match, and how specific they are (CSS 2.2, chapter 5 and 6.4.3).
 //!
-//! The contract of `is_matched` cites `IsMatched` of `specs/Matching.antt`, a relation over ancestors and siblings;
-//! the sibling that counts is in `specs/Siblings.antt`, the names of nodes in `specs/NodeNames.antt`.
+//! The contracts of `is_matched` and `matched_nodes` cite `IsMatched` of `specs/Matching.antt`, a relation over ancestors and
+//! siblings. The first asks about one node, the second about all. The sibling that counts is in `specs/Siblings.antt`, the
+//! names of nodes in `specs/NodeNames.antt`.
 #![tactic(auto)]
 
+mod class_sets;
 mod counts;
+mod forward;
 mod matching;
 mod names;
 mod siblings;
 
+pub use class_sets::{ClassSet, sets_of};
 pub use counts::{Specificity, specificity_of};
+pub use forward::matched_nodes;
 pub use matching::{Named, is_matched};
 pub use siblings::adjacent_of;

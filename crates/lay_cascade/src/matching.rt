@@ -2,8 +2,10 @@
 
 ghost use Rattle.std.specs.Prelude.{◌≡◌, ◌≢◌, ◌<◌, ◌∷◌, ◌↔◌, ℕ, [], Some, None, IfOk, OnOk, length, slice_index, slice_index_or};
 ghost use Rattle.lay_cascade.specs.Matching.{Stands, IsMatched, Says};
+ghost use Rattle.lay_cascade.specs.ClassSets.{AreSets};
 ghost use Rattle.lay_cascade.specs.Rising.{IsNamed, AreWithin, IsRising, AreBefore, with_fitting};
 
+use crate::class_sets::ClassSet;
 use crate::names::fits_at;
 use lay_doc::{Node, parent_at};
 use lay_names::Names;
@@ -11,12 +13,13 @@ use lay_sheet::{Joint, Simple, Step};
 use lay_units::NoMemory;
 use std::alloc::Global;
 
-/// A document's nodes with what they are called, and the place of the sibling before each that isn't a text.
+/// A document's nodes with what they are called, the place of the sibling before each that isn't a text, and the sets of their classes.
 #[derive(Clone, Copy)]
 pub struct Named<'a> {
     pub nodes: &'a [Node],
     pub names: &'a [Names],
     pub adjacent: &'a [Option<usize>],
+    pub sets: &'a [ClassSet<'a>],
 }
 
 /// The parent of the node at a place; the root has none.
@@ -39,8 +42,8 @@ fn adjacent_to(adjacent: &[Option<usize>], place: usize) -> Option<usize>
 }
 
 /// The one node to which the node at a place stands as a joint says. There may be many that it is a descendant of.
-fn before(named: Named<'_>, joint: Joint, place: usize) -> Option<usize>
-    requires named { IsNamed named.nodes.now named.names.now named.adjacent.now }
+pub(crate) fn before(named: Named<'_>, joint: Joint, place: usize) -> Option<usize>
+    requires named { IsNamed named.nodes.now named.names.now named.adjacent.now named.sets.now }
     requires place { place < length named.nodes.now }
     requires one { joint ≢ Joint.Descendant }
     ensures { (m : ℕ) → (result ≡ Some m) ↔ Stands named.entry.nodes.now joint m place }
@@ -55,16 +58,17 @@ fn before(named: Named<'_>, joint: Joint, place: usize) -> Option<usize>
 
 /// Adds a node, where there is one that fits a simple selector.
 fn push_fitting(
-    names: &[Names],
+    named: Named<'_>,
     found: &mut Vec<usize>,
     place: Option<usize>,
     simple: &Simple,
 ) -> Result<(), NoMemory>
-    requires { (m : ℕ) → place ≡ Some m → m < length names.now }
-    ensures { OnOk result (found.new.items ≡ with_fitting names.now found.old.items place simple.now) }
+    requires sets { AreSets named.names.now named.sets.now }
+    requires place { (m : ℕ) → place ≡ Some m → m < length named.names.now }
+    ensures { OnOk result (found.new.items ≡ with_fitting named.entry.names.now found.old.items place simple.now) }
 {
     match place {
-        Some(m) if fits_at(names, m, simple) => found.push(m)?,
+        Some(m) if fits_at(named.names, named.sets, m, simple) => found.push(m)?,
         _ => {}
     }
     Ok(())
@@ -85,7 +89,7 @@ fn each_before(
     joint: Joint,
     simple: &Simple,
 ) -> Result<Vec<usize>, NoMemory>
-    requires named { IsNamed named.nodes.now named.names.now named.adjacent.now }
+    requires named { IsNamed named.nodes.now named.names.now named.adjacent.now named.sets.now }
     requires within { AreWithin (length named.nodes.now) places.now }
     requires rising { IsRising named.nodes.now places.now }
     requires one { joint ≢ Joint.Descendant }
@@ -94,7 +98,7 @@ fn each_before(
     let mut found = Vec::new(alloc);
     for k in 0..places.len() {
         let m = before(named, joint, place_at(places, k));
-        push_fitting(named.names, &mut found, m, simple)?;
+        push_fitting(named, &mut found, m, simple)?;
     }
     Ok(found)
 }
@@ -106,7 +110,7 @@ fn above(
     place: usize,
     simple: &Simple,
 ) -> Result<Vec<usize>, NoMemory>
-    requires named { IsNamed named.nodes.now named.names.now named.adjacent.now }
+    requires named { IsNamed named.nodes.now named.names.now named.adjacent.now named.sets.now }
     requires place { place < length named.nodes.now }
     ensures { IfOk result (λ v. AreBefore named.entry.nodes.now named.entry.names.now (place ∷ []) Joint.Descendant simple.now v.items) }
 {
@@ -114,7 +118,7 @@ fn above(
     let mut at = place;
     while at > 0 {
         at = parent_at(named.nodes, at);
-        push_fitting(named.names, &mut found, Some(at), simple)?;
+        push_fitting(named, &mut found, Some(at), simple)?;
     }
     Ok(found)
 }
@@ -128,7 +132,7 @@ fn all_before(
     joint: Joint,
     simple: &Simple,
 ) -> Result<Vec<usize>, NoMemory>
-    requires named { IsNamed named.nodes.now named.names.now named.adjacent.now }
+    requires named { IsNamed named.nodes.now named.names.now named.adjacent.now named.sets.now }
     requires within { AreWithin (length named.nodes.now) places.now }
     requires rising { IsRising named.nodes.now places.now }
     requires some { 0 < length places.now }
@@ -140,7 +144,7 @@ fn all_before(
     }
 }
 
-fn step_at(steps: &[Step], k: usize) -> &Step
+pub(crate) fn step_at(steps: &[Step], k: usize) -> &Step
     requires { k < length steps.now }
     ensures { result.now ≡ slice_index_or steps.now k result.now }
 {
@@ -155,7 +159,7 @@ pub fn is_matched(
     place: usize,
     steps: &[Step],
 ) -> Result<bool, NoMemory>
-    requires named { IsNamed named.nodes.now named.names.now named.adjacent.now }
+    requires named { IsNamed named.nodes.now named.names.now named.adjacent.now named.sets.now }
     requires place { place < length named.nodes.now }
     ensures { IfOk result (λ b. Says b (IsMatched named.entry.nodes.now named.entry.names.now steps.now place)) }
 {
@@ -164,7 +168,7 @@ pub fn is_matched(
     };
     let mut places = Vec::new(alloc);
     push_fitting(
-        named.names,
+        named,
         &mut places,
         Some(place),
         &step_at(steps, last).simple,

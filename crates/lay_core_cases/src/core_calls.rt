@@ -1,68 +1,193 @@
-//! The calls on a core, without what is promised of them: a case asks for the answers alone, and each function that has the promises at
-//! hand takes long to prove.
+//! The calls on a core, without what is promised of them: a case asks for the answers alone.
 
 ghost use Rattle.std.specs.Prelude.{◌≡◌, ◌<◌, ◌≤◌, []};
 
 use crate::keys::cell_key;
 use crate::said;
-use lay_case_reading::{Key, Said};
+use lay_case_reading::{Key, Said, ids};
 use lay_core::cell_work::{Claim, Layout};
 use lay_core::claim_lists::{ClaimList, Outcomes};
 use lay_core::{Answer, Core, Idle, Next, Tally};
 use lay_layout::cells::Done;
+use lay_layout::context::scratch;
+use lay_layout::doc::{Doc, NodeId};
 use lay_layout::edit_lists::{Edits, Reply};
+use lay_layout::face::Face;
+use lay_layout::frag::{Tree, text_of};
 use lay_layout::units::NoMemory;
+use std::alloc::Global;
+use std::sync::Arc;
 
 /// More numbers than a case draws.
 const MANY: u64 = 1000000;
 
-/// The reply to a list of edits; None where no more calls of editors may come.
-pub(crate) fn edit(core: &mut Core, index: u32, edits: Edits) -> Option<Reply> {
-    if core.calls_left() == 0 {
-        return None;
+/// Numbers that a core tells: of granted claims, of drawn numbers, of accepted lists of edits and of entries of its history.
+#[derive(Clone, Copy)]
+pub(crate) struct Numbers {
+    pub laid: u64,
+    pub draws: u64,
+    pub accepted: u64,
+    pub entries: u64,
+}
+
+/// What a case asks of a core. The rest of the program knows a core by this alone, since a function that has one at hand takes long to
+/// prove.
+pub(crate) trait CoreCalls {
+    /// The reply to a list of edits; None where no more calls of editors may come.
+    fn reply_to_edits(&mut self, index: u32, edits: Edits) -> Option<Reply>;
+
+    /// The reply to `latest`; None where no more calls of editors may come.
+    fn reply_to_latest(&mut self, index: u32) -> Option<Reply>;
+
+    /// The reply to `sync`; None where no more calls of editors may come.
+    fn reply_to_sync(&mut self, index: u32) -> Option<Reply>;
+
+    /// Lays out all that is dirty; None where too many numbers are drawn.
+    fn settled(&mut self) -> Option<Said>;
+
+    /// Publishes the present version.
+    fn published(&mut self) -> Said;
+
+    /// Claims the cell of a key.
+    fn claimed(&mut self, key: Key) -> Answer;
+
+    /// Claims the next cell.
+    fn next_claim(&mut self) -> Next;
+
+    /// Claims so many cells at most, at least one; where none is handed out the answer says why.
+    fn some_claims(
+        &mut self,
+        alloc: Global,
+        limit: u32,
+    ) -> Result<Result<ClaimList, Said>, NoMemory>;
+
+    /// Finishes a claim.
+    fn finished(&mut self, done: Done<Layout>) -> Said;
+
+    /// Finishes several claims.
+    fn all_finished(&mut self, outcomes: Outcomes) -> Tally;
+
+    /// Gives a claim back.
+    fn released(&mut self, claim: Claim) -> Said;
+
+    /// How many claims of a cell were granted; None where there is no such cell.
+    fn granted_of(&self, key: Key) -> Option<u64>;
+
+    /// The numbers that it tells.
+    fn numbers(&self) -> Numbers;
+
+    /// The ids of the nodes of its document, in order.
+    fn nodes(&self, alloc: Global) -> Result<Vec<NodeId>, NoMemory>;
+
+    /// Of how many contexts the tree of a version is.
+    fn contexts(&self, version: u64) -> Said;
+
+    /// Whether the tree of the present version is written as that of a layout from nothing; `none` where it isn't published.
+    fn as_scratch(&self, alloc: Global) -> Result<Said, NoMemory>;
+}
+
+impl CoreCalls for Core {
+    fn reply_to_edits(&mut self, index: u32, edits: Edits) -> Option<Reply> {
+        if self.calls_left() == 0 {
+            return None;
+        }
+        Some(self.edit(1, index, edits))
     }
-    Some(core.edit(1, index, edits))
-}
 
-pub(crate) fn latest(core: &mut Core, index: u32) -> Option<Reply> {
-    if core.calls_left() == 0 {
-        return None;
+    fn reply_to_latest(&mut self, index: u32) -> Option<Reply> {
+        if self.calls_left() == 0 {
+            return None;
+        }
+        Some(self.latest(1, index))
     }
-    Some(core.latest(1, index))
-}
 
-pub(crate) fn sync(core: &mut Core, index: u32) -> Option<Reply> {
-    if core.calls_left() == 0 {
-        return None;
+    fn reply_to_sync(&mut self, index: u32) -> Option<Reply> {
+        if self.calls_left() == 0 {
+            return None;
+        }
+        Some(self.sync(1, index))
     }
-    Some(core.sync(1, index))
-}
 
-/// None where too many numbers are drawn.
-pub(crate) fn settle(core: &mut Core) -> Option<Said> {
-    if core.draws() > MANY {
-        return None;
+    fn settled(&mut self) -> Option<Said> {
+        if self.draws() > MANY {
+            return None;
+        }
+        Some(said::settled(self.settle()))
     }
-    Some(said::settled(core.settle()))
+
+    fn published(&mut self) -> Said {
+        said::published(self.publish())
+    }
+
+    fn claimed(&mut self, key: Key) -> Answer {
+        self.claim(cell_key(key))
+    }
+
+    fn next_claim(&mut self) -> Next {
+        self.claim_next()
+    }
+
+    fn some_claims(
+        &mut self,
+        alloc: Global,
+        limit: u32,
+    ) -> Result<Result<ClaimList, Said>, NoMemory> {
+        if limit == 0 {
+            return Ok(Err(Said::Word("none")));
+        }
+        let mut list = ClaimList::with_room(alloc, limit)?;
+        match claim_some(self, limit, &mut list) {
+            Ok(None) => Ok(Ok(list)),
+            Ok(Some(idle)) => Ok(Err(said::idle(idle.kind()))),
+            Err(NoMemory) => Ok(Err(Said::LACKS)),
+        }
+    }
+
+    fn finished(&mut self, done: Done<Layout>) -> Said {
+        said::finished(self.finish(done))
+    }
+
+    fn all_finished(&mut self, outcomes: Outcomes) -> Tally {
+        self.finish_all(outcomes)
+    }
+
+    fn released(&mut self, claim: Claim) -> Said {
+        said::released(self.give_back(claim))
+    }
+
+    fn granted_of(&self, key: Key) -> Option<u64> {
+        self.laid_of(cell_key(key))
+    }
+
+    fn numbers(&self) -> Numbers {
+        Numbers {
+            laid: self.laid(),
+            draws: self.draws(),
+            accepted: self.accepted(),
+            entries: self.history().len() as u64,
+        }
+    }
+
+    fn nodes(&self, alloc: Global) -> Result<Vec<NodeId>, NoMemory> {
+        ids(alloc, self.doc())
+    }
+
+    fn contexts(&self, version: u64) -> Said {
+        match self.tree(version) {
+            Some(tree) => Said::Number(tree.contexts().len() as u64),
+            None => Said::Word("none"),
+        }
+    }
+
+    fn as_scratch(&self, alloc: Global) -> Result<Said, NoMemory> {
+        match self.tree(self.accepted()) {
+            Some(tree) => is_as_scratch(alloc, self.doc(), self.face(), tree),
+            None => Ok(Said::Word("none")),
+        }
+    }
 }
 
-pub(crate) fn publish(core: &mut Core) -> Said {
-    said::published(core.publish())
-}
-
-pub(crate) fn claim(core: &mut Core, key: Key) -> Answer {
-    core.claim(cell_key(key))
-}
-
-pub(crate) fn claim_next(core: &mut Core) -> Next {
-    core.claim_next()
-}
-
-pub(crate) fn claim_some(
-    core: &mut Core,
-    limit: u32,
-    list: &mut ClaimList,
-) -> Result<Option<Idle>, NoMemory>
+fn claim_some(core: &mut Core, limit: u32, list: &mut ClaimList) -> Result<Option<Idle>, NoMemory>
     requires limit { 0 < limit }
     requires room { limit ≤ list.old.room }
     requires empty { list.old.claims ≡ [] }
@@ -70,18 +195,14 @@ pub(crate) fn claim_some(
     core.claim_some(limit, list)
 }
 
-pub(crate) fn finish(core: &mut Core, done: Done<Layout>) -> Said {
-    said::finished(core.finish(done))
-}
-
-pub(crate) fn finish_all(core: &mut Core, outcomes: Outcomes) -> Tally {
-    core.finish_all(outcomes)
-}
-
-pub(crate) fn give_back(core: &mut Core, claim: Claim) -> Said {
-    said::released(core.give_back(claim))
-}
-
-pub(crate) fn laid_of(core: &Core, key: Key) -> Option<u64> {
-    core.laid_of(cell_key(key))
+fn is_as_scratch(
+    alloc: Global,
+    doc: &Doc,
+    face: &Arc<Face>,
+    tree: &Tree,
+) -> Result<Said, NoMemory> {
+    let kept = text_of(alloc, tree)?;
+    let anew = text_of(alloc, &scratch(alloc, doc, face)?)?;
+    let is_same = kept.as_str() == anew.as_str();
+    Ok(Said::Word(if is_same { "same" } else { "other" }))
 }

@@ -2,14 +2,14 @@
 
 use lay_case_reading::{Key, Phase};
 use lay_core::shape::CellKey;
-use lay_layout::context;
+use lay_layout::context::Phase as CellPhase;
 
 /// The core's key of a cell.
 pub(crate) fn cell_key(key: Key) -> CellKey {
     let phase = match key.phase {
-        Phase::Measure => context::Phase::Measure,
-        Phase::Size => context::Phase::Size,
-        Phase::Place => context::Phase::Place,
+        Phase::Measure => CellPhase::Measure,
+        Phase::Size => CellPhase::Size,
+        Phase::Place => CellPhase::Place,
     };
     CellKey {
         node: key.node,
@@ -20,9 +20,9 @@ pub(crate) fn cell_key(key: Key) -> CellKey {
 /// The key as a case names it.
 pub(crate) fn key_of(key: CellKey) -> Key {
     let phase = match key.phase {
-        context::Phase::Measure => Phase::Measure,
-        context::Phase::Size => Phase::Size,
-        context::Phase::Place => Phase::Place,
+        CellPhase::Measure => Phase::Measure,
+        CellPhase::Size => Phase::Size,
+        CellPhase::Place => Phase::Place,
     };
     Key {
         node: key.node,

@@ -17,7 +17,7 @@ mod said;
 
 use crate::one_core::OneCore;
 use anyhow::{Context, Result, bail};
-use lay_case_reading::{answers, compared, files, print, run_document};
+use lay_case_reading::{Subject, answers, compared, files, print, run_document};
 use lay_core::Core;
 use lay_json::read_run;
 use lay_layout::run::RunDoc;
@@ -72,14 +72,24 @@ fn try_case(
     case: &str,
     shows: bool,
 ) -> Result<()> {
-    let (case, lines) = case.split_once('\n').unwrap_or((case, ""));
     let mut subject = subject(rt.alloc(), run(rt.alloc(), name, bytes)?)?;
+    try_on(rt, &mut subject, name, case, shows)
+}
+
+fn try_on<S: Subject>(
+    rt: &(impl Print + AllocGlobal),
+    subject: &mut S,
+    name: &str,
+    case: &str,
+    shows: bool,
+) -> Result<()> {
+    let (case, lines) = case.split_once('\n').unwrap_or((case, ""));
     if shows {
-        let answers = answers(rt.alloc(), &mut subject, lines)?;
+        let answers = answers(rt.alloc(), subject, lines)?;
         println!(rt; "case {case}\n{answers}")?;
         return Ok(());
     }
-    let comparison = compared(rt.alloc(), &mut subject, lines)?;
+    let comparison = compared(rt.alloc(), subject, lines)?;
     print(rt, name, case, &comparison)
 }
 
@@ -92,7 +102,7 @@ fn run(alloc: Global, name: &str, bytes: &[u8]) -> Result<RunDoc> {
 }
 
 /// A core of the document of a run.
-fn subject(alloc: Global, run: RunDoc) -> Result<OneCore> {
+fn subject(alloc: Global, run: RunDoc) -> Result<OneCore<Core>> {
     match new_core(alloc, run) {
         Ok(core) => Ok(OneCore::new(alloc, core)),
         Err(NoMemory) => bail!("out of memory"),

@@ -2,14 +2,12 @@
 //! program ends.
 
 use crate::claims::Claims;
+use crate::core_calls::CoreCalls;
 use crate::questions::{counts, question};
-use crate::{core_calls, said};
-use lay_case_reading::{
-    CellCall, CoreCall, EditorCall, Grants, Said, Subject, Taken, ids, shown_reply,
-};
-use lay_core::Core;
+use crate::said;
+use lay_case_reading::{CellCall, CoreCall, EditorCall, Grants, Said, Subject, Taken, shown_reply};
 use lay_core::cell_work::Claim;
-use lay_core::claim_lists::{ClaimList, Outcomes};
+use lay_core::claim_lists::Outcomes;
 use lay_layout::edit_lists::Reply;
 use lay_layout::units::NoMemory;
 use std::alloc::Global;
@@ -19,14 +17,14 @@ const BATCH: u32 = 64;
 
 /// The core of a case, the calls of editors on it, the claims that it granted, and how many there were.
 #[derive(Drop)]
-pub(crate) struct OneCore {
-    core: Core,
+pub(crate) struct OneCore<C> {
+    core: C,
     calls: u32,
     claims: Claims,
     grants: Grants,
 }
 
-impl Subject for OneCore {
+impl<C: CoreCalls> Subject for OneCore<C> {
     fn answer(&mut self, alloc: Global, line: &str) -> Result<Option<String>, NoMemory> {
         let Some(call) = CoreCall::read(alloc, line)? else {
             return Ok(None);
@@ -38,8 +36,8 @@ impl Subject for OneCore {
     }
 }
 
-impl OneCore {
-    pub(crate) fn new(alloc: Global, core: Core) -> OneCore {
+impl<C: CoreCalls> OneCore<C> {
+    pub(crate) fn new(alloc: Global, core: C) -> OneCore<C> {
         OneCore {
             core,
             calls: 0,
@@ -54,8 +52,8 @@ impl OneCore {
             CoreCall::Editor(call) => self.replied(alloc, call),
             CoreCall::Cell(call) => cell_said(alloc, &mut self.core, &mut self.claims, call),
             CoreCall::Question(asked) => Ok(Some(question(alloc, &self.core, asked)?)),
-            CoreCall::Settle => Ok(core_calls::settle(&mut self.core)),
-            CoreCall::Publish => Ok(Some(core_calls::publish(&mut self.core))),
+            CoreCall::Settle => Ok(self.core.settled()),
+            CoreCall::Publish => Ok(Some(self.core.published())),
             CoreCall::Granted => Ok(Some(granted(alloc, &self.core, &mut self.grants)?)),
         }
     }
@@ -72,31 +70,31 @@ impl OneCore {
     }
 }
 
-fn editor_reply(core: &mut Core, index: u32, call: EditorCall) -> Option<Reply> {
+fn editor_reply<C: CoreCalls>(core: &mut C, index: u32, call: EditorCall) -> Option<Reply> {
     match call {
-        EditorCall::Edit(edits) => core_calls::edit(core, index, edits),
-        EditorCall::Latest => core_calls::latest(core, index),
-        EditorCall::Sync => core_calls::sync(core, index),
+        EditorCall::Edit(edits) => core.reply_to_edits(index, edits),
+        EditorCall::Latest => core.reply_to_latest(index),
+        EditorCall::Sync => core.reply_to_sync(index),
     }
 }
 
 /// The cells that were granted since the last time.
-fn granted(alloc: Global, core: &Core, grants: &mut Grants) -> Result<Said, NoMemory> {
-    let nodes = ids(alloc, core.doc())?;
+fn granted<C: CoreCalls>(alloc: Global, core: &C, grants: &mut Grants) -> Result<Said, NoMemory> {
+    let nodes = core.nodes(alloc)?;
     let counts = counts(alloc, core, nodes.as_slice())?;
-    Ok(Said::Text(grants.since(alloc, counts, core.laid())?))
+    Ok(Said::Text(grants.since(alloc, counts, core.numbers().laid)?))
 }
 
 /// The answer to a call of one who works on the cells.
-fn cell_said(
+fn cell_said<C: CoreCalls>(
     alloc: Global,
-    core: &mut Core,
+    core: &mut C,
     claims: &mut Claims,
     call: CellCall,
 ) -> Result<Option<Said>, NoMemory> {
     match call {
-        CellCall::Claim(key) => Ok(Some(claims.answered(core_calls::claim(core, key))?)),
-        CellCall::ClaimNext => Ok(Some(claims.next(core_calls::claim_next(core))?)),
+        CellCall::Claim(key) => Ok(Some(claims.answered(core.claimed(key))?)),
+        CellCall::ClaimNext => Ok(Some(claims.next(core.next_claim())?)),
         CellCall::ClaimSome(limit) => claim_some(alloc, core, claims, limit),
         CellCall::Finish { number, under } => match claims.again(number, under)? {
             Some(claim) => Ok(Some(finish(alloc, core, claim))),
@@ -104,40 +102,38 @@ fn cell_said(
         },
         CellCall::FinishAll(all) => finish_all(alloc, core, claims, all.as_slice()),
         CellCall::GiveBack(number) => match claims.again(number, number)? {
-            Some(claim) => Ok(Some(core_calls::give_back(core, claim))),
+            Some(claim) => Ok(Some(core.released(claim))),
             None => Ok(None),
         },
     }
 }
 
-fn claim_some(
+fn claim_some<C: CoreCalls>(
     alloc: Global,
-    core: &mut Core,
+    core: &mut C,
     claims: &mut Claims,
     limit: u32,
 ) -> Result<Option<Said>, NoMemory> {
     if limit == 0 || limit > BATCH {
         return Ok(None);
     }
-    let mut list = ClaimList::with_room(alloc, limit)?;
-    match core_calls::claim_some(core, limit, &mut list) {
-        Ok(None) => Ok(Some(claims.all_granted(alloc, list)?)),
-        Ok(Some(idle)) => Ok(Some(said::idle(idle.kind()))),
-        Err(NoMemory) => Ok(Some(Said::LACKS)),
+    match core.some_claims(alloc, limit)? {
+        Ok(list) => Ok(Some(claims.all_granted(alloc, list)?)),
+        Err(said) => Ok(Some(said)),
     }
 }
 
 /// Works a claim out, and finishes it.
-fn finish(alloc: Global, core: &mut Core, claim: Claim) -> Said {
+fn finish<C: CoreCalls>(alloc: Global, core: &mut C, claim: Claim) -> Said {
     match claim.compute(alloc) {
-        Ok(done) => core_calls::finish(core, done),
+        Ok(done) => core.finished(done),
         Err(_claim) => Said::LACKS,
     }
 }
 
-fn finish_all(
+fn finish_all<C: CoreCalls>(
     alloc: Global,
-    core: &mut Core,
+    core: &mut C,
     claims: &Claims,
     all: &[Taken],
 ) -> Result<Option<Said>, NoMemory> {
@@ -147,6 +143,6 @@ fn finish_all(
     if outcomes.len() > BATCH as usize {
         return Ok(None);
     }
-    let tally = core_calls::finish_all(core, Outcomes::new(outcomes));
+    let tally = core.all_finished(Outcomes::new(outcomes));
     Ok(Some(said::tally(alloc, &tally)?))
 }

@@ -5,3 +5,5 @@ pub mod Grammar
 pub mod Utf8Texts
 pub mod Texts
 pub mod OneSheet
+pub mod SomeSheet
+pub mod Closing

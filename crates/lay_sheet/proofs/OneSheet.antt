@@ -74,7 +74,7 @@ one_rule prelude block x y (kept p-1 b-1 ss xs a c) (ignored p-2 b-2 b) = absurd
 one_rule prelude block x y (ignored p-1 b-1 a) (kept p-2 b-2 ts ys b d) = absurd (none-some ts (one_list prelude None (Some ts) a b))
 one_rule prelude block x y (ignored p-1 b-1 a) (ignored p-2 b-2 b) = refl
 
-one_text : (text : List ℕ) (x y : List RuleValue) → AreStatements text x → AreStatements text y → x ≡ y
+pub one_text : (text : List ℕ) (x y : List RuleValue) → AreStatements text x → AreStatements text y → x ≡ y
 one_text text x y end end = refl
 one_text text x y (space b-1 bs-1 xs w p) (space b-2 bs-2 ys v q) = one_text bs-1 xs ys p q
 one_text text x y (space b-1 bs-1 xs w p) (at_rule b-2 bs-2 ys v i q) = absurd (false≢true (sym v ∙ w))

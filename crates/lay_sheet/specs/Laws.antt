@@ -1,7 +1,9 @@
 -- What a sheet's text means is settled by these laws, which say it apart from how it is found.
-use Rattle.std.specs.Prelude.{ℕ, ◌≡◌, ◌==◌, ◌||◌, List, [], ◌∷◌, ◌++◌, Bool, true, false}
+use Rattle.std.specs.Prelude.{ℕ, ◌≡◌, ◌+◌, ◌-◌, ◌==◌, ◌||◌, List, [], ◌∷◌, ◌++◌, Bool, true, false, if◌then◌else◌}
 use Rattle.std.specs.List.{list_any}
-use Rattle.lay_sheet.specs.PlainText.{is_mark, ends_comment, plain_text}
+use Rattle.lay_sheet.specs.declared.plain.Place.{Place}
+use Rattle.lay_sheet.specs.declared.plain.Place.TheVariants.{Outside}
+use Rattle.lay_sheet.specs.PlainText.{is_mark, ends_comment, place_behind, plain_text}
 use Rattle.lay_sheet.specs.Sheets.{RuleValue, IsSheet}
 
 -- a byte that ends a string with this mark, or is a backslash
@@ -30,3 +32,52 @@ EscapeHides = (b : ℕ) (rest : List ℕ) → plain_text (92 ∷ b ∷ rest) ≡
 -- a text is one sheet at most
 abbrev pub OneSheet : Type 0
 OneSheet = (text : List ℕ) (rules others : List RuleValue) → IsSheet text rules → IsSheet text others → rules ≡ others
+
+-- each text is a sheet: whatever stands in it, it can be read (4.2)
+abbrev pub SomeSheet : Type 0
+SomeSheet = (text : List ℕ) → (rules : List RuleValue) × IsSheet text rules
+
+-- a string and a comment that are open at the end of a text are closed there (4.2)
+abbrev pub OpenStringEnds : Type 0
+OpenStringEnds = (mark : ℕ) (inner : List ℕ) → is_mark mark ≡ true → list_any (parts_string mark) inner ≡ false →
+    plain_text (mark ∷ inner) ≡ plain_text (mark ∷ inner ++ mark ∷ [])
+
+abbrev pub OpenCommentEnds : Type 0
+OpenCommentEnds = (inner : List ℕ) → has_comment_end inner ≡ false →
+    plain_text (47 ∷ 42 ∷ inner) ≡ plain_text (47 ∷ 42 ∷ inner ++ 42 ∷ 47 ∷ [])
+
+-- where a text ends: outside of strings, comments and escapes, or in one
+abbrev pub place_after : Place → List ℕ → Place
+place_after place [] = place
+place_after place (b ∷ bs) = place_after (place_behind place b bs) bs
+
+-- how many braces are open at the end of what is seen of a text, with so many before it; one that closes nothing doesn't count
+abbrev pub open_after : ℕ → List ℕ → ℕ
+open_after depth [] = depth
+open_after depth (b ∷ bs) =
+    if b == 123 then open_after (depth + 1) bs
+    else (if b == 125 then open_after (depth - 1) bs else open_after depth bs)
+
+-- a text whose last statement lacks its `}`
+pub record LacksBrace (text : List ℕ) : Type 0 where
+  pub outside : place_after Outside text ≡ Outside
+  pub one_open : open_after 0 (plain_text text) ≡ 1
+
+-- such a text and the same with its `}` are one sheet (4.2)
+abbrev pub OpenBlockEnds : Type 0
+OpenBlockEnds = (text : List ℕ) (rules : List RuleValue) → LacksBrace text → IsSheet text rules → IsSheet (text ++ 125 ∷ []) rules
+
+-- a text that ends with the `}` of its last statement, and a second one: both together are the sheet of the first, and then of the second
+abbrev pub SheetsFollow : Type 0
+SheetsFollow = (text second : List ℕ) (rules others : List RuleValue) → LacksBrace text →
+    IsSheet (text ++ 125 ∷ []) rules → IsSheet second others →
+    IsSheet ((text ++ 125 ∷ []) ++ second) (rules ++ others)
+
+-- a semicolon, or the brace that begins a block
+abbrev pub ends_at_rule : ℕ → Bool
+ends_at_rule b = (b == 59) || (b == 123)
+
+-- a statement that begins with `@` and has no block ends with its first semicolon; what stands behind it is a sheet as it is alone (4.1.5)
+abbrev pub AtRuleSaysNothing : Type 0
+AtRuleSaysNothing = (inner rest : List ℕ) (rules : List RuleValue) → place_after Outside inner ≡ Outside →
+    list_any ends_at_rule (plain_text inner) ≡ false → IsSheet rest rules → IsSheet (64 ∷ inner ++ 59 ∷ rest) rules

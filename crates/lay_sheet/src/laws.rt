@@ -1,6 +1,7 @@
 //! Laws of the text of a sheet.
 
-ghost use Rattle.lay_sheet.specs.Laws.{StringHides, CommentIsSpace, EscapeHides, OneSheet};
+ghost use Rattle.lay_sheet.specs.Laws.{StringHides, CommentIsSpace, EscapeHides, OneSheet, SomeSheet};
+ghost use Rattle.lay_sheet.specs.Laws.{OpenStringEnds, OpenCommentEnds, OpenBlockEnds, SheetsFollow, AtRuleSaysNothing};
 
 /// What stands in a string isn't seen.
 pub fn string_hides()
@@ -20,4 +21,34 @@ pub fn escape_hides()
 /// A text is one sheet at most.
 pub fn one_sheet()
     ensures { OneSheet }
+{}
+
+/// Each text is a sheet.
+pub fn some_sheet()
+    ensures { SomeSheet }
+{}
+
+/// A string that is open at the end of a text ends there.
+pub fn open_string_ends()
+    ensures { OpenStringEnds }
+{}
+
+/// A comment that is open at the end of a text ends there.
+pub fn open_comment_ends()
+    ensures { OpenCommentEnds }
+{}
+
+/// A block that is open at the end of a text ends there.
+pub fn open_block_ends()
+    ensures { OpenBlockEnds }
+{}
+
+/// A sheet that ends with the brace of its last statement, and another sheet after it, are both.
+pub fn sheets_follow()
+    ensures { SheetsFollow }
+{}
+
+/// A statement that begins with `@` ends with its first semicolon, and what stands behind it is a sheet by itself.
+pub fn at_rule_says_nothing()
+    ensures { AtRuleSaysNothing }
 {}

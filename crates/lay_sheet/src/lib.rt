@@ -2,8 +2,8 @@
 //!
 //! The contract of `read_sheet` cites `IsSheet` of `specs/Sheets.antt`, a grammar of statements, rule sets
 //! and declarations over the text as `specs/PlainText.antt` sees it, without what stands in strings, escapes
-//! and comments. How selectors are written is `specs/SelectorTexts.antt`. Each text is just one sheet (law
-//! `one_sheet`).
+//! and comments. How selectors are written is `specs/SelectorTexts.antt`. Each text is just one sheet (laws
+//! `some_sheet` and `one_sheet`), and the laws of `specs/Laws.antt` say how its pieces end.
 #![tactic(auto)]
 
 mod declaration;
@@ -16,7 +16,10 @@ mod selector_text;
 mod sheet;
 
 pub use declaration::SheetDecl;
-pub use laws::{comment_is_space, escape_hides, one_sheet, string_hides};
+pub use laws::{
+    at_rule_says_nothing, comment_is_space, escape_hides, one_sheet, open_block_ends,
+    open_comment_ends, open_string_ends, sheets_follow, some_sheet, string_hides,
+};
 pub use rule::Rule;
 pub use selector::{Joint, Name, Selector, Simple, Step};
 pub use sheet::{Sheet, read_sheet, selectors};

@@ -4,10 +4,10 @@ use Rattle.std.specs.Prelude.{nat_lt}
 use Rattle.std.proofs.lemmas.Bool.{false≢true, eq-eqb, ne_eqb, ltb-true, ltb-false, le-ltb, cases_eq}
 use Rattle.lay_styled.specs.Weights.{is_less_key}
 
-same : (a b : ℕ) (xs ys : List ℕ) → a ≡ b → is_less_key (a ∷ xs) (b ∷ ys) ≡ is_less_key xs ys
+pub same : (a b : ℕ) (xs ys : List ℕ) → a ≡ b → is_less_key (a ∷ xs) (b ∷ ys) ≡ is_less_key xs ys
 same a b xs ys e = rw (eq-eqb a b e) refl
 
-other : (a b : ℕ) (xs ys : List ℕ) → (a ≡ b → ⊥) → is_less_key (a ∷ xs) (b ∷ ys) ≡ nat_lt a b
+pub other : (a b : ℕ) (xs ys : List ℕ) → (a ≡ b → ⊥) → is_less_key (a ∷ xs) (b ∷ ys) ≡ nat_lt a b
 other a b xs ys ne = rw (ne_eqb a b ne) refl
 
 pub less_self : (xs : List ℕ) → is_less_key xs xs ≡ false

@@ -1,7 +1,10 @@
 pub mod Keys
+pub mod SpecificityNumbers
 pub mod Numbers
 pub mod Taking
 pub mod Looking
+pub mod Lists
+pub mod Told
 pub mod Restyling
 pub mod OneStyle
 pub mod Declaring

@@ -210,7 +210,7 @@ list_below_from : (sum : ℕ) (name : List ℕ) → sum < 4096 → list_from sum
 list_below_from sum [] h = h
 list_below_from sum (b ∷ bs) h = list_below_from ((sum * 31 + b) % 4096) bs (omega arith)
 
-list_below : (name : List ℕ) → list_of name < 4096
+pub list_below : (name : List ℕ) → list_of name < 4096
 list_below name = list_below_from 0 name (omega arith)
 
 pub indexed_next : (rules : List RuleValue) (by_name new_by : List (List Entry)) (rest new_rest : List Entry) (r s : ℕ) (rule : RuleValue) (selector : List Step) → slice_get rules r ≡ Some rule → slice_get rule.selectors s ≡ Some selector →

@@ -1,7 +1,7 @@
 -- Where the selectors of a sheet are looked up: by the name that the last simple selector asks for, of which each has its list,
 -- or in a list of their own where it asks for none. A list may have other selectors too.
 use Rattle.std.specs.Prelude.{ℕ, ◌≡◌, ◌+◌, ◌-◌, ◌*◌, ◌%◌, ◌<◌, ◌⊎◌, ◌++◌, List, [], ◌∷◌}
-use Rattle.std.specs.Prelude.{length, Option, Some, None, set, slice_index_or, option_and_then}
+use Rattle.std.specs.Prelude.{length, map, Option, Some, None, set, slice_index_or, option_and_then}
 use Rattle.std.specs.List.{slice_get, Contains, flat_map}
 use Rattle.lay_names.specs.declared.names.Names.{Names}
 use Rattle.lay_sheet.specs.declared.selector.Simple.{Simple}
@@ -56,6 +56,15 @@ IsIndexed rules by_name rest = IsIndexedTo rules by_name rest (length rules) 0
 -- the selectors that are looked up for a node of these names
 abbrev pub of_classes : List (List Entry) → List Entry → List (List ℕ) → List Entry
 of_classes by_name rest classes = flat_map (λ class. listed by_name rest (Some class)) classes
+
+-- the selectors of the lists with these numbers
+abbrev pub of_lists : List (List Entry) → List ℕ → List Entry
+of_lists by_name numbers = flat_map (λ n. slice_index_or by_name n []) numbers
+
+-- these are the numbers of the lists of some classes, in any order
+pub record AreListsOf (classes : List (List ℕ)) (numbers : List ℕ) : Type 0 where
+  pub sound : (n : ℕ) → Contains numbers n → Contains (map list_of classes) n
+  pub complete : (n : ℕ) → Contains (map list_of classes) n → Contains numbers n
 
 abbrev pub looked_up : List (List Entry) → List Entry → Names → List Entry
 looked_up by_name rest names =

@@ -1,6 +1,8 @@
 pub mod Weights
+pub mod SpecificityNumbers
 pub mod Winners
 pub mod Index
+pub mod Told
 pub mod Cascade
 pub mod Seen
 pub mod Taken

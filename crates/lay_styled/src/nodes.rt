@@ -1,31 +1,35 @@
 //! What a node takes of a sheet.
 
-ghost use Rattle.std.specs.Prelude.{◌≡◌, ◌<◌, ◌++◌, ◌∷◌, [], false, Some, List, IfOk, OnOk, length, slice_index_or};
+ghost use Rattle.std.specs.Prelude.{ℕ, Bool, ◌≡◌, ◌<◌, ◌++◌, ◌∷◌, [], false, Some, List, IfOk, OnOk, length, slice_index_or};
 ghost use Rattle.lay_doc.specs.Document.{is_text_at};
-ghost use Rattle.std.specs.List.{slice_get};
+ghost use Rattle.std.specs.List.{slice_get, Contains};
 ghost use Rattle.lay_sheet.specs.declared.selector.Step.{Step as StepValue};
+ghost use Rattle.lay_cascade.specs.Matching.{IsMatched, Says};
 ghost use Rattle.lay_cascade.specs.Rising.{IsNamed};
 ghost use Rattle.lay_cascade.specs.Specificity.{specificity_of};
 ghost use Rattle.lay_styled.specs.declared.entry.Entry.{Entry as EntryValue};
-ghost use Rattle.lay_styled.specs.Index.{of_classes, IsIndexed};
+ghost use Rattle.lay_styled.specs.Index.{of_lists, of_classes, AreListsOf, IsIndexed};
+ghost use Rattle.lay_styled.specs.Told.{AreColumns};
 ghost use Rattle.lay_styled.specs.Cascade.{AreWinners};
 ghost use Rattle.lay_styled.specs.Seen.{AreWinnersOf};
 
 use crate::candidates::{Candidate, no_winners, take_all};
+use crate::columns::{ColumnList, told};
 use crate::entry::Entry;
-use crate::selector_index::{SelectorIndex, rule_at, steps_at};
+use crate::selector_index::{SelectorIndex, list_of, rule_at, steps_at};
 use lay_cascade::{Named, Specificity, is_matched, specificity_of};
 use lay_names::Names;
-use lay_sheet::Rule;
+use lay_sheet::{Rule, Step};
 use lay_units::{NoMemory, Text};
 use std::alloc::Global;
 
-/// A document's nodes with their names, and a sheet with its selectors by names.
+/// A document's nodes with their names, and a sheet with its selectors by names and with what is told of the long ones.
 #[derive(Clone, Copy)]
 pub(crate) struct Cascade<'a> {
     pub named: Named<'a>,
     pub rules: &'a [Rule],
     pub index: &'a SelectorIndex,
+    pub columns: &'a [ColumnList],
 }
 
 /// The specificity of a rule set's selector at a place.
@@ -36,6 +40,25 @@ fn specificity_at(rule: &Rule, s: usize) -> Specificity
     specificity_of(&rule.selectors()[s])
 }
 
+/// Whether a selector, by its steps, matches the node at a place, of which something may be told.
+fn matches_at(
+    alloc: Global,
+    named: Named<'_>,
+    k: usize,
+    steps: &[Step],
+    told: Option<bool>,
+) -> Result<bool, NoMemory>
+    requires named { IsNamed named.nodes.now named.names.now named.adjacent.now named.sets.now }
+    requires place { k < length named.nodes.now }
+    requires told { (b : Bool) → told ≡ Some b → Says b (IsMatched named.nodes.now named.names.now steps.now k) }
+    ensures { IfOk result (λ b. Says b (IsMatched named.entry.nodes.now named.entry.names.now steps.now k)) }
+{
+    match told {
+        Some(is_matched) => Ok(is_matched),
+        None => is_matched(alloc, named, k, steps),
+    }
+}
+
 /// Takes the declarations of a selector's rule set, where the selector matches the node at a place.
 fn take_entry(
     alloc: Global,
@@ -44,7 +67,8 @@ fn take_entry(
     entry: Entry,
     winners: &mut Vec<Option<Candidate>>,
 ) -> Result<(), NoMemory>
-    requires named { IsNamed cascade.named.nodes.now cascade.named.names.now cascade.named.adjacent.now }
+    requires named { IsNamed cascade.named.nodes.now cascade.named.names.now cascade.named.adjacent.now cascade.named.sets.now }
+    requires told { AreColumns cascade.rules.now cascade.named.nodes.now cascade.named.names.now cascade.columns.now }
     requires place { k < length cascade.named.nodes.now }
     requires no_text { is_text_at cascade.named.nodes.now k ≡ false }
     requires count { length winners.old.items ≡ 46 }
@@ -63,7 +87,8 @@ fn take_entry(
         return Ok(());
     }
     let steps = steps_at(rule, entry.selector);
-    if is_matched(alloc, cascade.named, k, steps)? {
+    let told = told(cascade.columns, entry, k);
+    if matches_at(alloc, cascade.named, k, steps, told)? {
         take_all(
             winners,
             specificity_at(rule, entry.selector),
@@ -81,7 +106,7 @@ fn entry_at(entries: &[Entry], i: usize) -> Entry
     entries[i]
 }
 
-/// The same for selectors one after the other.
+/// Takes the declarations of selectors one after the other, each where it matches the node at a place.
 fn take_entries(
     alloc: Global,
     cascade: Cascade<'_>,
@@ -89,7 +114,8 @@ fn take_entries(
     entries: &[Entry],
     winners: &mut Vec<Option<Candidate>>,
 ) -> Result<(), NoMemory>
-    requires named { IsNamed cascade.named.nodes.now cascade.named.names.now cascade.named.adjacent.now }
+    requires named { IsNamed cascade.named.nodes.now cascade.named.names.now cascade.named.adjacent.now cascade.named.sets.now }
+    requires told { AreColumns cascade.rules.now cascade.named.nodes.now cascade.named.names.now cascade.columns.now }
     requires place { k < length cascade.named.nodes.now }
     requires no_text { is_text_at cascade.named.nodes.now k ≡ false }
     requires count { length winners.old.items ≡ 46 }
@@ -113,7 +139,56 @@ fn class_at(classes: &[Text], i: usize) -> &[u8]
     classes[i].as_str().as_bytes()
 }
 
-/// The same for the selectors that the classes of a node are looked up for.
+/// The numbers of the lists in which the classes of a node are looked up, each once however many classes it is of.
+fn lists_of(alloc: Global, classes: &[Text]) -> Result<Vec<usize>, NoMemory>
+    ensures { IfOk result (λ v. AreListsOf classes.now v.items) }
+{
+    let mut numbers = Vec::new(alloc);
+    for i in 0..classes.len() {
+        numbers.push(list_of(class_at(classes, i)))?;
+    }
+    numbers.sort_unstable();
+    numbers.dedup();
+    Ok(numbers)
+}
+
+fn number_at(numbers: &[usize], i: usize) -> usize
+    requires { i < length numbers.now }
+    ensures { result ≡ slice_index_or numbers.now i result }
+{
+    numbers[i]
+}
+
+/// Takes the declarations of the selectors in the lists of these numbers.
+fn take_lists(
+    alloc: Global,
+    cascade: Cascade<'_>,
+    k: usize,
+    numbers: &[usize],
+    winners: &mut Vec<Option<Candidate>>,
+) -> Result<(), NoMemory>
+    requires named { IsNamed cascade.named.nodes.now cascade.named.names.now cascade.named.adjacent.now cascade.named.sets.now }
+    requires told { AreColumns cascade.rules.now cascade.named.nodes.now cascade.named.names.now cascade.columns.now }
+    requires place { k < length cascade.named.nodes.now }
+    requires no_text { is_text_at cascade.named.nodes.now k ≡ false }
+    requires index { length cascade.index.now.by_name.items ≡ 4096 }
+    requires within { (n : ℕ) → Contains numbers.now n → n < 4096 }
+    requires count { length winners.old.items ≡ 46 }
+    ensures winners { OnOk result
+        ((seen : List EntryValue)
+        → AreWinnersOf cascade.entry.rules.now cascade.entry.named.nodes.now cascade.entry.named.names.now k seen winners.old.items
+        → AreWinnersOf cascade.entry.rules.now cascade.entry.named.nodes.now cascade.entry.named.names.now k
+        (seen ++ of_lists cascade.entry.index.now.by_name.items numbers.now) winners.new.items) }
+    ensures count { OnOk result (length winners.new.items ≡ 46) }
+{
+    for i in 0..numbers.len() {
+        let entries = cascade.index.list(number_at(numbers, i));
+        take_entries(alloc, cascade, k, entries, winners)?;
+    }
+    Ok(())
+}
+
+/// Takes the declarations of the selectors that the classes of a node are looked up for.
 fn take_classes(
     alloc: Global,
     cascade: Cascade<'_>,
@@ -121,7 +196,8 @@ fn take_classes(
     classes: &[Text],
     winners: &mut Vec<Option<Candidate>>,
 ) -> Result<(), NoMemory>
-    requires named { IsNamed cascade.named.nodes.now cascade.named.names.now cascade.named.adjacent.now }
+    requires named { IsNamed cascade.named.nodes.now cascade.named.names.now cascade.named.adjacent.now cascade.named.sets.now }
+    requires told { AreColumns cascade.rules.now cascade.named.nodes.now cascade.named.names.now cascade.columns.now }
     requires place { k < length cascade.named.nodes.now }
     requires no_text { is_text_at cascade.named.nodes.now k ≡ false }
     requires index { length cascade.index.now.by_name.items ≡ 4096 }
@@ -133,10 +209,8 @@ fn take_classes(
         (seen ++ of_classes cascade.entry.index.now.by_name.items cascade.entry.index.now.rest classes.now) winners.new.items) }
     ensures count { OnOk result (length winners.new.items ≡ 46) }
 {
-    for i in 0..classes.len() {
-        let entries = cascade.index.named(class_at(classes, i));
-        take_entries(alloc, cascade, k, entries, winners)?;
-    }
+    let numbers = lists_of(alloc, classes)?;
+    take_lists(alloc, cascade, k, numbers.as_slice(), winners)?;
     Ok(())
 }
 
@@ -153,7 +227,8 @@ pub(crate) fn winners_at(
     cascade: Cascade<'_>,
     k: usize,
 ) -> Result<Vec<Option<Candidate>>, NoMemory>
-    requires named { IsNamed cascade.named.nodes.now cascade.named.names.now cascade.named.adjacent.now }
+    requires named { IsNamed cascade.named.nodes.now cascade.named.names.now cascade.named.adjacent.now cascade.named.sets.now }
+    requires told { AreColumns cascade.rules.now cascade.named.nodes.now cascade.named.names.now cascade.columns.now }
     requires place { k < length cascade.named.nodes.now }
     requires no_text { is_text_at cascade.named.nodes.now k ≡ false }
     requires index { IsIndexed cascade.rules.now cascade.index.now.by_name.items cascade.index.now.rest }

@@ -1,6 +1,6 @@
 //! The selectors of a sheet by names.
 
-ghost use Rattle.std.specs.Prelude.{◌≡◌, ◌+◌, ◌<◌, Some, IfOk, OnOk, length, option_map};
+ghost use Rattle.std.specs.Prelude.{◌≡◌, ◌+◌, ◌<◌, [], Some, IfOk, OnOk, length, option_map, slice_index_or};
 ghost use Rattle.std.specs.List.{slice_get};
 ghost use Rattle.lay_styled.specs.Index.{name_in, last_name, list_of, by_name_with, rest_with, listed, IsIndexedTo, IsIndexed};
 
@@ -29,6 +29,15 @@ impl SelectorIndex {
         self.by_name[list_of(name)].as_slice()
     }
 
+    /// The selectors of the list with this number.
+    pub(crate) fn list(&self, number: usize) -> &[Entry]
+        requires count { length self.now.by_name.items ≡ 4096 }
+        requires within { number < 4096 }
+        ensures { result.now ≡ slice_index_or self.now.by_name.items number [] }
+    {
+        self.by_name[number].as_slice()
+    }
+
     /// The selectors whose last simple selector asks for no name.
     pub(crate) fn rest(&self) -> &[Entry]
         ensures { result.now ≡ self.now.rest }
@@ -37,8 +46,8 @@ impl SelectorIndex {
     }
 }
 
-/// The list of a name.
-fn list_of(name: &[u8]) -> usize
+/// The number of the list of a name, below 4,096.
+pub(crate) fn list_of(name: &[u8]) -> usize
     ensures value { result ≡ list_of name.now }
     ensures within { result < 4096 }
 {

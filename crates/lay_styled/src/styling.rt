@@ -5,13 +5,15 @@ ghost use Rattle.lay_doc.specs.Document.{ids_of, is_text_at};
 ghost use Rattle.lay_doc.specs.Changes.{changed_at, with_style};
 ghost use Rattle.lay_cascade.specs.Rising.{IsNamed};
 ghost use Rattle.lay_styled.specs.Index.{IsIndexed};
+ghost use Rattle.lay_styled.specs.Told.{AreColumns};
 ghost use Rattle.lay_styled.specs.Cascade.{IsCascaded};
 ghost use Rattle.lay_styled.specs.Taken.{declares_at, takes_one, takes, IsCascadedTo};
 
 use crate::candidates::Candidate;
+use crate::columns::columns_of;
 use crate::nodes::{Cascade, winners_at};
 use crate::selector_index::index_of;
-use lay_cascade::{Named, adjacent_of};
+use lay_cascade::{Named, adjacent_of, sets_of};
 use lay_doc::{Doc, Edit, Node, NodeId};
 use lay_names::Names;
 use lay_sheet::Sheet;
@@ -118,7 +120,8 @@ fn is_text_at(nodes: &[Node], k: usize) -> bool
 
 /// Lets the node at a place take what is greatest for it of a sheet.
 fn style_node(alloc: Global, cascade: Cascade<'_>, doc: &mut Doc, k: usize) -> Result<(), NoMemory>
-    requires named { IsNamed cascade.named.nodes.now cascade.named.names.now cascade.named.adjacent.now }
+    requires named { IsNamed cascade.named.nodes.now cascade.named.names.now cascade.named.adjacent.now cascade.named.sets.now }
+    requires told { AreColumns cascade.rules.now cascade.named.nodes.now cascade.named.names.now cascade.columns.now }
     requires place { k < length cascade.named.nodes.now }
     requires index { IsIndexed cascade.rules.now cascade.index.now.by_name.items cascade.index.now.rest }
     requires so_far { IsCascadedTo cascade.rules.now cascade.named.nodes.now cascade.named.names.now k doc.old.nodes }
@@ -147,15 +150,20 @@ fn cascaded<'a>(
 {
     let nodes = doc.nodes();
     let adjacent = adjacent_of(alloc, nodes)?;
+    let sets = sets_of(alloc, names)?;
+    let named = Named {
+        nodes,
+        names,
+        adjacent: adjacent.as_slice(),
+        sets: sets.as_slice(),
+    };
     let index = index_of(alloc, sheet.rules())?;
+    let columns = columns_of(alloc, named, sheet.rules())?;
     let cascade = Cascade {
-        named: Named {
-            nodes,
-            names,
-            adjacent: adjacent.as_slice(),
-        },
+        named,
         rules: sheet.rules(),
         index: &index,
+        columns: columns.as_slice(),
     };
     let mut new = doc.copy(alloc)?;
     for k in 0..nodes.len() {

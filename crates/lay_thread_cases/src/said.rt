@@ -5,16 +5,16 @@ use lay_drive::cell_work::Claim;
 use lay_drive::claim_lists::Outcome;
 use lay_drive::editing_core::{Idle, IdleKind, Tally};
 use lay_drive::shape::CellKey;
-use lay_layout::context;
+use lay_layout::context::Phase as CellPhase;
 use lay_layout::units::NoMemory;
 use std::alloc::Global;
 
 /// The key as a case names it.
 fn key_of(key: CellKey) -> Key {
     let phase = match key.phase {
-        context::Phase::Measure => Phase::Measure,
-        context::Phase::Size => Phase::Size,
-        context::Phase::Place => Phase::Place,
+        CellPhase::Measure => Phase::Measure,
+        CellPhase::Size => Phase::Size,
+        CellPhase::Place => Phase::Place,
     };
     Key {
         node: key.node,

@@ -10,8 +10,8 @@ before-m-requires-clause-place c =
     let here : c.loop-k.k < length c.args.places.now = first_of (search rules, grind (arith, common_steps)) in
     c.requires.within c.place_at.result (subst (Contains c.args.places.now) (sym c.place_at.ensures) (element_at c.args.places.now c.loop-k.k here))
 
-pub push_fitting-requires : goal.push_fitting-requires
-push_fitting-requires c = λ m e.
+pub push_fitting-requires-clause-place : goal.push_fitting-requires-clause-place
+push_fitting-requires-clause-place c = λ m e.
     let nodes = c.args.named.nodes.now in
     let here : c.loop-k.k < length c.args.places.now = first_of (search rules, grind (arith, common_steps)) in
     let within = c.requires.within c.place_at.result (subst (Contains c.args.places.now) (sym c.place_at.ensures) (element_at c.args.places.now c.loop-k.k here)) in
