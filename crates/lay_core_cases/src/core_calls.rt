@@ -21,6 +21,20 @@ use std::sync::Arc;
 /// More numbers than a case draws.
 const MANY: u64 = 1000000;
 
+/// The most claims that are handed out or taken at once.
+pub(crate) const BATCH: u32 = 64;
+
+/// What comes of asking a core for claims.
+#[derive(Drop)]
+pub(crate) enum Handed {
+    /// These are handed out.
+    Claims(ClaimList),
+    /// None is, for this reason.
+    Nothing(Said),
+    /// None is asked for, or more than may be.
+    OutOfBounds,
+}
+
 /// Numbers that a core tells: of granted claims, of drawn numbers, of accepted lists of edits and of entries of its history.
 #[derive(Clone, Copy)]
 pub(crate) struct Numbers {
@@ -54,12 +68,8 @@ pub(crate) trait CoreCalls {
     /// Claims the next cell.
     fn next_claim(&mut self) -> Next;
 
-    /// Claims so many cells at most, at least one; where none is handed out the answer says why.
-    fn some_claims(
-        &mut self,
-        alloc: Global,
-        limit: u32,
-    ) -> Result<Result<ClaimList, Said>, NoMemory>;
+    /// Claims so many cells at most.
+    fn some_claims(&mut self, alloc: Global, limit: u32) -> Result<Handed, NoMemory>;
 
     /// Finishes a claim.
     fn finished(&mut self, done: Done<Layout>) -> Said;
@@ -127,19 +137,15 @@ impl CoreCalls for Core {
         self.claim_next()
     }
 
-    fn some_claims(
-        &mut self,
-        alloc: Global,
-        limit: u32,
-    ) -> Result<Result<ClaimList, Said>, NoMemory> {
-        if limit == 0 {
-            return Ok(Err(Said::Word("none")));
+    fn some_claims(&mut self, alloc: Global, limit: u32) -> Result<Handed, NoMemory> {
+        if limit == 0 || limit > BATCH {
+            return Ok(Handed::OutOfBounds);
         }
         let mut list = ClaimList::with_room(alloc, limit)?;
         match claim_some(self, limit, &mut list) {
-            Ok(None) => Ok(Ok(list)),
-            Ok(Some(idle)) => Ok(Err(said::idle(idle.kind()))),
-            Err(NoMemory) => Ok(Err(Said::LACKS)),
+            Ok(None) => Ok(Handed::Claims(list)),
+            Ok(Some(idle)) => Ok(Handed::Nothing(said::idle(idle.kind()))),
+            Err(NoMemory) => Ok(Handed::Nothing(Said::LACKS)),
         }
     }
 

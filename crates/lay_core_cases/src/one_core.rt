@@ -2,7 +2,7 @@
 //! program ends.
 
 use crate::claims::Claims;
-use crate::core_calls::CoreCalls;
+use crate::core_calls::{BATCH, CoreCalls, Handed};
 use crate::questions::{counts, question};
 use crate::said;
 use lay_case_reading::{CellCall, CoreCall, EditorCall, Grants, Said, Subject, Taken, shown_reply};
@@ -11,9 +11,6 @@ use lay_core::claim_lists::Outcomes;
 use lay_layout::edit_lists::Reply;
 use lay_layout::units::NoMemory;
 use std::alloc::Global;
-
-/// The most claims that are handed out or taken at once.
-const BATCH: u32 = 64;
 
 /// The core of a case, the calls of editors on it, the claims that it granted, and how many there were.
 #[derive(Drop)]
@@ -114,12 +111,10 @@ fn claim_some<C: CoreCalls>(
     claims: &mut Claims,
     limit: u32,
 ) -> Result<Option<Said>, NoMemory> {
-    if limit == 0 || limit > BATCH {
-        return Ok(None);
-    }
     match core.some_claims(alloc, limit)? {
-        Ok(list) => Ok(Some(claims.all_granted(alloc, list)?)),
-        Err(said) => Ok(Some(said)),
+        Handed::Claims(list) => Ok(Some(claims.all_granted(alloc, list)?)),
+        Handed::Nothing(said) => Ok(Some(said)),
+        Handed::OutOfBounds => Ok(None),
     }
 }
 
