@@ -143,7 +143,8 @@
   function warningsOf(job) {
     const ids = new Map(job.items.filter(item => item.element && !item.pseudo && !item.wrapper).map(item => [item.element, item.id]));
     return [...job.warned.values()].map(({ what, count, places }) => {
-      const told = [...places].map(at => at.nodeType === 1 ? { selector: selectorOf(at), node: ids.get(at) || 0 } : { selector: String(at), node: 0 });
+      const told = [...places].map(at => at.nodeType === 1 ? { selector: selectorOf(at), node: ids.get(at) || 0 } :
+        { selector: String(at), node: 0 });
       return { what, count, first: told.length ? told[0].selector : '', places: told };
     });
   }
@@ -492,7 +493,8 @@
     const { job, item, end } = pen;
     if (!end || pen.top === null) { job.text = null; return; }
     job.text = { item, solid: pen.solid, bottom: end.bottom, right: end.right };
-    job.line = { group: item.group, top: end.top, bottom: end.bottom, right: end.right, over: pen.left * 64 + pen.written - end.right * 64 };
+    job.line = { group: item.group, top: end.top, bottom: end.bottom, right: end.right, over: pen.left * 64 +
+      pen.written - end.right * 64 };
   }
   function toLineOf(pen, rect) {
     if (pen.top !== null && Math.abs(rect.top - pen.top) <= 0.5 && rect.left >= pen.left) return;
@@ -526,7 +528,8 @@
     const rect = rectBetween(pen, from, pen.next);
     // Nothing breaks at a space of `pre`: it becomes a character of its width. So does a tab, which would count the face's spaces;
     // with `pre-wrap` a line may break behind it.
-    const pre = pen.used['white-space'], kept = cluster === '\t' ? /^(pre|pre-wrap|break-spaces)$/.test(pre) : cluster === ' ' && pre === 'pre';
+    const pre = pen.used['white-space'], kept = cluster === '\t' ? /^(pre|pre-wrap|break-spaces)$/.test(pre) : cluster === ' ' &&
+      pre === 'pre';
     if (kept && rect) {
       toLineOf(pen, rect);
       emit(pen, restOf(pen, rect));
@@ -578,10 +581,13 @@
   // it stands there. Gives it that break.
   function breakGenerated(job, item) {
     const box = item.up, around = box.up, used = box.used, word = item.data;
-    if (box.pseudo !== '::after' || !around || around.used.display !== 'inline' || !/[^\s]{2}/.test(word) || !around.rects || around.rects.length < 2) return;
+    if (box.pseudo !== '::after' || !around || around.used.display !== 'inline' || !/[^\s]{2}/.test(word) || !around.rects ||
+      around.rects.length < 2) return;
     if (!/break-word|anywhere/.test(used['overflow-wrap']) && used['word-break'] !== 'break-word') return;
-    const edge = ['padding-right', 'border-right-width', 'margin-right'].reduce((sum, name) => sum + float(used[name]) + float(around.used[name]), 0);
-    const last = around.rects[around.rects.length - 1], before = around.rects[around.rects.length - 2], letter = float(used['letter-spacing']);
+    const edge = ['padding-right', 'border-right-width', 'margin-right'].reduce((sum, name) => sum + float(used[name]) +
+      float(around.used[name]), 0);
+    const last = around.rects[around.rects.length - 1], before = around.rects[around.rects.length - 2],
+      letter = float(used['letter-spacing']);
     const clusters = job.clusters(word), size = float(used['font-size']) / 1000;
     let tail = last[2] - edge, at = word.length, k = clusters.length;
     if (last[1] < before[1] + 1) return;
@@ -611,7 +617,8 @@
     job.range.setStart(item.element, from); job.range.setEnd(item.element, to);
     const rects = [...job.range.getClientRects()].filter(part => part.width > 0);
     if (rects.length !== 1) return;
-    const edge = block.rect[0] + block.rect[2] - float(block.used['border-right-width']) - float(block.used['padding-right']) - job.scrollX - item.scrolled[0];
+    const edge = block.rect[0] +
+      block.rect[2] - float(block.used['border-right-width']) - float(block.used['padding-right']) - job.scrollX - item.scrolled[0];
     const space = pen.solid ? 0 : pen.space + pen.letter, left = Math.floor((edge - end.right - rects[0].width) * 64) - space;
     if (left < 0 || left >= 64) return;
     const advance = Math.ceil((lastOfLine.units + left + 3) * 1000 / pen.fontSize);
@@ -674,7 +681,8 @@
   // What is being made of one item: its declarations `style`, and what its children inherit.
   function startStyle(job, item, inherited) {
     const computed = item.computed, options = job.options;
-    const frozen = options.freeze && item.up && !isOut(computed.position) && (FROZEN.test(item.up.used.display) || legendOf(item.up) === item);
+    const frozen = options.freeze && item.up && !isOut(computed.position) && (FROZEN.test(item.up.used.display) ||
+      legendOf(item.up) === item);
     return { job, item, computed, used: item.used, at: item.element, style: {}, before: inherited, inherited: {}, frozen,
       isRoot: !item.up, isReplaced: item.kind === 'replaced', display: computed.display, position: computed.position, overflow: null };
   }
@@ -783,7 +791,8 @@
     let up = item.up;
     while (up.up && up.used.display === 'inline') up = up.up;
     if (!up.rect || FROZEN.test(up.used.display)) return false;
-    const room = up.rect[2] - edgesOf(up.used, 'width') - Math.max(0, float(used['margin-left'])) - Math.max(0, float(used['margin-right']));
+    const room = up.rect[2] - edgesOf(up.used, 'width') - Math.max(0, float(used['margin-left'])) - Math.max(0,
+      float(used['margin-right']));
     const limit = lengthText(computed['max-width'], ['none']), most = /px$/.test(limit) ? float(limit) + edgesOf(used, 'width') : room;
     return item.rect[2] < Math.min(room, most) - 1 / 32 && !/%$/.test(limit || '');
   }
@@ -1076,8 +1085,10 @@
     if (!job.options.paint || item.wrapper) return;
     const style = job.win.getComputedStyle(item.element, item.pseudo || null), { element } = item;
     const source = item.kind === 'replaced' ? `${element.localName} ${element.currentSrc || element.src || element.outerHTML}` : '';
-    job.paint[item.id] = { background: style.backgroundColor, image: style.backgroundImage, borders: SIDES.map(side => style.getPropertyValue(`border-${side}-color`)),
-      color: style.color, opacity: style.opacity, outline: style.outlineStyle === 'none' ? '' : `${style.outlineColor} ${style.outlineWidth}`, source };
+    job.paint[item.id] = { background: style.backgroundColor, image: style.backgroundImage,
+      borders: SIDES.map(side => style.getPropertyValue(`border-${side}-color`)),
+      color: style.color, opacity: style.opacity, outline: style.outlineStyle === 'none' ? '' :
+        `${style.outlineColor} ${style.outlineWidth}`, source };
   }
   // What to add to the y and the height of a text or inline box of another font than the face's before comparing.
   function saveFit(job, item, font) {

@@ -13,10 +13,13 @@ export const frozenOf = warnings => warnings.filter(({ what }) => /frozen|used v
 
 // The differences with what helps to find them: a selector, the element's name, and the rules of docs/BROWSERS.md that may be their cause.
 async function told(tab, answer, { off, first }) {
-  const list = off.slice(0, SHOWN), innermost = new Set(first.map(({ id }) => id)), nodes = new Map(answer.run.nodes.map(node => [node.id, node]));
+  const list = off.slice(0, SHOWN), innermost = new Set(first.map(({ id }) => id)),
+    nodes = new Map(answer.run.nodes.map(node => [node.id, node]));
   const selectors = list.length ? await tab.evaluate(SELECTORS(list.map(({ id }) => id))) : [];
-  return list.map((difference, i) => ({ node: difference.id, kind: difference.kind, selector: selectors[i], tag: nodes.get(difference.id).tag || '',
-    innermost: innermost.has(difference.id), near: difference.near, inParent: difference.inParent, browser: difference.browser, lay: difference.lay,
+  return list.map((difference, i) => ({ node: difference.id, kind: difference.kind, selector: selectors[i],
+    tag: nodes.get(difference.id).tag || '',
+    innermost: innermost.has(difference.id), near: difference.near, inParent: difference.inParent, browser: difference.browser,
+      lay: difference.lay,
     rules: innermost.has(difference.id) ? rulesOf(nodes, nodes.get(difference.id)).map(rule => rule.anchor) : [] }));
 }
 function verdictOf(sum, refused) {
@@ -32,7 +35,8 @@ export async function judge(opener, task, wantsPicture) {
     const refused = !report.startsWith('publish'), compared = refused ? { counts: {}, off: [], first: [] } : compare(answer, report);
     const sum = sums(compared.counts), differences = await told(tab, answer, compared);
     const result = { page: task.page, name: task.name, width: task.width, height: task.height, browser: opener.version, mode,
-      verdict: verdictOf(sum, refused), fault: refused ? report.trim() : '', nodes: answer.info.nodes, fonts: answer.info.fonts, milliseconds, unchanged,
+      verdict: verdictOf(sum, refused), fault: refused ? report.trim() : '', nodes: answer.info.nodes, fonts: answer.info.fonts,
+        milliseconds, unchanged,
       ...sum, differing: compared.off.length, differences, warnings: answer.warnings };
     const bottom = Math.max(0, ...Object.values(answer.rects).map(rects => Math.max(...rects.map(rect => rect[1] + rect[3])))) / 64;
     const pictures = wantsPicture(result) ? await opener.pictures(tab, task.width, task.height, bottom + 20) : [];

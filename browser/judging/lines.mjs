@@ -6,7 +6,8 @@ import { indexPage } from './index_page.mjs';
 import { share, totalOf } from './totals.mjs';
 
 const FIRST = 10;
-export const headOf = (options, pages) => ({ shard: options.shard || '1/1', pages, of: options.whole, widths: options.widths, browser: options.browser });
+export const headOf = (options, pages) => ({ shard: options.shard || '1/1', pages, of: options.whole, widths: options.widths,
+  browser: options.browser });
 // What a line keeps of a result: the counts, the kinds of warnings, and the first innermost differences.
 export function lineOf(result) {
   const { differences, warnings, ...rest } = result;
@@ -17,14 +18,17 @@ export function lineOf(result) {
 export function sayPage(result) {
   const { blocks, texts, inlines, verdict } = result, at = `${result.name} (${result.width} px${result.mode ? ', ' + result.mode : ''})`;
   if (verdict === 'failed' || verdict === 'refused') return `${at}: ${verdict}: ${result.fault}`;
-  const frozen = frozenOf(result.warnings).map(warning => `${shortly(warning)} ${warning.count}`), others = result.warnings.length - frozen.length;
+  const frozen = frozenOf(result.warnings).map(warning => `${shortly(warning)} ${warning.count}`),
+    others = result.warnings.length - frozen.length;
   return `${at}: blocks ${blocks.exact} of ${blocks.all} to 1/32 px, ${blocks.near} to 1 px, ${blocks.within} within the parent; ` +
-    `texts ${texts.exact} of ${texts.all}; inline boxes ${inlines.exact} of ${inlines.all}` + (frozen.length ? `; frozen: ${frozen.join(', ')}` : '') +
+    `texts ${texts.exact} of ${texts.all}; inline boxes ${inlines.exact} of ${inlines.all}` +
+      (frozen.length ? `; frozen: ${frozen.join(', ')}` : '') +
     (others ? `; ${others} other ${others === 1 ? 'warning' : 'warnings'}` : '') + (result.unchanged ? '' : '; THE PAGE WAS CHANGED');
 }
 export function sayTotal(results) {
   const widths = [...new Set(results.map(({ width }) => width))].sort((a, b) => a - b);
-  const parts = widths.length > 1 ? [...widths.map(width => [`${width} px`, results.filter(result => result.width === width)]), ['all', results]] : [['all', results]];
+  const parts = widths.length > 1 ? [...widths.map(width => [`${width} px`, results.filter(result => result.width === width)]),
+    ['all', results]] : [['all', results]];
   return parts.map(([title, list]) => {
     const { pages, whole, differs, refused, failed, blocks, texts, inlines } = totalOf(list);
     return `${title}: ${pages} pages, ${whole} whole, ${differs} differ, ${refused} refused, ${failed} failed; blocks ${blocks.exact} of ${blocks.all}` +
@@ -47,7 +51,8 @@ export function join(options) {
   const values = options.files.flatMap(file => readFileSync(file, 'utf8').split('\n').filter(Boolean).map(line => JSON.parse(line)));
   const heads = values.filter(value => value.shard !== undefined), results = values.filter(value => value.verdict !== undefined);
   results.sort((a, b) => (a.page < b.page ? -1 : a.page > b.page ? 1 : a.width - b.width));
-  for (const { name, width, verdict, fault } of results) if (verdict !== 'whole') console.log(`${name} (${width} px): ${verdict}${fault ? ': ' + fault : ''}`);
+  for (const { name, width, verdict,
+    fault } of results) if (verdict !== 'whole') console.log(`${name} (${width} px): ${verdict}${fault ? ': ' + fault : ''}`);
   if (options.out) {
     mkdirSync(options.out, { recursive: true });
     writeFileSync(path(options.out, 'pages.jsonl'), results.map(value => JSON.stringify(value) + '\n').join(''));

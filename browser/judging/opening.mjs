@@ -40,14 +40,16 @@ export class Opener {
     } catch (error) { await this.shut(tab); throw error; }
   }
   inStandardsMode(file) {
-    const text = readFileSync(file, 'latin1').replace(/<\?xml[^>]*>|<!doctype[^>]*>/gi, ''), copy = join(this.folder, `page${++this.copies}.html`);
+    const text = readFileSync(file, 'latin1').replace(/<\?xml[^>]*>|<!doctype[^>]*>/gi, ''),
+      copy = join(this.folder, `page${++this.copies}.html`);
     writeFileSync(copy, `<!doctype html><base href="${pathToFileURL(resolve(file)).href}">` + text, 'latin1');
     return pathToFileURL(copy).href;
   }
   // The page as PNGs, [{ top, data }], up to a height that browsers paint: as one, where it looks the same in a window as high as it is,
   // else by windows, to which it is scrolled.
   async pictures(tab, width, height, bottom) {
-    if (this.isFirefox) return [{ top: 0, data: Buffer.from((await tab.send('WebDriver:TakeScreenshot', { full: true })).value, 'base64') }];
+    if (this.isFirefox) return [{ top: 0, data: Buffer.from((await tab.send('WebDriver:TakeScreenshot', { full: true })).value,
+      'base64') }];
     const whole = Math.min(TALLEST, Math.max(height, Math.ceil(bottom))), before = await tab.evaluate(PLACES);
     await tab.resize(width, whole);
     if (before === await tab.evaluate(PLACES)) return [{ top: 0, data: await tab.picture() }];

@@ -14,15 +14,18 @@ function inheritedOf(nodes, node, name, initial) {
 
 // The nodes with their children, and the pieces of each.
 function sceneOf(answer, report) {
-  const tree = views.Reading.readReport(report).shown.at(-1), nodes = views.Reading.nodesAt(answer.run, [], 0), boxes = new Map(), texts = new Map();
+  const tree = views.Reading.readReport(report).shown.at(-1), nodes = views.Reading.nodesAt(answer.run, [], 0), boxes = new Map(),
+    texts = new Map();
   views.Texts.give(nodes, tree.pieces, answer.run.face);
   for (const piece of tree.pieces) {
-    const list = piece.word === 'box' ? boxes : piece.word === 'text' ? texts : null, rect = [piece.x, piece.y, piece.width, piece.height].map(value => value * PX);
+    const list = piece.word === 'box' ? boxes : piece.word === 'text' ? texts : null, rect = [piece.x, piece.y, piece.width,
+      piece.height].map(value => value * PX);
     if (list) list.set(piece.node, [...(list.get(piece.node) || []), { part: piece.part, rect, glyphs: piece.glyphs }]);
   }
   return { nodes, boxes, texts, paint: answer.paint, viewport: answer.run.viewport.map(side => side * PX), items: [] };
 }
-const bordersOf = node => SIDES.map(side => /^(none|hidden)$/.test(styleOf(node, `border-${side}-style`, 'none')) ? 0 : pixels(styleOf(node, `border-${side}-width`, '3px')));
+const bordersOf = node => SIDES.map(side => /^(none|hidden)$/.test(styleOf(node, `border-${side}-style`, 'none')) ? 0 :
+  pixels(styleOf(node, `border-${side}-width`, '3px')));
 const meet = ([x, y, width, height], other) => {
   if (!other) return [x, y, width, height];
   const left = Math.max(x, other[0]), top = Math.max(y, other[1]);
@@ -45,7 +48,8 @@ function push(scene, node, rect, token, glyphs) {
   const [x, y, width, height] = meet(rect, clipOf(scene, node));
   if (width > 0 && height > 0) scene.items.push({ rect: [x, y, width, height], token, glyphs });
 }
-const isHidden = (scene, node) => inheritedOf(scene.nodes, node, 'visibility', 'visible') !== 'visible' || scene.paint[node.id]?.opacity === '0';
+const isHidden = (scene, node) => inheritedOf(scene.nodes, node, 'visibility', 'visible') !== 'visible' ||
+  scene.paint[node.id]?.opacity === '0';
 
 // Background and borders of a box; of an inline box the sides where it is broken have none.
 function paintBox(scene, node) {
@@ -58,7 +62,8 @@ function paintBox(scene, node) {
       inline && (side === 3 && i > 0 || side === 1 && i < parts.length - 1) ? 0 : edge);
     if (!isClear(paint.background)) push(scene, node, rect, paint.background);
     if (paint.image !== 'none') push(scene, node, rect, paint.image);
-    const sides = [[x, y, width, top], [x + width - right, y, right, height], [x, y + height - bottom, width, bottom], [x, y, left, height]];
+    const sides = [[x, y, width, top], [x + width - right, y, right, height], [x, y + height - bottom, width, bottom],
+      [x, y, left, height]];
     sides.forEach((side, k) => { if (!isClear(paint.borders[k])) push(scene, node, side, paint.borders[k]); });
     if (paint.source) push(scene, node, [x + left, y + top, width - left - right, height - top - bottom], paint.source);
   });
@@ -91,7 +96,8 @@ function paintContext(scene, node) {
   for (const kid of floats) paintContext(scene, kid);
   for (const kid of inlines) {
     const display = styleOf(kid, 'display', 'inline');
-    if (kid.kind === 'text') paintText(scene, kid); else if (display === 'inline' && kid.kind === 'element') paintBox(scene, kid); else paintContext(scene, kid);
+    if (kid.kind === 'text') paintText(scene, kid); else if (display === 'inline' && kid.kind === 'element') paintBox(scene,
+      kid); else paintContext(scene, kid);
   }
   for (const [, kid] of [...same, ...above]) paintContext(scene, kid);
 }
@@ -105,17 +111,20 @@ export function painted(answer, report) {
   return { items: scene.items, viewport: scene.viewport };
 }
 
-const holds = (outer, inner) => outer[0] <= inner[0] && outer[1] <= inner[1] && outer[0] + outer[2] >= inner[0] + inner[2] && outer[1] + outer[3] >= inner[1] + inner[3];
+const holds = (outer, inner) => outer[0] <= inner[0] && outer[1] <= inner[1] && outer[0] + outer[2] >= inner[0] + inner[2] && outer[1] +
+  outer[3] >= inner[1] + inner[3];
 // The texts that can be seen, those side by side on one line as one.
 function runsOf({ items, viewport }) {
-  const seen = items.filter(({ rect, glyphs }, i) => glyphs && rect[0] < viewport[0] && rect[1] < viewport[1] && rect[0] + rect[2] > 0 && rect[1] + rect[3] > 0 &&
+  const seen = items.filter(({ rect, glyphs }, i) => glyphs && rect[0] < viewport[0] && rect[1] < viewport[1] && rect[0] + rect[2] > 0 &&
+    rect[1] + rect[3] > 0 &&
     !items.slice(i + 1).some(later => !later.glyphs && holds(later.rect, rect)));
   const runs = seen.map(({ rect, token, glyphs }) => ({ rect: [...rect], token, glyphs }))
     .sort((a, b) => a.rect[1] - b.rect[1] || a.rect[0] - b.rect[0]);
   const joined = [];
   for (const run of runs) {
     const last = joined[joined.length - 1], gap = last && run.rect[0] - last.rect[0] - last.rect[2];
-    const meets = last && last.token === run.token && Math.abs(last.rect[1] - run.rect[1]) <= TOLERANCE && Math.abs(last.rect[3] - run.rect[3]) <= TOLERANCE && Math.abs(gap) <= TOLERANCE;
+    const meets = last && last.token === run.token && Math.abs(last.rect[1] - run.rect[1]) <= TOLERANCE &&
+      Math.abs(last.rect[3] - run.rect[3]) <= TOLERANCE && Math.abs(gap) <= TOLERANCE;
     if (meets) { last.rect[2] += run.rect[2] + gap; last.glyphs += run.glyphs; } else joined.push(run);
   }
   return joined.map(run => ({ ...run, glyphs: run.glyphs.replace(/\s+$/, '') }));
@@ -131,7 +140,8 @@ function differentTexts(one, other) {
 }
 // Edges of all rectangles on one axis, those within the tolerance as one.
 function edgesOf(rects, axis, most) {
-  const all = rects.flatMap(rect => [rect[axis], rect[axis] + rect[axis + 2]]).concat(0, most).filter(edge => edge >= 0 && edge <= most).sort((a, b) => a - b);
+  const all = rects.flatMap(rect => [rect[axis], rect[axis] + rect[axis + 2]]).concat(0, most).filter(edge => edge >= 0 &&
+    edge <= most).sort((a, b) => a - b);
   return all.filter((edge, i) => i === 0 || edge - all[i - 1] > 0);
 }
 function topmost(items, x, y) {
@@ -142,7 +152,8 @@ function topmost(items, x, y) {
   return '';
 }
 function differentFills(one, other) {
-  const [first, second] = [one, other].map(({ items }) => items.filter(({ glyphs }) => !glyphs)), rects = [...first, ...second].map(({ rect }) => rect), found = [];
+  const [first, second] = [one, other].map(({ items }) => items.filter(({ glyphs }) => !glyphs)),
+    rects = [...first, ...second].map(({ rect }) => rect), found = [];
   const xs = edgesOf(rects, 0, one.viewport[0]), ys = edgesOf(rects, 1, one.viewport[1]);
   for (let j = 0; j + 1 < ys.length; j++) for (let i = 0; i + 1 < xs.length; i++) {
     const width = xs[i + 1] - xs[i], height = ys[j + 1] - ys[j], x = xs[i] + width / 2, y = ys[j] + height / 2;

@@ -21,8 +21,8 @@ function starter(options) {
 }
 function failure(task, error) {
   const none = { all: 0, exact: 0, near: 0, within: 0 };
-  return { page: task.page, name: task.name, width: task.width, height: task.height, verdict: 'failed', fault: error.message.slice(0, 400), nodes: 0,
-    blocks: none, texts: none, inlines: none, differing: 0, differences: [], warnings: [] };
+  return { page: task.page, name: task.name, width: task.width, height: task.height, verdict: 'failed', fault: error.message.slice(0, 400),
+    nodes: 0, blocks: none, texts: none, inlines: none, differing: 0, differences: [], warnings: [] };
 }
 async function judgeOne(browsers, options, task) {
   const wants = result => Boolean(options.out) && (!options.differing || result.verdict !== 'whole');
@@ -32,7 +32,8 @@ async function judgeOne(browsers, options, task) {
       if (wants(judged.result)) writeResults(options.out, judged);
       return judged.result;
     } catch (error) {
-      if (tries === 1 || !/ended|closed|crash/i.test(error.message)) return failure(task, error);      // a browser that ended takes other pages along
+      // a browser that ended takes other pages along
+      if (tries === 1 || !/ended|closed|crash/i.test(error.message)) return failure(task, error);
     }
   }
 }

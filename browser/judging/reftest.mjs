@@ -20,7 +20,8 @@ function namedBy(file) {
 // [test, reference, whether it has to look otherwise] of all that is asked for.
 function pairsOf({ files, mismatch }) {
   const [first, second] = files;
-  if (files.length === 2 && !statSync(first).isDirectory() && !namedBy(first).some(([file]) => resolve(file) !== resolve(second) && resolve(first) === resolve(second))) {
+  if (files.length === 2 && !statSync(first).isDirectory() && !namedBy(first).some(([file]) => resolve(file) !== resolve(second) &&
+    resolve(first) === resolve(second))) {
     return [[first, second, Boolean(mismatch)]];
   }
   const tests = files.flatMap(file => (statSync(file).isDirectory() ? pagesIn(file) : [file]));

@@ -7,7 +7,8 @@ function draw() {
   const bad = new Set(data.differences.map(({ node }) => node));
   const parts = data.pieces.filter(([, node]) => !bad.has(node)).map(([kind, node, ...rect]) => rectText(kind, node, rect));
   for (const { node, browser, lay, innermost } of data.differences) {
-    parts.push(...browser.map(rect => rectText('browser', node, rect)), ...lay.map(rect => rectText(innermost ? 'lay innermost' : 'lay', node, rect)));
+    parts.push(...browser.map(rect => rectText('browser', node, rect)), ...lay.map(rect =>
+      rectText(innermost ? 'lay innermost' : 'lay', node, rect)));
   }
   const bottom = Math.max(1, ...data.pieces.map(piece => piece[3] + piece[5])) / 64;
   stage.insertAdjacentHTML('beforeend', `<svg width="${data.width}" height="${bottom}">${parts.join('')}</svg>`);
@@ -26,6 +27,7 @@ addEventListener('click', event => {
   mark(at.dataset.node, !at.closest('svg'));
   if (at.closest('svg')) document.querySelector(`tr[data-node="${at.dataset.node}"]`)?.scrollIntoView({ block: 'nearest' });
 });
-for (const radio of document.querySelectorAll('[name=show]')) radio.onchange = () => { stage.classList.remove('browser', 'lay'); stage.classList.add(radio.value); };
+for (const radio of document.querySelectorAll('[name=show]')) radio.onchange = () =>
+  { stage.classList.remove('browser', 'lay'); stage.classList.add(radio.value); };
 document.getElementById('all').onchange = event => stage.classList.toggle('fewer', !event.target.checked);
 document.getElementById('mode').onchange = event => { document.documentElement.dataset.mode = event.target.value; };

@@ -8,7 +8,8 @@ const [style, script] = ['result.css', 'result.js'].map(name => readFileSync(new
 const BROWSERS = new URL('../../docs/BROWSERS.md', import.meta.url).href;
 export const escaped = text => String(text).replace(/[&<>"]/g, c => ({ '&': '&amp;', '<': '&lt;', '>': '&gt;', '"': '&quot;' }[c]));
 const px = units => String(Math.round(units / 64 * 1000) / 1000);
-const place = rects => rects.length ? rects.slice(0, 4).map(([x, y, width, height]) => `${px(x)}, ${px(y)}<wbr> ${px(width)} × ${px(height)}`).join('<br>') +
+const place = rects => rects.length ? rects.slice(0, 4).map(([x, y, width, height]) =>
+  `${px(x)}, ${px(y)}<wbr> ${px(width)} × ${px(height)}`).join('<br>') +
   (rects.length > 4 ? '<br>…' : '') : 'none';
 
 // What the page's script draws: each box and text of the report, and the rectangles of both for those that differ.
@@ -18,7 +19,8 @@ function dataOf(result, answer, report) {
     const [word, node] = key.split(' ');
     for (const rect of rects) pieces.push([word === 'text' ? 't' : 'b', +node, ...rect]);
   }
-  const differences = result.differences.map(({ node, kind, browser, lay, near, innermost }) => ({ node, kind, browser, lay, near, innermost }));
+  const differences = result.differences.map(({ node, kind, browser, lay, near, innermost }) =>
+    ({ node, kind, browser, lay, near, innermost }));
   return JSON.stringify({ pieces, differences, width: result.width }).replace(/</g, '\\u003c');
 }
 function differenceRow({ node, kind, selector, tag, browser, lay, near, inParent, innermost, rules }) {
@@ -28,11 +30,13 @@ function differenceRow({ node, kind, selector, tag, browser, lay, near, inParent
     `<small>${escaped(words)}</small>${links ? `<br><small>see ${links}</small>` : ''}</td><td>${place(lay)}</td><td>${place(browser)}</td></tr>`;
 }
 function warningRow({ what, count, places }) {
-  const links = places.map(({ node, selector }) => `<span${node ? ` data-node="${node}"` : ''} title="${escaped(selector)}">${escaped(node || selector)}</span>`);
+  const links = places.map(({ node, selector }) =>
+    `<span${node ? ` data-node="${node}"` : ''} title="${escaped(selector)}">${escaped(node || selector)}</span>`);
   return `<li>${escaped(what)}: ${count}<div class="places">${links.join(' ')}${count > places.length ? ' …' : ''}</div></li>`;
 }
 function counts({ blocks, texts, inlines }) {
-  const line = (name, { all, exact, near, within }) => `<tr><th>${name}</th><td>${exact}</td><td>${near}</td><td>${within}</td><td>${all}</td></tr>`;
+  const line = (name, { all, exact, near, within }) =>
+    `<tr><th>${name}</th><td>${exact}</td><td>${near}</td><td>${within}</td><td>${all}</td></tr>`;
   return '<table class="counts"><tr><th></th><th>1/32 px</th><th>1 px</th><th>in parent</th><th>all</th></tr>' +
     `${line('blocks', blocks)}${line('texts', texts)}${line('inline boxes', inlines)}</table>`;
 }

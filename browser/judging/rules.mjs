@@ -9,7 +9,8 @@ const isFixed = node => isTable(node) && is(node, 'table-layout', /fixed/) && ha
 const isAutomatic = node => isTable(node) && !isFixed(node);
 const isCell = node => is(node, 'display', /^table-cell$/);
 const isSolid = node => node.kind === 'replaced' || isTable(node) || is(node, 'overflow', /hidden|scroll|auto/);
-const isInline = node => node.kind === 'element' && !has(node, 'display') && node.parent !== 0 && !isOut(node) && !is(node, 'float', /left|right/);
+const isInline = node => node.kind === 'element' && !has(node, 'display') && node.parent !== 0 && !isOut(node) &&
+  !is(node, 'float', /left|right/);
 
 // A node, and those above it, from itself on.
 function* upwards(nodes, node) { for (let up = node; up; up = nodes.get(up.parent)) yield up; }
@@ -27,8 +28,10 @@ const RULES = [
     (!has(up, 'left') && !has(up, 'right') || !has(up, 'top') && !has(up, 'bottom')))],
   ['Percent heights between top and bottom', (nodes, node) => someAbove(nodes, node, up => is(up, 'height', /%/)) &&
     someAbove(nodes, node, up => isOut(up) && has(up, 'top', 'bottom'))],
-  ['Positioned cells', (nodes, node) => someAbove(nodes, node, up => is(up, 'display', /^table-(cell|row|caption|row-group)/) && is(up, 'position', /relative/))],
-  ['Inline containing blocks', (nodes, node) => someAbove(nodes, node, isOut) && someAbove(nodes, node, up => isInline(up) && has(up, 'position'))],
+  ['Positioned cells', (nodes, node) => someAbove(nodes, node, up => is(up, 'display', /^table-(cell|row|caption|row-group)/) &&
+    is(up, 'position', /relative/))],
+  ['Inline containing blocks', (nodes, node) => someAbove(nodes, node, isOut) && someAbove(nodes, node, up => isInline(up) &&
+    has(up, 'position'))],
   ['Last margin and min-height', (nodes, node) => someAbove(nodes, node, up => has(up, 'min-height')) ||
     kidsOf(nodes, { id: node.parent }).some(other => has(other, 'min-height'))],
   ['Clear of a table', (nodes, node) => someAbove(nodes, node, up => isTable(up) && has(up, 'clear'))],

@@ -8,7 +8,8 @@ const FLAGS = ['--headless', '--no-sandbox', '--disable-gpu', '--remote-debuggin
   '--force-device-scale-factor=1', '--hide-scrollbars', '--no-first-run', '--disable-background-networking',
   '--disable-component-update', '--disable-sync', '--disable-extensions', '--mute-audio', '--disable-dev-shm-usage',
   '--allow-file-access-from-files', '--disable-renderer-backgrounding',
-  '--disable-backgrounding-occluded-windows', '--disable-background-timer-throttling', '--host-resolver-rules=MAP * ~NOTFOUND', '--window-size=800,600'];
+  '--disable-backgrounding-occluded-windows', '--disable-background-timer-throttling', '--host-resolver-rules=MAP * ~NOTFOUND',
+    '--window-size=800,600'];
 const LIMIT = Number(process.env.LAY_SECONDS || 60) * 1000;
 
 export const pause = milliseconds => new Promise(done => setTimeout(done, milliseconds));

@@ -22,7 +22,8 @@ export function joined(rects) {
   const list = [];
   for (const rect of rects) {
     const last = list[list.length - 1];
-    const meets = last && Math.abs(last[1] - rect[1]) <= EXACT && Math.abs(last[3] - rect[3]) <= EXACT && Math.abs(last[0] + last[2] - rect[0]) <= EXACT;
+    const meets = last && Math.abs(last[1] - rect[1]) <= EXACT && Math.abs(last[3] - rect[3]) <= EXACT &&
+      Math.abs(last[0] + last[2] - rect[0]) <= EXACT;
     if (meets) list[list.length - 1] = [last[0], last[1], rect[0] + rect[2] - last[0], last[3]]; else list.push(rect);
   }
   return list;

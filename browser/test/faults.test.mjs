@@ -66,12 +66,14 @@ test('Firefox: each page is within 1 px from the corner of the parent', { skip: 
   try {
     await browser.resize(800, 700);
     for (const [name, warnings] of PAGES) {
-      const { answer, sum, off } = await exported(browser, name), where = `${name}: ${JSON.stringify(off.filter(({ near }) => !near).slice(0, 3))}`;
+      const { answer, sum, off } = await exported(browser, name),
+        where = `${name}: ${JSON.stringify(off.filter(({ near }) => !near).slice(0, 3))}`;
       assert.deepEqual(told(answer), warnings, where);
       assert.equal(sum.blocks.near, sum.blocks.all, where);
     }
   } finally { await browser.close(); }
 });
 test('rectangles side by side on one line are one', () => {
-  assert.deepEqual(joined([[0, 0, 64, 64], [65, 1, 10, 64], [80, 0, 10, 64], [0, 70, 5, 64]]), [[0, 0, 75, 64], [80, 0, 10, 64], [0, 70, 5, 64]]);
+  assert.deepEqual(joined([[0, 0, 64, 64], [65, 1, 10, 64], [80, 0, 10, 64], [0, 70, 5, 64]]),
+    [[0, 0, 75, 64], [80, 0, 10, 64], [0, 70, 5, 64]]);
 });

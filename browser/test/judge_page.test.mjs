@@ -22,7 +22,8 @@ writeFileSync(bad, '<!doctype html><meta charset=utf-8><p id=moved style="transf
 
 test('words: help, none, wrong ones', async () => {
   assert.match((await judge('--help')).stdout, /^browser\/judge_page PAGE\.html/);
-  for (const words of [[], ['--what', bad], ['--width', 'x', bad], ['--shard', '3/2', bad], ['--browser', 'other', bad], [bad, '--width'], [join(folder, 'none.html')]]) {
+  for (const words of [[], ['--what', bad], ['--width', 'x', bad], ['--shard', '3/2', bad], ['--browser', 'other', bad], [bad, '--width'],
+    [join(folder, 'none.html')]]) {
     const { status, stderr } = await judge(...words);
     assert.equal(status, 2, words.join(' '));
     assert.ok(stderr.length > 5);
@@ -34,7 +35,8 @@ test('a page that is whole: a line and status 0', { skip }, async () => {
   assert.equal(status, 0);
 });
 test('a page that differs: JSON, a page with both rectangles, and status 1', { skip }, async () => {
-  const out = join(folder, 'out'), { status, stdout } = await judge(bad, '--out', out), result = JSON.parse(readFileSync(join(out, 'bad.json')));
+  const out = join(folder, 'out'), { status, stdout } = await judge(bad, '--out', out),
+    result = JSON.parse(readFileSync(join(out, 'bad.json')));
   assert.equal(status, 1);
   assert.match(stdout, /texts 2 of 3.*1 other warning/);
   assert.equal(result.verdict, 'differs');
@@ -50,7 +52,8 @@ test('a page that differs: JSON, a page with both rectangles, and status 1', { s
     const seen = await page.evaluate(`({ red: document.querySelectorAll('#stage .lay').length, orange: document.querySelectorAll('#stage .browser').length,
       rows: document.querySelectorAll('.differences tr[data-node]').length, warnings: document.querySelectorAll('aside li').length,
       picture: document.querySelector('#stage img').naturalWidth, boxes: document.querySelectorAll('#stage .b').length })`);
-    assert.equal(seen.red, 1); assert.equal(seen.orange, 1); assert.equal(seen.rows, 1); assert.equal(seen.warnings, 1); assert.equal(seen.picture, 800);
+    assert.equal(seen.red, 1); assert.equal(seen.orange, 1); assert.equal(seen.rows, 1); assert.equal(seen.warnings,
+      1); assert.equal(seen.picture, 800);
     assert.ok(seen.boxes >= 4);
     const states = await page.evaluate(`['browser', 'lay', 'both'].map(value => { const radio = document.querySelector('[value=' + value + ']'); radio.click();
       return [getComputedStyle(document.querySelector('#stage svg')).visibility, getComputedStyle(document.querySelector('#stage img')).visibility]; })`);
@@ -60,13 +63,15 @@ test('a page that differs: JSON, a page with both rectangles, and status 1', { s
   } finally { await browser.close(); }
 });
 test('a difference that BROWSERS names has a link there', { skip }, async () => {
-  const out = join(folder, 'named'), { status } = await judge(join(pages, 'clearance.html'), '--out', out), result = JSON.parse(readFileSync(join(out, 'clearance.json')));
+  const out = join(folder, 'named'), { status } = await judge(join(pages, 'clearance.html'), '--out', out),
+    result = JSON.parse(readFileSync(join(out, 'clearance.json')));
   assert.equal(status, 1);
   assert.ok(result.differences.some(({ rules }) => rules.includes('clearance')), JSON.stringify(result.differences));
   assert.match(readFileSync(join(out, 'clearance.html'), 'utf8'), /docs\/BROWSERS\.md#clearance/);
 });
 test('each rule is a heading of docs/BROWSERS.md', { skip: !existsSync(new URL('../../docs/BROWSERS.md', import.meta.url)) }, () => {
-  const headings = [...readFileSync(new URL('../../docs/BROWSERS.md', import.meta.url), 'utf8').matchAll(/^#+ +(.+?) *$/gm)].map(match => match[1]);
+  const headings = [...readFileSync(new URL('../../docs/BROWSERS.md', import.meta.url), 'utf8').matchAll(/^#+ +(.+?) *$/gm)].map(match =>
+    match[1]);
   for (const title of TITLES) assert.ok(headings.includes(title), title);
 });
 test('shards of a folder put together are the whole', { skip }, async () => {

@@ -34,7 +34,8 @@ async function judge(browser, width) {
     const at = seen.get(node.tag) || 0, parts = pieces.get('box ' + node.id) || [], theirs = rects[names.indexOf(node.tag)][at];
     seen.set(node.tag, at + 1);
     const ours = node.tag === 'table' && parts.length > 1 && Math.abs(parts[0][3] - theirs[3]) > 64 ? parts[1] : parts[0];
-    found.push({ tag: node.tag, at, ours, theirs, alike: Boolean(ours && theirs) && ours.every((value, k) => Math.abs(value - theirs[k]) <= 64) });
+    found.push({ tag: node.tag, at, ours, theirs, alike: Boolean(ours && theirs) && ours.every((value, k) =>
+      Math.abs(value - theirs[k]) <= 64) });
   }
   await page.close();
   return found;

@@ -30,7 +30,8 @@ test('a document and its report, from the disk without a server', { skip }, asyn
 });
 test('edits in a batch are made', { skip }, async () => {
   const run = { viewport: [800, 600], nodes: [block(1, 0), block(2, 1, { height: '50px' })],
-    editors: [[{ do: 'batch', edits: [{ ...block(5, 1, { height: '10px' }), do: 'insert', index: 1 }, { do: 'set', node: 5, property: 'width', value: '40px' }] }]] };
+    editors: [[{ do: 'batch', edits: [{ ...block(5, 1, { height: '10px' }), do: 'insert', index: 1 },
+      { do: 'set', node: 5, property: 'width', value: '40px' }] }]] };
   const seen = await shown([[JSON.stringify(run), laid(run, 'run')]], `[...state.nodes.keys(), state.nodes.get(5).style.width]`);
   assert.deepEqual(seen, [1, 2, 5, '40px']);
 });
@@ -113,8 +114,10 @@ test('labels stand on no other label, on no text and on no edge', { skip }, asyn
     const boxes = [...document.querySelectorAll('svg .label')].map(label => label.getBBox()), found = [];
     const meet = (a, b) => a.x < b.x + b.width - 1 && b.x < a.x + a.width - 1 && a.y + 3 < b.y + b.height && b.y + 3 < a.y + a.height;
     boxes.forEach((a, i) => boxes.slice(i + 1).forEach(b => { if (meet(a, b)) found.push([a.x, a.y, b.x, b.y]); }));
-    const edges = state.pieces.filter(piece => piece.word === 'box').flatMap(({ x, y, width, height }) => [[x, y, width, 0], [x, y + height, width, 0]]);
-    for (const box of boxes) for (const [x, y, width] of edges) if (y > box.y + 3 && y < box.y + box.height - 3 && x < box.x + box.width - 1 && x + width > box.x + 1) found.push([box.x, box.y, y]);
+    const edges = state.pieces.filter(piece => piece.word === 'box').flatMap(({ x, y, width, height }) =>
+      [[x, y, width, 0], [x, y + height, width, 0]]);
+    for (const box of boxes) for (const [x, y, width] of edges) if (y > box.y + 3 && y < box.y + box.height - 3 && x < box.x +
+      box.width - 1 && x + width > box.x + 1) found.push([box.x, box.y, y]);
     return [boxes.length, found]; })()`);
   assert.ok(faults[0] >= 3, String(faults[0]));
   assert.deepEqual(faults[1], []);

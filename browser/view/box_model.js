@@ -72,7 +72,8 @@ const BoxModel = (() => {
     const { nodes } = world;
     for (let up = nodes.get(node.parent); up; up = nodes.get(up.parent)) {
       const display = displayOf(nodes, up), clipped = Kinds.valueOf(nodes, up, 'overflow', 'visible') !== 'visible';
-      if (up.parent === 0 || Kinds.isAbsolute(nodes, up) || Kinds.isFloat(nodes, up) || /^(inline-block|table-cell|table-caption)$/.test(display) ||
+      if (up.parent === 0 || Kinds.isAbsolute(nodes, up) || Kinds.isFloat(nodes, up) ||
+        /^(inline-block|table-cell|table-caption)$/.test(display) ||
         clipped && /^(block|list-item)$/.test(display)) return up.id;
     }
     return null;
@@ -92,12 +93,14 @@ const BoxModel = (() => {
     if (!node || piece.word !== 'box' || piece.kind === 'anonymous') return null;
     const containing = containingBlock(world, node), parts = world.boxes.get(node.id) || [];
     let edges = [marginsOf(world, node, containing.width), bordersOf(world, node), paddingsOf(world, node, containing.width)];
-    if (isInline(world.nodes, node)) {                       // an inline box has its left edges on its first part, and its right ones on its last
+    if (isInline(world.nodes,
+      node)) {                       // an inline box has its left edges on its first part, and its right ones on its last
       const first = piece === parts[0], last = piece === parts[parts.length - 1];
       edges = edges.map(([top, right, bottom, left]) => [top, last ? right : 0, bottom, first ? left : 0]);
     }
     const [margin, border, padding] = edges, paddingBox = inside(piece, border);
-    return { margin, border, padding, marginBox: outside(piece, margin), borderBox: piece, paddingBox, contentBox: inside(paddingBox, padding),
+    return { margin, border, padding, marginBox: outside(piece, margin), borderBox: piece, paddingBox,
+      contentBox: inside(paddingBox, padding),
       containing, context: contextOf(world, node) };
   }
   return { worldOf, of, lengthOf, SIDES };

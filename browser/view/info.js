@@ -21,7 +21,8 @@ const Info = (() => {
     const style = Object.entries(declared).map(([name, value]) => `<code>${escaped(name)}: ${escaped(value)}</code>`).join('');
     const place = piece ? `<p>x ${piece.x}, y ${piece.y}, ${piece.width} × ${piece.height} px</p>` +
       `<p class="dim">${piece.word} ${node}, part ${piece.part}; pieces of this node: ${count}</p>` : '<p>no piece</p>';
-    const names = [known?.tag, known?.label && '#' + known.label, ...(known?.classes || []).map(name => '.' + name)].filter(Boolean).join(' ');
+    const names = [known?.tag, known?.label && '#' + known.label, ...(known?.classes || []).map(name => '.' +
+      name)].filter(Boolean).join(' ');
     return `<b>${piece ? Kinds.NAMES[piece.kind] : 'node'} ${node}</b> ${escaped(names)}${place}` +
       (known?.text !== undefined ? `<p>“${escaped((known.as ?? known.text).slice(0, 300))}”</p>` : '') +
       (model ? modelTable(model) + containingWords(model) : '') + style;
@@ -29,7 +30,8 @@ const Info = (() => {
   // The pieces that two trees differ in, each a place to click.
   function ofChanges(changes) {
     if (Changes.isSame(changes)) return '<p>Both trees are the same.</p>';
-    const lists = ['moved', 'resized', 'new'].map(word => [word, [...changes.words].filter(([, its]) => its === word).map(([piece]) => piece)]);
+    const lists = ['moved', 'resized', 'new'].map(word => [word, [...changes.words].filter(([, its]) => its === word).map(([piece]) =>
+      piece)]);
     lists.push(['gone', changes.gone]);
     return lists.filter(([, pieces]) => pieces.length).map(([word, pieces]) => {
       const nodes = [...new Set(pieces.map(piece => piece.node))];

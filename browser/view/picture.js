@@ -19,8 +19,10 @@ const Picture = (() => {
     const rows = new Map(), span = r => [Math.floor(r.y / 12), Math.floor((r.y + r.height) / 12)];
     const meets = (a, b) => a.x < b.x + b.width && b.x < a.x + a.width && a.y < b.y + b.height && b.y < a.y + a.height;
     return {
-      add(r) { const [first, last] = span(r); for (let k = first; k <= last; k++) { if (!rows.has(k)) rows.set(k, []); rows.get(k).push(r); } },
-      free(r) { const [first, last] = span(r); for (let k = first; k <= last; k++) if (rows.get(k)?.some(other => meets(r, other))) return false; return true; },
+      add(r) { const [first, last] = span(r); for (let k = first; k <= last; k++) { if (!rows.has(k)) rows.set(k,
+        []); rows.get(k).push(r); } },
+      free(r) { const [first, last] = span(r); for (let k = first; k <= last; k++) if (rows.get(k)?.some(other =>
+        meets(r, other))) return false; return true; },
     };
   }
   // What a label may not stand on: characters, and the edges of boxes.
@@ -46,7 +48,8 @@ const Picture = (() => {
     }
     for (const { x, y, nodes } of corners.values()) {
       const ids = [...nodes], text = ids.slice(0, 4).join(' ') + (ids.length > 4 ? ' …' : ''), width = LABEL.digit * text.length + 2;
-      const places = [[1, 1], [1, -LABEL.high - 1], [width + 2, 1]].map(([dx, dy]) => ({ x: x + dx, y: y + dy, width, height: LABEL.high }));
+      const places = [[1, 1], [1, -LABEL.high - 1], [width + 2, 1]].map(([dx, dy]) =>
+        ({ x: x + dx, y: y + dy, width, height: LABEL.high }));
       const place = places.find(taken.free);
       if (!place) continue;
       taken.add(place);
@@ -83,11 +86,14 @@ const Picture = (() => {
   function svg(scene) {
     const { pieces, hidden, changes, shot, viewport = [0, 0] } = scene, { left, top, width, height } = bounds(pieces, viewport);
     const zoom = Math.min(2, scene.room / (width + 20)) * scene.zoom;
-    const order = pieces.map((piece, index) => [ORDER[piece.word], index]).sort((a, b) => a[0] - b[0] || a[1] - b[1]).map(([, index]) => index);
+    const order = pieces.map((piece, index) => [ORDER[piece.word], index]).sort((a, b) => a[0] - b[0] || a[1] - b[1]).map(([, index]) =>
+      index);
     const drawn = order.filter(index => !hidden.has(pieces[index].kind))
       .map(index => pieceText(pieces[index], index, changes?.words.get(pieces[index]), scene.face));
-    const old = changes ? changes.former.map(piece => rectText('former', piece)).concat(changes.gone.map(piece => rectText('gone', piece))) : [];
-    const behind = shot ? `<image href="${shot.href}" x="0" y="0" width="${shot.width}" height="${shot.height}" opacity="${shot.strength}"/>` : '';
+    const old = changes ? changes.former.map(piece => rectText('former', piece)).concat(changes.gone.map(piece =>
+      rectText('gone', piece))) : [];
+    const behind = shot ?
+      `<image href="${shot.href}" x="0" y="0" width="${shot.width}" height="${shot.height}" opacity="${shot.strength}"/>` : '';
     return `<svg viewBox="${left - 10} ${top - 10} ${width + 20} ${height + 20}" width="${(width + 20) * zoom}" height="${(height + 20) * zoom}"` +
       `${shot ? ' class="shot"' : ''}>${behind}${rectText('viewport', { x: 0, y: 0, width: viewport[0], height: viewport[1] })}` +
       `${old.join('')}${drawn.join('')}${scene.labels ? labelsOf(pieces, hidden) : ''}<g class="model"></g></svg>`;

@@ -24,7 +24,8 @@ const Reading = (() => {
   // The nodes of a version by their numbers, each with its declarations and its children: those of the document, with the accepted edits
   // up to that version.
   function nodesAt(run, edits, version) {
-    const styles = Sheet.stylesOf(run), nodes = new Map(run.nodes.map(node => [node.id, { ...node, style: styles.get(node.id), kids: [] }]));
+    const styles = Sheet.stylesOf(run), nodes = new Map(run.nodes.map(node => [node.id,
+      { ...node, style: styles.get(node.id), kids: [] }]));
     for (const node of nodes.values()) nodes.get(node.parent)?.kids.push(node);
     for (const edit of edits) if (edit.version <= version) applyEdit(nodes, run.editors?.[edit.editor - 1]?.[edit.index]);
     return nodes;

@@ -41,7 +41,8 @@ const Refusals = (() => {
     const fields = line.split(/\s+/), codes = fields.filter(field => MEANINGS[field]), place = placeOf(fields);
     const field = ['I3', 'I4', 'I9'].includes(fields[1]) ? fields[2] : '';
     const words = codes.map(code => MEANINGS[code]).join(' ') || 'A line that docs/REPORT.md has no row of.';
-    const what = place.node !== undefined ? run?.nodes?.[place.node] : place.command && run?.editors?.[place.command[0] - 1]?.[place.command[1]];
+    const what = place.node !== undefined ? run?.nodes?.[place.node] : place.command &&
+      run?.editors?.[place.command[0] - 1]?.[place.command[1]];
     return { line, words, field, place, what };
   }
   return { explain, MEANINGS };

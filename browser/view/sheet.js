@@ -81,7 +81,8 @@ const Sheet = (() => {
     const tree = treeOf(run.nodes), rules = [];
     ruleSets(run.sheet).forEach(([head, body], order) => {
       const selectors = head.split(',').map(selectorOf);
-      if (selectors.every(Boolean)) for (const steps of selectors) rules.push({ steps, weight: weightOf(steps), order, list: declarationsOf(body) });
+      if (selectors.every(Boolean)) for (const steps of selectors) rules.push({ steps, weight: weightOf(steps), order,
+        list: declarationsOf(body) });
     });
     rules.sort((a, b) => a.weight - b.weight || a.order - b.order);
     for (const node of run.nodes) if (node.kind !== 'text') {

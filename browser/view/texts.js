@@ -31,7 +31,8 @@ const Texts = (() => {
     const list = charactersOf(node, advance, pre);
     let at = 0;
     pieces.forEach((piece, i) => {
-      const last = i === pieces.length - 1, wide = ({ c, width }) => width * piece.height / unit + letter + (/[ \u00a0]/.test(c) ? word : 0);
+      const last = i === pieces.length - 1, wide = ({ c, width }) => width * piece.height / unit + letter +
+        (/[ \u00a0]/.test(c) ? word : 0);
       const skipped = pre ? /\n/ : /\s/, kept = pre && piece.width === 0;           // a line without characters has no width
       while (!kept && (pre || i > 0) && at < list.length && skipped.test(list[at].c)) at++;
       const from = at;

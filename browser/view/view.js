@@ -24,7 +24,8 @@ function draw() {
   state.world = BoxModel.worldOf(state.nodes, tree.pieces, state.run?.viewport);
   const before = treeBefore();
   state.changes = before ? Changes.between(before.pieces, tree.pieces) : null;
-  element('picture').innerHTML = Picture.svg({ pieces: state.pieces, face: state.run?.face, viewport: state.run?.viewport, hidden: state.hidden,
+  element('picture').innerHTML = Picture.svg({ pieces: state.pieces, face: state.run?.face, viewport: state.run?.viewport,
+    hidden: state.hidden,
     labels: element('labels').checked, zoom: 2 ** +element('zoom').value, room: element('picture').clientWidth - 26, changes: state.changes,
     shot: state.shot && { ...state.shot, strength: element('strength').value } });
   drawControls(tree);
@@ -35,7 +36,8 @@ function drawControls(tree) {
   element('versions').hidden = state.shown.length < 2;
   element('slider').max = state.shown.length - 1;
   element('slider').value = state.at;
-  element('shown').textContent = `${tree.version}, ${tree.title}` + (state.changes && !state.before ? `: ${Changes.inWords(state.changes)}` : '');
+  element('shown').textContent = `${tree.version}, ${tree.title}` + (state.changes && !state.before ?
+    `: ${Changes.inWords(state.changes)}` : '');
   element('compared').hidden = !state.before;
   element('differences').textContent = state.before ? Changes.inWords(state.changes) : '';
   element('shots').hidden = !state.shot;
@@ -125,7 +127,8 @@ function takeDocument(text) {
 }
 function takeReport(text) {
   const { shown, edits, refusal } = Reading.readReport(text);
-  if (shown.length) Object.assign(state, { before: state.shown.length ? state.shown : null, shown, edits, at: shown.length - 1, refusal: '' });
+  if (shown.length) Object.assign(state, { before: state.shown.length ? state.shown : null, shown, edits, at: shown.length - 1,
+    refusal: '' });
   else if (refusal) Object.assign(state, { refusal, shown: [], before: null });
   else throw new Error('this is neither a document nor a report');
 }
@@ -148,13 +151,15 @@ async function takePicture(file) {
   draw();
 }
 async function takeFiles(files) {
-  const pictures = [...files].filter(file => file.type.startsWith('image/')), others = [...files].filter(file => !file.type.startsWith('image/'));
+  const pictures = [...files].filter(file => file.type.startsWith('image/')), others = [...files].filter(file =>
+    !file.type.startsWith('image/'));
   if (others.length) takeAll(await Promise.all(others.map(file => file.text())));
   for (const picture of pictures) await takePicture(picture);
 }
 addEventListener('dragover', event => { event.preventDefault(); element('picture').classList.add('over'); });
 addEventListener('dragleave', () => element('picture').classList.remove('over'));
-addEventListener('drop', event => { event.preventDefault(); element('picture').classList.remove('over'); takeFiles(event.dataTransfer.files); });
+addEventListener('drop', event =>
+  { event.preventDefault(); element('picture').classList.remove('over'); takeFiles(event.dataTransfer.files); });
 addEventListener('paste', event => {
   if (event.clipboardData.files.length) takeFiles(event.clipboardData.files);
   else if (event.target !== element('query')) takeAll([event.clipboardData.getData('text')]);
@@ -164,5 +169,6 @@ element('files').onchange = event => takeFiles(event.target.files);
 element('slider').oninput = event => { state.at = +event.target.value; state.pinned = null; draw(); };
 element('alone').onclick = () => { state.before = null; draw(); };
 element('zoom').oninput = element('labels').onchange = element('strength').oninput = draw;
-element('legend').onchange = event => { const { kind } = event.target.dataset; state.hidden[event.target.checked ? 'delete' : 'add'](kind); draw(); };
+element('legend').onchange = event => { const { kind } = event.target.dataset; state.hidden[event.target.checked ? 'delete' :
+  'add'](kind); draw(); };
 element('mode').onchange = event => { document.documentElement.dataset.mode = event.target.value; };

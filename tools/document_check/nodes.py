@@ -10,15 +10,19 @@ MEASURES = ('default', 'ascent', 'descent', 'xheight', 'normal')
 NAMES = ('tag', 'label', 'classes')
 READS, EDITS = ('latest', 'sync'), ('set', 'clear', 'text', 'insert', 'remove')
 FIELDS = {
-    'document': ('viewport', 'face', 'sheet', 'nodes', 'editors'), 'face': ('advance', *MEASURES), 'element': ('id', 'parent', 'kind', 'style', 'colspan', 'rowspan'),
+    'document': ('viewport', 'face', 'sheet', 'nodes', 'editors'), 'face': ('advance', *MEASURES), 'element': ('id', 'parent', 'kind',
+        'style', 'colspan', 'rowspan'),
     'text': ('id', 'parent', 'kind', 'text'), 'replaced': ('id', 'parent', 'kind', 'natural', 'style'),
-    'set': ('do', 'node', 'property', 'value'), 'clear': ('do', 'node', 'property'), 'text command': ('do', 'node', 'text'), 'remove': ('do', 'node'),
-    'insert': ('do', 'index', 'id', 'parent', 'kind', 'style', 'colspan', 'rowspan', 'text', 'natural'), 'batch': ('do', 'edits'), 'latest': ('do',), 'sync': ('do',),
+    'set': ('do', 'node', 'property', 'value'), 'clear': ('do', 'node', 'property'), 'text command': ('do', 'node',
+        'text'), 'remove': ('do', 'node'),
+    'insert': ('do', 'index', 'id', 'parent', 'kind', 'style', 'colspan', 'rowspan', 'text', 'natural'), 'batch': ('do',
+        'edits'), 'latest': ('do',), 'sync': ('do',),
 }
 # Members that are nobody's mistake: the schema, and the text as a page had it.
 NOTES = ('$schema', 'as')
 # What HTML calls what has another name here.
-CALLED = {'class': 'classes', 'className': 'classes', 'name': 'tag', 'css': 'style', 'content': 'text', 'value': 'text', 'src': 'natural', 'font': 'face'}
+CALLED = {'class': 'classes', 'className': 'classes', 'name': 'tag', 'css': 'style', 'content': 'text', 'value': 'text', 'src': 'natural',
+    'font': 'face'}
 KINDS = (Value, 'an object'), (list, 'a list'), (str, 'a text'), (Number, 'a number')
 
 
@@ -57,9 +61,11 @@ class Tree:
                 yield 'the first node is the root, an element'
         elif parent not in self.kinds:
             behind = self.places.get(parent)
-            yield 'no node before it has the id of its parent, %s%s' % (parent, ': it stands behind its child, at place %d' % behind if behind is not None else '')
+            yield 'no node before it has the id of its parent, %s%s' % (parent, ': it stands behind its child, at place %d' % behind
+                if behind is not None else '')
         elif self.kinds[parent] != 'element':
-            yield 'its parent, id %d, is a %s, and only elements have children' % (parent, {'text': 'text'}.get(self.kinds[parent], 'replaced element'))
+            yield 'its parent, id %d, is a %s, and only elements have children' % (parent,
+                {'text': 'text'}.get(self.kinds[parent], 'replaced element'))
         elif self.depths[parent] >= MOST_DEPTH:
             yield 'it is deeper than %d levels' % MOST_DEPTH
         if ident in self.kinds:
@@ -160,7 +166,8 @@ class Document:
             if fault and not isinstance(value, str) and name not in self.values.patterns:
                 self.fault(where, 'the value of `%s` is no text' % name)
         for name in style:
-            if name.startswith('border-') and name.endswith('-width') and name.replace('-width', '-style') not in style and not self.has_sheet:
+            if name.startswith('border-') and name.endswith('-width') and name.replace('-width',
+                '-style') not in style and not self.has_sheet:
                 self.warnings.append('%s: `%s` has no effect without `%s`' % (where, name, name.replace('-width', '-style')))
 
     def node_form(self, fields, where, faults):
@@ -172,7 +179,8 @@ class Document:
         if kind not in ('element', 'text', 'replaced'):
             if kind is not None:
                 meant = near(kind, ('element', 'text', 'replaced'))
-                self.fault(where, 'there is no kind "%s": element, text or replaced%s' % (kind[:30], '; did you mean "%s"?' % meant if meant else ''))
+                self.fault(where, 'there is no kind "%s": element, text or replaced%s' % (kind[:30], '; did you mean "%s"?' % meant if meant
+                    else ''))
             return ident, parent, None
         if kind == 'text':
             self.field(fields, 'text', str, where)
@@ -226,7 +234,8 @@ class Document:
         if action not in actions:
             if action is not None:
                 meant = near(action, actions)
-                self.fault(where, 'there is no "do": "%s" here: %s%s' % (action[:30], ', '.join(actions), '; did you mean "%s"?' % meant if meant else ''))
+                self.fault(where, 'there is no "do": "%s" here: %s%s' % (action[:30], ', '.join(actions), '; did you mean "%s"?' % meant
+                    if meant else ''))
             return None
         self.members(command, FIELDS['text command' if action == 'text' else action], where, 'command ' + action)
         if action == 'batch':

@@ -69,7 +69,8 @@ def selector_words(selector):
     """Why a selector isn't read."""
     if not selector:
         return 'an empty selector'
-    for mark, words in ((':', 'there are no pseudo-classes and pseudo-elements'), ('[', 'there are no attribute selectors'), ('~', 'there is no `~`')):
+    for mark, words in ((':', 'there are no pseudo-classes and pseudo-elements'), ('[', 'there are no attribute selectors'),
+        ('~', 'there is no `~`')):
         if mark in selector:
             return '`%s`: %s' % (selector[:60], words)
     return '`%s` is no selector of tags, classes and labels' % selector[:60]
@@ -88,7 +89,8 @@ class Sheet:
 
     def statement(self, place, prelude, start, block):
         if block is None:
-            what = 'a rule with `%s`' % prelude.split(None, 1)[0][:30] if prelude.startswith('@') else 'what no braces follow, `%s`' % prelude[:30].strip()
+            what = 'a rule with `%s`' % prelude.split(None,
+                1)[0][:30] if prelude.startswith('@') else 'what no braces follow, `%s`' % prelude[:30].strip()
             self.ignore(place, '%s is ignored' % what)
             return
         selectors = [part.strip(WHITE_SPACE) for part in prelude.split(',')]

@@ -111,7 +111,8 @@ def decoded(data):
     try:
         return data.decode('utf-8')
     except UnicodeDecodeError as fault:
-        raise NoJson('line %d: the byte 0x%02x is no UTF-8: save it as UTF-8' % (data.count(b'\n', 0, fault.start) + 1, data[fault.start])) from None
+        raise NoJson('line %d: the byte 0x%02x is no UTF-8: save it as UTF-8' % (data.count(b'\n', 0, fault.start) + 1,
+            data[fault.start])) from None
 
 
 def value_of(data):

@@ -6,11 +6,14 @@ from .images import size_of
 from .styles import declarations, of_attributes, sheet_of
 
 MOST_DEPTH, MOST_NODES, MOST_TEXT, MOST_SPAN, MOST_SIDE = 128, 65536, 65536, 64, 1000000
-REPLACED = {'img': None, 'input': (153, 21), 'select': (60, 19), 'button': (60, 21), 'textarea': (182, 36), 'meter': (80, 16), 'progress': (160, 16),
+REPLACED = {'img': None, 'input': (153, 21), 'select': (60, 19), 'button': (60, 21), 'textarea': (182, 36), 'meter': (80, 16),
+    'progress': (160, 16),
             'iframe': (300, 150), 'video': (300, 150), 'audio': (300, 54), 'canvas': (300, 150), 'embed': (300, 150), 'object': (300, 150),
             'svg': (300, 150), 'math': (40, 20), 'applet': (300, 150)}
-LEFT_OUT = {'script', 'style', 'head', 'template', 'noframes', 'datalist', 'param', 'source', 'track', 'area', 'title', 'link', 'meta', 'base'}
-SILENT_ATTRIBUTES = {'id', 'class', 'style', 'href', 'name', 'lang', 'title', 'alt', 'src', 'rel', 'type', 'content', 'charset', 'target', 'colspan',
+LEFT_OUT = {'script', 'style', 'head', 'template', 'noframes', 'datalist', 'param', 'source', 'track', 'area', 'title', 'link', 'meta',
+    'base'}
+SILENT_ATTRIBUTES = {'id', 'class', 'style', 'href', 'name', 'lang', 'title', 'alt', 'src', 'rel', 'type', 'content', 'charset', 'target',
+    'colspan',
                      'rowspan', 'span', 'width', 'height', 'cellspacing', 'cellpadding', 'border', 'valign', 'nowrap', 'hidden', 'role', 'value', 'summary',
                      'xmlns', 'xml:lang', 'scope', 'headers', 'cite', 'datetime', 'tabindex', 'accesskey', 'color', 'bgcolor', 'link', 'vlink', 'alink', 'text',
                      'action', 'method', 'for', 'open', 'loading', 'media', 'http-equiv', 'property', 'dir', 'data', 'rules', 'frame', 'start', 'abbr', 'axis'}
@@ -44,7 +47,8 @@ class Maker:
             elif re.match(r'(float|clear|display|position|flex|grid|columns?$|transform|box-sizing|direction|writing)', name):
                 self.note('the property `%s`' % name)
         for name in element.attributes:
-            if name not in SILENT_ATTRIBUTES and not name.startswith(('on', 'data-', 'aria-')) and not (name == 'align' and 'text-align' in style):
+            if name not in SILENT_ATTRIBUTES and not name.startswith(('on', 'data-', 'aria-')) and not (name == 'align'
+                and 'text-align' in style):
                 self.note('the attribute `%s` of `%s`' % (name, element.name))
         return style
 

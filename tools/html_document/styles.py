@@ -26,7 +26,8 @@ def border(sides, value):
     words = value.split()
     style = next((word for word in words if word.lower() in STYLES), 'none')
     width = next((word for word in words if WIDTH.match(word)), 'medium')
-    return [pair for side in sides for pair in (('border-%s-style' % side, style), ('border-%s-width' % side, '0' if width == '0px' else width))]
+    return [pair for side in sides for pair in (('border-%s-style' % side, style), ('border-%s-width' % side, '0' if width == '0px'
+        else width))]
 
 
 def font(value):
@@ -85,7 +86,8 @@ def of_attributes(name, attributes, table):
     """What attributes of HTML declare, below what sheets say; `table` are the attributes of the table around a cell."""
     style = {}
     for dimension in ('width', 'height'):
-        if dimension in attributes and name in ('table', 'td', 'th', 'col', 'tr', 'hr', 'img', 'iframe', 'video', 'canvas', 'embed', 'object') and length_of(attributes[dimension]):
+        if dimension in attributes and name in ('table', 'td', 'th', 'col', 'tr', 'hr', 'img', 'iframe', 'video', 'canvas', 'embed',
+            'object') and length_of(attributes[dimension]):
             style[dimension] = length_of(attributes[dimension])
     if name == 'table' and length_of(attributes.get('cellspacing', '')):
         style['border-spacing'] = length_of(attributes['cellspacing'])
@@ -97,7 +99,8 @@ def of_attributes(name, attributes, table):
         style.update(border(SIDES, '1px inset'))
     if attributes.get('valign', '').lower() in ('top', 'middle', 'bottom', 'baseline'):
         style['vertical-align'] = attributes['valign'].lower()
-    if attributes.get('align', '').lower() in ('left', 'right', 'center') and name in ('p', 'div', 'h1', 'h2', 'h3', 'h4', 'h5', 'h6', 'td', 'th', 'tr'):
+    if attributes.get('align', '').lower() in ('left', 'right', 'center') and name in ('p', 'div', 'h1', 'h2', 'h3', 'h4', 'h5', 'h6', 'td',
+        'th', 'tr'):
         style['text-align'] = attributes['align'].lower()
     if attributes.get('align', '').lower() in ('left', 'right') and name in ('img', 'table'):
         style['float'] = attributes['align'].lower()

@@ -10,8 +10,10 @@ IN_HEAD = set('base basefont bgsound link meta noframes script style template ti
 ENDS = {
     'li': ({'li'}, {'ul', 'ol', 'menu', 'dir'}), 'dt': ({'dt', 'dd'}, {'dl'}), 'dd': ({'dt', 'dd'}, {'dl'}),
     'option': ({'option'}, {'select', 'datalist', 'optgroup'}), 'optgroup': ({'option', 'optgroup'}, {'select'}),
-    'tr': ({'tr', 'td', 'th', 'caption', 'colgroup'}, {'table', 'thead', 'tbody', 'tfoot'}), 'td': ({'td', 'th'}, {'tr', 'table'}), 'th': ({'td', 'th'}, {'tr', 'table'}),
-    **{name: ({'thead', 'tbody', 'tfoot', 'tr', 'td', 'th', 'caption', 'colgroup'}, {'table'}) for name in ('thead', 'tbody', 'tfoot', 'colgroup', 'caption')},
+    'tr': ({'tr', 'td', 'th', 'caption', 'colgroup'}, {'table', 'thead', 'tbody', 'tfoot'}), 'td': ({'td', 'th'},
+        {'tr', 'table'}), 'th': ({'td', 'th'}, {'tr', 'table'}),
+    **{name: ({'thead', 'tbody', 'tfoot', 'tr', 'td', 'th', 'caption', 'colgroup'}, {'table'})
+        for name in ('thead', 'tbody', 'tfoot', 'colgroup', 'caption')},
 }
 WALLS = {'table', 'td', 'th', 'caption', 'button', 'html', 'body'}
 RAW = {'script', 'style'}
