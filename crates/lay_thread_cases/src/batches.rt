@@ -1,8 +1,9 @@
 //! Batches of claims on the cells of a core.
 
-use crate::core_calls::{claim_some, finish_all};
-use crate::{core_calls, said};
-use lay_case_reading::{Limit, Said, Workers};
+ghost use Rattle.std.specs.Prelude.{◌<◌, ◌≤◌, IfSome};
+
+use crate::core_calls::{batch, claim_some, finish_all};
+use crate::shown;
 use lay_drive::cell_work::Claim;
 use lay_drive::claim_lists::{ClaimList, Outcome, Outcomes};
 use lay_drive::editing_core::{Core, Idle};
@@ -10,7 +11,6 @@ use lay_drive::pool::{Hand, hands};
 use lay_layout::units::NoMemory;
 use lay_outside::Gate;
 use std::alloc::Global;
-use std::mem::replace;
 use std::thread;
 use std::thread::Threads;
 
@@ -31,89 +31,24 @@ pub(crate) enum Batch {
     Outcomes(Outcomes),
 }
 
-/// Takes claims in hand, after those that are, and shows them, or why there is none.
-pub(crate) fn claimed(
-    alloc: Global,
-    core: &mut Core,
-    batch: &mut Batch,
-    limit: Limit,
-) -> Result<Option<Said>, NoMemory> {
-    let limit = limit.number();
-    let mut list = ClaimList::with_room(alloc, limit)?;
-    match claim_some(core, limit, &mut list) {
-        Ok(None) => Ok(Some(take(alloc, batch, list)?)),
-        Ok(Some(idle)) => Ok(Some(said::idle(&idle))),
-        Err(NoMemory) => Ok(Some(Said::LACKS)),
-    }
-}
-
-/// Takes claims in hand, after those that are, and shows them.
-fn take(alloc: Global, batch: &mut Batch, list: ClaimList) -> Result<Said, NoMemory> {
-    let answer = said::claims(alloc, list.as_slice())?;
-    *batch = match replace(batch, Batch::None) {
-        Batch::Claims(held) => Batch::Claims(joined(alloc, held, list)?),
-        _ => Batch::Claims(list),
-    };
-    Ok(answer)
-}
-
-/// The claims in hand, or those of which the outcomes in hand are; None where there are none.
-pub(crate) fn held(alloc: Global, batch: &Batch) -> Result<Option<Said>, NoMemory> {
-    match batch {
-        Batch::None => Ok(None),
-        Batch::Claims(claims) => Ok(Some(said::claims(alloc, claims.as_slice())?)),
-        Batch::Outcomes(outcomes) => Ok(Some(said::outcomes(alloc, outcomes.as_slice())?)),
-    }
-}
-
-/// Computes the claims in hand, and says what came of them. Where they were computed, those are computed once more for which memory was
-/// wanting.
+/// A batch whose claims are computed. Where they were, those are computed once more for which memory was wanting.
 pub(crate) fn computed<R: Threads + Sync, G: Gate + Sync>(
     rt: &R,
     alloc: Global,
-    batch: &mut Batch,
-    workers: Workers,
+    held: Batch,
+    workers: u32,
     gate: &G,
-) -> Result<Option<Said>, NoMemory> {
-    *batch = match replace(batch, Batch::None) {
-        Batch::None => Batch::None,
-        Batch::Claims(claims) => computed_claims(rt, alloc, claims, workers, gate),
-        Batch::Outcomes(outcomes) => completed(alloc, outcomes)?,
-    };
-    said_computed(alloc, batch)
-}
-
-fn computed_claims<R: Threads + Sync, G: Gate + Sync>(
-    rt: &R,
-    alloc: Global,
-    claims: ClaimList,
-    workers: Workers,
-    gate: &G,
-) -> Batch {
-    match core_calls::batch(rt, alloc, claims, workers, gate) {
-        Ok(outcomes) => Batch::Outcomes(outcomes),
-        Err(claims) => Batch::Claims(claims),
+) -> Result<Batch, NoMemory>
+    requires { (0 < workers) × (workers ≤ 16) }
+{
+    match held {
+        Batch::None => Ok(Batch::None),
+        Batch::Claims(claims) => match batch(rt, alloc, claims, workers, gate) {
+            Ok(outcomes) => Ok(Batch::Outcomes(outcomes)),
+            Err(claims) => Ok(Batch::Claims(claims)),
+        },
+        Batch::Outcomes(outcomes) => completed(alloc, outcomes),
     }
-}
-
-fn said_computed(alloc: Global, batch: &Batch) -> Result<Option<Said>, NoMemory> {
-    match batch {
-        Batch::Outcomes(outcomes) if !is_lacking(outcomes.as_slice()) => {
-            Ok(Some(said::outcomes(alloc, outcomes.as_slice())?))
-        }
-        Batch::None => Ok(None),
-        _ => Ok(Some(Said::LACKS)),
-    }
-}
-
-/// Whether memory was wanting for a claim.
-fn is_lacking(outcomes: &[Outcome]) -> bool {
-    for outcome in outcomes {
-        if let Outcome::NoMemory(_claim) = outcome {
-            return true;
-        }
-    }
-    false
 }
 
 fn completed(alloc: Global, outcomes: Outcomes) -> Result<Batch, NoMemory> {
@@ -142,7 +77,11 @@ fn once_more(alloc: Global, claim: Claim) -> Outcome {
 }
 
 /// The claims of two lists, as far as there is room for them in one.
-fn joined(alloc: Global, first: ClaimList, second: ClaimList) -> Result<ClaimList, NoMemory> {
+pub(crate) fn joined(
+    alloc: Global,
+    first: ClaimList,
+    second: ClaimList,
+) -> Result<ClaimList, NoMemory> {
     let mut all = ClaimList::with_room(alloc, BATCH)?;
     add_all(&mut all, first);
     add_all(&mut all, second);
@@ -162,10 +101,10 @@ pub(crate) fn shared<R: Threads + Sync, G: Gate + Sync>(
     rt: &R,
     alloc: Global,
     claims: ClaimList,
-    workers: Workers,
+    workers: u32,
     gate: &G,
 ) -> Result<Vec<Outcomes>, NoMemory> {
-    let mut hands = hands(alloc, workers.number())?;
+    let mut hands = hands(alloc, workers)?;
     let mut all = Vec::new(alloc);
     if let Some(refused) = dealt(alloc, hands.as_mut_slice(), claims)? {
         all.push(refused)?;
@@ -202,21 +141,36 @@ fn add_works<R: Threads + Sync, G: Gate + Sync>(
     Ok(())
 }
 
-/// Lays the document of a core out by batches, and says why there is no more to lay out.
+/// The number of a text, from 1 to the greatest one; None where it is none.
+pub(crate) fn number(text: &str, greatest: u32) -> Option<u32>
+    ensures { IfSome result (λ n. (0 < n) × (n ≤ greatest)) }
+{
+    match text.parse::<u32>() {
+        Ok(number) if 0 < number && number <= greatest => Some(number),
+        _ => None,
+    }
+}
+
+/// Lays the document of a core out by batches, as `LIMIT WORKERS` says, and says why there is no more to lay out.
 pub(crate) fn lay<R: Threads + Sync, G: Gate + Sync>(
     rt: &R,
     alloc: Global,
     core: &mut Core,
-    limit: Limit,
-    workers: Workers,
+    rest: &str,
     gate: &G,
-) -> Result<Option<Said>, NoMemory> {
+) -> Result<Option<String>, NoMemory> {
+    let Some((limit, workers)) = rest.split_once(' ') else {
+        return Ok(None);
+    };
+    let (Some(limit), Some(workers)) = (number(limit, 64), number(workers, 16)) else {
+        return Ok(None);
+    };
     for _batch in 0..BATCHES {
         let claims = match next_claims(alloc, core, limit)? {
             Ok(claims) => claims,
-            Err(idle) => return Ok(Some(said::idle(&idle))),
+            Err(idle) => return Ok(Some(shown::idle(alloc, &idle)?)),
         };
-        let Ok(outcomes) = core_calls::batch(rt, alloc, claims, workers, gate) else {
+        let Ok(outcomes) = batch(rt, alloc, claims, workers, gate) else {
             return Err(NoMemory);
         };
         let _tally = finish_all(core, outcomes);
@@ -228,9 +182,10 @@ pub(crate) fn lay<R: Threads + Sync, G: Gate + Sync>(
 fn next_claims(
     alloc: Global,
     core: &mut Core,
-    limit: Limit,
-) -> Result<Result<ClaimList, Idle>, NoMemory> {
-    let limit = limit.number();
+    limit: u32,
+) -> Result<Result<ClaimList, Idle>, NoMemory>
+    requires { (0 < limit) × (limit ≤ 64) }
+{
     let mut list = ClaimList::with_room(alloc, limit)?;
     match claim_some(core, limit, &mut list)? {
         Some(idle) => Ok(Err(idle)),

@@ -5,7 +5,6 @@ ghost use Rattle.std.specs.List.{All};
 
 use crate::core_calls::{closed, entries, latest};
 use lay_board::{Engine, Pass, Passes};
-use lay_case_reading::Said;
 use lay_layout::edit_lists::Reply;
 use lay_layout::run::RunDoc;
 use lay_layout::units::NoMemory;
@@ -26,7 +25,7 @@ pub(crate) fn closed_early<R: Wait>(
     rt: &R,
     alloc: Global,
     run: RunDoc,
-) -> Result<Option<Said>, NoMemory> {
+) -> Result<Option<String>, NoMemory> {
     let Some(early) = started(alloc, run)? else {
         return Ok(None);
     };
@@ -36,7 +35,7 @@ pub(crate) fn closed_early<R: Wait>(
         out,
     } = early;
     match closed(rt, engine, passes) {
-        Ok(_core) => Ok(Some(Said::Word("closed early"))),
+        Ok(_core) => Ok(Some(String::from_str(alloc, "closed early")?)),
         Err((engine, passes)) => closed_late(
             rt,
             alloc,
@@ -78,7 +77,7 @@ fn without_last(engine: Engine, mut passes: Passes) -> Option<Early>
 }
 
 /// Makes the call of the pass that is out, and closes the engine.
-fn closed_late<R: Wait>(rt: &R, alloc: Global, early: Early) -> Result<Option<Said>, NoMemory>
+fn closed_late<R: Wait>(rt: &R, alloc: Global, early: Early) -> Result<Option<String>, NoMemory>
     requires closer { early.passes.closer.table ≡ early.engine.table }
     requires of { All (λ p. p.table ≡ early.engine.table) early.passes.items.items }
     requires out { early.out.table ≡ early.engine.table }
@@ -93,11 +92,11 @@ fn closed_late<R: Wait>(rt: &R, alloc: Global, early: Early) -> Result<Option<Sa
     let (reply, out) = latest(rt, alloc, &engine, out);
     passes.items.push(out)?;
     let Ok(core) = closed(rt, engine, passes) else {
-        return Ok(Some(Said::Word("closed never")));
+        return Ok(Some(String::from_str(alloc, "closed never")?));
     };
     let entries = entries(&core);
     let shown = shown(alloc, reply)?;
-    Ok(Some(Said::Text(format!(in alloc; "back {back}, {shown}, entries {entries}")?)))
+    Ok(Some(format!(in alloc; "back {back}, {shown}, entries {entries}")?))
 }
 
 fn shown(alloc: Global, reply: Reply) -> Result<String, NoMemory> {

@@ -5,7 +5,6 @@ ghost use Rattle.std.specs.Prelude.{◌≡◌, ◌<◌, ◌≤◌, [], IfErr};
 ghost use Rattle.std.specs.List.{All};
 
 use lay_board::{Engine, Pass, Passes};
-use lay_case_reading::Workers;
 use lay_drive::claim_lists::{ClaimList, Outcomes};
 use lay_drive::drive;
 use lay_drive::editing_core::{Core, Idle, Publish, Tally};
@@ -43,10 +42,12 @@ pub(crate) fn batch<R: Threads + Sync, G: Gate + Sync>(
     rt: &R,
     alloc: Global,
     claims: ClaimList,
-    workers: Workers,
+    workers: u32,
     gate: &G,
-) -> Result<Outcomes, ClaimList> {
-    match run_batch(rt, alloc, claims, workers.number(), gate) {
+) -> Result<Outcomes, ClaimList>
+    requires { (0 < workers) × (workers ≤ 16) }
+{
+    match run_batch(rt, alloc, claims, workers, gate) {
         Ok(outcomes) => Ok(outcomes),
         Err((NoMemory, claims)) => Err(claims),
     }
@@ -57,10 +58,12 @@ pub(crate) fn driven<R: Threads + Wait + Sync, G: Gate + Sync>(
     rt: &R,
     alloc: Global,
     run: RunDoc,
-    workers: Workers,
+    workers: u32,
     gate: &G,
-) -> Result<Core, NoMemory> {
-    drive(rt, alloc, run, workers.number(), gate)
+) -> Result<Core, NoMemory>
+    requires { (0 < workers) × (workers ≤ 16) }
+{
+    drive(rt, alloc, run, workers, gate)
 }
 
 /// The core of an engine that was closed; where a pass is out all comes back.

@@ -3,21 +3,22 @@
 //!
 //! `NAME.json` is a run document, whose editors are taken as none. `NAME.batches` beside it has cases, each over a core of that document:
 //! a line `case NAME`, and calls that are made in turn, each a line `CALL -> ANSWER`, or `CALL` where the answer is `done`. Lines that
-//! begin with `#` are remarks. Which calls there are is said in `batch_call.rt` of lay_case_reading, and what of a call that lacks memory
-//! in its `comparison.rt`; `tools/refuse_calls` has each request for memory of the cases in `refusals.batches` refused.
+//! begin with `#` are remarks. Which calls there are is said in `calls.rt`, and what of a call that lacks memory in `case.rt`;
+//! `tools/refuse_calls` has each request for memory of the cases in `refusals.batches` refused.
 #![tactic(auto)]
 
 mod batches;
+mod calls;
+mod case;
 mod closing;
 mod core_calls;
 mod gates;
-mod one_core;
-mod said;
+mod shown;
 mod span;
 
-use crate::one_core::OneCore;
+use crate::calls::OneCore;
+use crate::case::{Comparison, compared};
 use anyhow::{Context, Result, bail};
-use lay_case_reading::{Comparison, compared, files, print, run_document};
 use lay_drive::editing_core::Core;
 use lay_json::read_run;
 use lay_layout::run::RunDoc;
@@ -50,6 +51,17 @@ fn folder(rt: &(impl Env + AllocGlobal)) -> Result<String> {
     }
 }
 
+/// The names of a folder's files, in order.
+fn files<R: Files + AllocGlobal + Clone + Drop>(rt: &R, folder: &str) -> Result<Vec<String>> {
+    let mut names = Vec::new(rt.alloc());
+    for entry in fs::read_dir(rt, folder)? {
+        let entry = entry?;
+        names.push(String::from_str(rt.alloc(), entry.file_name())?)?;
+    }
+    names.sort()?;
+    Ok(names)
+}
+
 /// Goes through the cases of a file, and prints a line for each.
 fn go_through<R: Files + Print + AllocGlobal + Threads + Wait + Clock + Sync>(
     rt: &R,
@@ -60,7 +72,7 @@ fn go_through<R: Files + Print + AllocGlobal + Threads + Wait + Clock + Sync>(
     let text = fs::read_to_string(rt, path.as_str()).context("reading a file of batches")?;
     for case in text.as_str().split("\ncase ").skip(1) {
         let (case, lines) = case.split_once('\n').unwrap_or((case, ""));
-        let bytes = run_document(rt, folder, name)?;
+        let bytes = document(rt, folder, name)?;
         let comparison = compared_on(rt, name, bytes, lines)?;
         print(rt, name, case, &comparison)?;
     }
@@ -75,8 +87,29 @@ fn compared_on<R: AllocGlobal + Threads + Wait + Clock + Sync>(
     lines: &str,
 ) -> Result<Comparison> {
     let core = core(rt.alloc(), name, &bytes)?;
-    let mut subject = OneCore::new(rt, core, bytes);
-    compared(rt.alloc(), &mut subject, lines)
+    let mut subject = OneCore::new(core, bytes);
+    compared(rt, rt.alloc(), &mut subject, lines)
+}
+
+/// Prints what came of a case.
+fn print(
+    rt: &(impl Print + AllocGlobal),
+    name: &str,
+    case: &str,
+    comparison: &Comparison,
+) -> Result<()> {
+    let lacking = comparison.lacking.as_str();
+    match &comparison.other {
+        None => println!(rt; "{name}: {case}: ok{lacking}")?,
+        Some(other) => println!(rt; "{name}: {case}: NOT SO, but {other}{lacking}")?,
+    }
+    Ok(())
+}
+
+/// The bytes of `NAME.json`.
+fn document(rt: &(impl Files + AllocGlobal), folder: &str, name: &str) -> Result<Vec<u8>> {
+    let path = format!(in rt.alloc(); "{folder}/{name}.json")?;
+    fs::read(rt, path.as_str()).context("reading a run document")
 }
 
 /// A core of the document of these bytes.
