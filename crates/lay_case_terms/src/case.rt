@@ -13,8 +13,8 @@
 //!
 //! Between two cases stands an empty line. The line `with ..` has the terms that aren't plain (`terms.rt`), and is left
 //! out where all are. A document may have lines that stand for copies (`copies.rt`). Under `answer Read` stands what the
-//! document is read as (`reading.rt`). With the term `show-kept 1` the answer tells the core that is kept, behind the status:
-//! `Ok, kept 5 entries, laid 3`. With the term `sweep writes` and the like it makes calls in a row (`sweep.rt`).
+//! document is read as (`document_reading.rt`). With the term `show-kept 1` the answer tells the core that is kept, behind the status:
+//! `Ok, kept 5 entries, laid 3`. With the term `sweep writes` and the like it makes calls in a row (`sweep.rt` of lay_cases).
 //!
 //! With the terms `hold POINT, until POINT` a thread of a run is held at the one point until the other one was reached,
 //! and the answer tells whether that was so: `Ok, met`. Such an answer is wanted without its line `laid`, since how much is laid out
@@ -25,7 +25,7 @@ use crate::terms::Terms;
 
 /// A call, and the answer that is wanted.
 #[derive(Clone, Copy)]
-pub(crate) struct Case<'a> {
+pub struct Case<'a> {
     name: &'a str,
     terms: Terms<'a>,
     document: &'a str,
@@ -34,7 +34,7 @@ pub(crate) struct Case<'a> {
 
 impl<'a> Case<'a> {
     /// The case that a text is, which begins behind the word `case`; None where it is none.
-    pub(crate) fn read(text: &'a str) -> Option<Case<'a>> {
+    pub fn read(text: &'a str) -> Option<Case<'a>> {
         let (call, answer) = text.split_once("\nanswer ")?;
         let (name, behind) = call.split_once('\n').unwrap_or((call, ""));
         let (terms, document) = match behind.strip_prefix("with ") {
@@ -55,20 +55,20 @@ impl<'a> Case<'a> {
         })
     }
 
-    pub(crate) fn name(&self) -> &'a str {
+    pub fn name(&self) -> &'a str {
         self.name
     }
 
-    pub(crate) fn terms(&self) -> &Terms<'a> {
+    pub fn terms(&self) -> &Terms<'a> {
         &self.terms
     }
 
     /// The run document, where the terms name none.
-    pub(crate) fn document(&self) -> &'a str {
+    pub fn document(&self) -> &'a str {
         self.document
     }
 
-    pub(crate) fn wanted(&self) -> Wanted<'a> {
+    pub fn wanted(&self) -> Wanted<'a> {
         self.wanted
     }
 }

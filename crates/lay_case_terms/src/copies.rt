@@ -5,7 +5,7 @@ use std::alloc::Global;
 
 /// The bytes of a document in which a line `times COUNT TEXT` stands for so many copies of TEXT, with no line
 /// break before or behind them. In a copy `<n>` is its number, from 1, and `<n-1>` the number before.
-pub(crate) fn with_copies(alloc: Global, document: &str) -> Result<Vec<u8>> {
+pub fn with_copies(alloc: Global, document: &str) -> Result<Vec<u8>> {
     let mut bytes = Vec::new(alloc);
     let mut behind_a_line = false;
     for line in document.split('\n') {

@@ -18,7 +18,7 @@ pub struct Terms<'a> {
     sweep: Option<Sweep>,
 }
 
-/// Which calls a case makes in a row (`sweep.rt`).
+/// Which calls a case makes in a row (`sweep.rt` of lay_cases).
 #[derive(Clone, Copy)]
 pub enum Sweep {
     Reads,
@@ -39,7 +39,7 @@ const EASY: Steps = Steps {
 };
 
 /// The terms of a document that is laid out from scratch, between streams that don't fail.
-pub(crate) const PLAIN: Terms<'static> = Terms {
+pub const PLAIN: Terms<'static> = Terms {
     words: "scratch",
     document: None,
     reading: EASY,
@@ -65,7 +65,7 @@ impl Sweep {
 
 impl<'a> Terms<'a> {
     /// The terms of a line, `KEY VALUE, KEY VALUE ..`, and else the plain ones; None where a key is none.
-    pub(crate) fn read(line: &'a str) -> Option<Terms<'a>> {
+    pub fn read(line: &'a str) -> Option<Terms<'a>> {
         let mut terms = PLAIN;
         if !line.is_empty() {
             for term in line.split(", ") {
@@ -108,7 +108,7 @@ impl<'a> Terms<'a> {
     }
 
     /// The document's name from the data folder on, where the case has none of its own.
-    pub(crate) fn document(&self) -> Option<&'a str> {
+    pub fn document(&self) -> Option<&'a str> {
         self.document
     }
 
@@ -141,17 +141,17 @@ impl<'a> Terms<'a> {
     }
 
     /// How many bytes of the answer are wanted, where it isn't all of them.
-    pub(crate) fn front(&self) -> Option<usize> {
+    pub fn front(&self) -> Option<usize> {
         self.front
     }
 
     /// Which calls are made in a row; None where there is one call.
-    pub(crate) fn sweep(&self) -> Option<Sweep> {
+    pub fn sweep(&self) -> Option<Sweep> {
         self.sweep
     }
 
     /// The same terms, but that the call of this number of one stream fails.
-    pub(crate) fn failing(&self, sweep: Sweep, number: u64) -> Terms<'a> {
+    pub fn failing(&self, sweep: Sweep, number: u64) -> Terms<'a> {
         let mut terms = *self;
         match sweep {
             Sweep::Reads => terms.reading.failing = number,

@@ -5,7 +5,7 @@ ghost use Rattle.std.specs.Prelude.{◌≡◌, None};
 use crate::gates::CaseGate;
 use crate::turn_gate::TurnGate;
 use anyhow::{Result, bail};
-use lay_case_terms::{Answer, Caller, Steps, Terms};
+use lay_case_terms::{Answer, Steps, Terms};
 use lay_cli::editing_core::Core;
 use lay_cli::{Means, Status, top};
 use lay_generator::generated_run;
@@ -17,26 +17,24 @@ use std::alloc::{AllocError, Global};
 use std::sync::Wait;
 use std::thread::Threads;
 
-/// Makes the top call on the threads of this handle.
-#[derive(Drop)]
-pub(crate) struct TopCall<'r, R> {
-    pub rt: &'r R,
-}
-
-impl<'r, R: Threads + Wait + Sync> Caller for TopCall<'r, R> {
-    fn call(&self, alloc: Global, terms: &Terms<'_>, document: Vec<u8>) -> Result<Answer> {
-        let words = words(alloc, terms.words())?;
-        let gate = gate(alloc, terms, &words, &document)?;
-        let mut source = source(alloc, document, terms.reading())?;
-        let mut sink = sink(alloc, terms.room(), terms.writing())?;
-        let means = Means {
-            rt: self.rt,
-            alloc,
-            gate: &gate,
-        };
-        let status = status_of(&means, terms, &words, &mut source, &mut sink)?;
-        answer_of(alloc, status, gate.met(), sink.bytes())
-    }
+/// Makes the top call on these terms, over the bytes of a document.
+pub(crate) fn call<R: Threads + Wait + Sync>(
+    rt: &R,
+    alloc: Global,
+    terms: &Terms<'_>,
+    document: Vec<u8>,
+) -> Result<Answer> {
+    let words = words(alloc, terms.words())?;
+    let gate = gate(alloc, terms, &words, &document)?;
+    let mut source = source(alloc, document, terms.reading())?;
+    let mut sink = sink(alloc, terms.room(), terms.writing())?;
+    let means = Means {
+        rt,
+        alloc,
+        gate: &gate,
+    };
+    let status = status_of(&means, terms, &words, &mut source, &mut sink)?;
+    answer_of(alloc, status, gate.met(), sink.bytes())
 }
 
 /// The answer with this status and these bytes; of a run in which threads were to meet, whether they did, and no line `laid`.

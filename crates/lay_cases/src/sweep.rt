@@ -3,16 +3,12 @@
 //! nothing, and each failing write `WriteFault` and what the writes before it took. `sweep fronts` goes through the proper fronts of
 //! the document, each of which has to give the wanted answer.
 
-use crate::answer::{Answer, Wanted};
-use crate::terms::{Sweep, Terms};
+use crate::call::call;
 use anyhow::{Result, bail};
+use lay_case_terms::{Answer, Sweep, Terms, Wanted};
 use std::alloc::Global;
-
-/// Makes the calls of cases.
-pub trait Caller {
-    /// The answer to the call on these terms, over the bytes of a document.
-    fn call(&self, alloc: Global, terms: &Terms<'_>, document: Vec<u8>) -> Result<Answer>;
-}
+use std::sync::Wait;
+use std::thread::Threads;
 
 /// The most calls in a row.
 const MOST: u64 = 100_000;
@@ -27,21 +23,25 @@ pub(crate) struct Swept<'a> {
 }
 
 /// The first answer that isn't as it has to be; None where each is.
-pub(crate) fn first_wrong<C: Caller>(
-    caller: &C,
+pub(crate) fn first_wrong<R: Threads + Wait + Sync>(
+    rt: &R,
     alloc: Global,
     swept: &Swept<'_>,
 ) -> Result<Option<Answer>> {
     match swept.sweep {
-        Sweep::Fronts => wrong_front(caller, alloc, swept),
-        Sweep::Reads | Sweep::Writes => wrong_fault(caller, alloc, swept),
+        Sweep::Fronts => wrong_front(rt, alloc, swept),
+        Sweep::Reads | Sweep::Writes => wrong_fault(rt, alloc, swept),
     }
 }
 
-fn wrong_front<C: Caller>(caller: &C, alloc: Global, swept: &Swept<'_>) -> Result<Option<Answer>> {
+fn wrong_front<R: Threads + Wait + Sync>(
+    rt: &R,
+    alloc: Global,
+    swept: &Swept<'_>,
+) -> Result<Option<Answer>> {
     let mut front = Vec::new(alloc);
     for byte in swept.document {
-        let answer = caller.call(alloc, swept.terms, front.to_vec(alloc)?)?;
+        let answer = call(rt, alloc, swept.terms, front.to_vec(alloc)?)?;
         if !swept.wanted.is(&answer) {
             return Ok(Some(answer));
         }
@@ -50,10 +50,14 @@ fn wrong_front<C: Caller>(caller: &C, alloc: Global, swept: &Swept<'_>) -> Resul
     Ok(None)
 }
 
-fn wrong_fault<C: Caller>(caller: &C, alloc: Global, swept: &Swept<'_>) -> Result<Option<Answer>> {
+fn wrong_fault<R: Threads + Wait + Sync>(
+    rt: &R,
+    alloc: Global,
+    swept: &Swept<'_>,
+) -> Result<Option<Answer>> {
     for before in 0..MOST {
         let terms = swept.terms.failing(swept.sweep, before + 1);
-        let answer = caller.call(alloc, &terms, swept.document.to_vec(alloc)?)?;
+        let answer = call(rt, alloc, &terms, swept.document.to_vec(alloc)?)?;
         if swept.wanted.is(&answer) {
             return Ok(None);
         }

@@ -13,7 +13,7 @@ use std::alloc::{AllocError, Global};
 use std::fmt::Write;
 
 /// The reading of a run document, as lines under the status `Read`; the status `Fault` where it has none.
-pub(crate) fn reading(alloc: Global, document: &[u8]) -> Result<Answer> {
+pub fn reading(alloc: Global, document: &[u8]) -> Result<Answer> {
     let mut text = String::new(alloc);
     let status = match read_run(alloc, document) {
         Ok(run) => {
