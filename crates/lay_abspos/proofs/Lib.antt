@@ -1,3 +1,4 @@
+pub mod RelativeLemmas
 pub mod Filled
 pub mod OneAbsoluteBox
 pub mod OnePlace

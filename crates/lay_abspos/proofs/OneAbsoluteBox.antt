@@ -12,8 +12,8 @@ use Rattle.lay_box_tree.specs.Kinds.{is_wrapper}
 use Rattle.lay_abspos.specs.declared.axis.Axis.{Axis}
 use Rattle.lay_abspos.specs.declared.axis.ContentSize.TheVariants.{Shrinks as shrinks}
 use Rattle.lay_abspos.proofs.Unique.{one_used_axis_lem}
-use Rattle.lay_pieces.specs.Corners.{IsCornerNear}
-use Rattle.lay_pieces.specs.declared.corner.Corner.{Corner}
+use Rattle.lay_placements.specs.Corners.{IsCornerNear}
+use Rattle.lay_placements.specs.declared.corner.Corner.{Corner}
 use Rattle.lay_sizes.specs.declared.sizing.BoxSizes.{BoxSizes}
 use Rattle.lay_widths.specs.declared.widths.BlockOut.{BlockOut}
 use Rattle.lay_abspos.specs.declared.setting.AbsoluteSetting.{AbsoluteSetting}

@@ -2,7 +2,7 @@
 use Rattle.std.proofs.Common.{◌≡◌, sym, ◌∙◌}
 use Rattle.lay_sizes.specs.declared.own_boxes.OwnBox.{OwnBox}
 use Rattle.lay_box_tree.specs.BoxColumns.{box_at}
-use Rattle.lay_pieces.specs.declared.corner.Corner.{Corner}
+use Rattle.lay_placements.specs.declared.corner.Corner.{Corner}
 use Rattle.lay_abspos.proofs.OneAbsoluteBox.{one_offset_lem}
 use Rattle.lay_abspos.specs.PlaceLaws.{OneOwnPlace}
 use Rattle.lay_abspos.specs.OwnOffsets.{IsOwnOffsetBy, StandInput}

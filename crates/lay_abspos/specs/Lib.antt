@@ -1,3 +1,4 @@
+pub mod Relative
 pub mod AbsoluteAxes
 pub mod AbsoluteAxis
 pub mod AbsoluteFits

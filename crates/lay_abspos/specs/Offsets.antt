@@ -10,7 +10,7 @@ use Rattle.lay_box_tree.specs.Kinds.{is_wrapper}
 use Rattle.lay_abspos.specs.declared.axis.Axis.{Axis}
 use Rattle.lay_abspos.specs.declared.axis.ContentSize.TheVariants.{Stands as stands}
 use Rattle.lay_abspos.specs.AbsoluteAxis.{IsUsedAxis}
-use Rattle.lay_pieces.specs.declared.corner.Corner.{Corner}
+use Rattle.lay_placements.specs.declared.corner.Corner.{Corner}
 use Rattle.lay_abspos.specs.declared.setting.AbsoluteSetting.{AbsoluteSetting}
 use Rattle.lay_abspos.specs.AbsoluteAxes.{axis_down, content_height, wrapper_down}
 use Rattle.lay_abspos.specs.AbsoluteSizes.{border_start, own_axis_down}

@@ -17,10 +17,10 @@ use Rattle.lay_sizes.specs.declared.sizing.BoxSizes.{BoxSizes}
 use Rattle.lay_sizes.specs.declared.sizing.ContainingBlock.{ContainingBlock}
 use Rattle.lay_sizes.specs.BoxSizes.{border_width}
 use Rattle.lay_sizes.specs.SizeColumns.{sizes_at}
-use Rattle.lay_relative.specs.RelativeOffsets.{relative_offset}
+use Rattle.lay_abspos.specs.Relative.RelativeOffsets.{relative_offset}
 use Rattle.lay_box_tree.specs.BoxColumns.{box_at}
-use Rattle.lay_pieces.specs.declared.corner.Corner.{Corner}
-use Rattle.lay_pieces.specs.Corners.{no_corner}
+use Rattle.lay_placements.specs.declared.corner.Corner.{Corner}
+use Rattle.lay_placements.specs.Corners.{no_corner}
 use Rattle.lay_abspos.specs.Offsets.{IsOffset}
 use Rattle.lay_abspos.specs.declared.own_place.OwnPlace.{OwnPlace}
 use Rattle.lay_abspos.specs.declared.own_place.OwnPlace.TheVariants.{Inner, Root, Absolute}

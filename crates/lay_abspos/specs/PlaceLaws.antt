@@ -1,7 +1,7 @@
 -- Where a formatting context stands by itself is one place.
 use Rattle.std.specs.Prelude.{◌≡◌}
 use Rattle.lay_sizes.specs.declared.own_boxes.OwnBox.{OwnBox}
-use Rattle.lay_pieces.specs.declared.corner.Corner.{Corner}
+use Rattle.lay_placements.specs.declared.corner.Corner.{Corner}
 use Rattle.lay_abspos.specs.OwnOffsets.{IsOwnOffset, StandInput}
 
 abbrev pub OneOwnPlace : Type 0

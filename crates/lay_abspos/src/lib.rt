@@ -7,6 +7,8 @@
 //!   `specs/Offsets.antt`).
 //! - `IsOwnOffset` of `specs/OwnOffsets.antt` says where a formatting context stands by itself: an absolutely positioned one, and
 //!   the root's in the viewport (9.4.3).
+//!
+//! - `relative`: relative positioning (9.4.3), by how much the boxes of a formatting context are moved.
 #![tactic(auto)]
 
 mod absolute;
@@ -19,6 +21,7 @@ mod offsets;
 mod own_offsets;
 mod own_place;
 mod place_laws;
+pub mod relative;
 mod root_box;
 mod setting;
 mod setting_laws;

@@ -3,8 +3,8 @@
 ghost use Rattle.std.specs.Prelude.{◌≡◌, IfErr, IfOk};
 ghost use Rattle.lay_units.specs.Units.{IsBoxSize};
 ghost use Rattle.lay_abspos.specs.AbsoluteFits.{AxisFits};
-ghost use Rattle.lay_pieces.specs.Corners.{IsCornerNear};
-ghost use Rattle.lay_pieces.specs.declared.corner.Corner.{Corner};
+ghost use Rattle.lay_placements.specs.Corners.{IsCornerNear};
+ghost use Rattle.lay_placements.specs.declared.corner.Corner.{Corner};
 ghost use Rattle.lay_box_tree.specs.Kinds.{is_wrapper};
 ghost use Rattle.lay_abspos.specs.OffsetBounds.{IsStart};
 ghost use Rattle.lay_abspos.specs.Offsets.{IsOffset, axis_of_height};
@@ -16,7 +16,7 @@ use crate::setting::{AbsoluteSetting, block_in};
 use crate::sizes::{border_start, own_axis_down, solved};
 use crate::{Axis, ContentSize};
 use lay_box_tree::{BoxNode, is_wrapper};
-use lay_pieces::{Corner, near_corner};
+use lay_placements::{Corner, near_corner};
 use lay_units::{Len, NoMemory, Unit};
 
 /// The corner of the border box of this box, counted as its containing block is: its left edge is so far from that of the

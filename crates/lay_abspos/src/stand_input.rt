@@ -6,7 +6,7 @@ ghost use Rattle.lay_abspos.specs.StandInputs.{StandInputFits};
 
 use crate::own_place::OwnPlace;
 use lay_box_tree::ContextBoxes;
-use lay_pieces::ContextSizes;
+use lay_placements::ContextSizes;
 use lay_sizes::BoxSizes;
 use lay_units::Unit;
 use std::marker::Model;

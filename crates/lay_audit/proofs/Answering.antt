@@ -1,13 +1,13 @@
 -- What stands after a command is answered.
 use Rattle.std.proofs.Common.{◌≡◌, ℕ, suc, ◌+◌, ◌<◌, ◌≤◌, List, [], length, fold, Some, refl, sym, ap, ◌∙◌, subst, arith, slice_index_or, slice_set, inl, inr}
 use Rattle.std.proofs.lemmas.Bool.{cases_lt}
-use Rattle.lay_edits.specs.EditLists.{after_all}
-use Rattle.lay_edits.specs.declared.command.Cmd.{Cmd}
-use Rattle.lay_edits.specs.declared.command.Cmd.TheVariants as command
-use Rattle.lay_edits.specs.declared.command.Reply.{Reply}
-use Rattle.lay_edits.specs.declared.command.Reply.TheVariants.{Accepted, Refused, Shown, NoMemory}
-use Rattle.lay_edits.specs.declared.history.Entry.{Entry}
-use Rattle.lay_edits.specs.declared.history.Entry.TheVariants as entry
+use Rattle.lay_history.specs.Edits.EditLists.{after_all}
+use Rattle.lay_history.specs.declared.edits.command.Cmd.{Cmd}
+use Rattle.lay_history.specs.declared.edits.command.Cmd.TheVariants as command
+use Rattle.lay_history.specs.declared.edits.command.Reply.{Reply}
+use Rattle.lay_history.specs.declared.edits.command.Reply.TheVariants.{Accepted, Refused, Shown, NoMemory}
+use Rattle.lay_history.specs.declared.edits.history.Entry.{Entry}
+use Rattle.lay_history.specs.declared.edits.history.Entry.TheVariants as entry
 use Rattle.lay_history.specs.Histories.{list_in, last_or, shown_version, shown_by, version_in}
 use Rattle.lay_history.proofs.Lists.{some_is}
 use Rattle.lay_audit.specs.declared.step.Step.{Step}

@@ -3,7 +3,7 @@ use Rattle.std.proofs.Common.{◌≡◌, ℕ, ◌+◌, ◌*◌, List, [], ◌∷
 use Rattle.std.specs.List.{flat_map}
 use Rattle.std.specs.Fmt.{decimal}
 use Rattle.std.proofs.lemmas.List.{append_cancel_left}
-use Rattle.lay_edits.specs.declared.history.Entry.{Entry}
+use Rattle.lay_history.specs.declared.edits.history.Entry.{Entry}
 use Rattle.lay_history.specs.Histories.{accepted, shown_version}
 use Rattle.lay_history.proofs.Lists.{some_is}
 use Rattle.lay_history.specs.Trees.{PublishedTreeValue, tree_at}

@@ -4,13 +4,13 @@ use Rattle.std.specs.Fmt.{decimal}
 use Rattle.std.specs.List.{All}
 use Rattle.std.proofs.lemmas.Option.{get_or_from_slice_get}
 use Rattle.lay_doc.specs.declared.edit.Edit.{Edit as Change}
-use Rattle.lay_edits.proofs.Firsts.{first_within}
-use Rattle.lay_edits.specs.declared.command.Cmd.{Cmd}
-use Rattle.lay_edits.specs.declared.command.Cmd.TheVariants as command
-use Rattle.lay_edits.specs.declared.command.Reply.{Reply}
-use Rattle.lay_edits.specs.declared.command.Reply.TheVariants.{Accepted, Refused, Shown, NoMemory}
-use Rattle.lay_edits.specs.declared.history.Entry.{Entry}
-use Rattle.lay_edits.specs.declared.history.Entry.TheVariants.{Edit, Publish, Latest, Sync}
+use Rattle.lay_history.proofs.EditsLemmas.Firsts.{first_within}
+use Rattle.lay_history.specs.declared.edits.command.Cmd.{Cmd}
+use Rattle.lay_history.specs.declared.edits.command.Cmd.TheVariants as command
+use Rattle.lay_history.specs.declared.edits.command.Reply.{Reply}
+use Rattle.lay_history.specs.declared.edits.command.Reply.TheVariants.{Accepted, Refused, Shown, NoMemory}
+use Rattle.lay_history.specs.declared.edits.history.Entry.{Entry}
+use Rattle.lay_history.specs.declared.edits.history.Entry.TheVariants.{Edit, Publish, Latest, Sync}
 use Rattle.lay_history.specs.Laws.{ShowsSame}
 use Rattle.lay_history.proofs.Lists.{some_is}
 use Rattle.lay_report.specs.Laws.{IsEntryWithin, IsReplyWithin}

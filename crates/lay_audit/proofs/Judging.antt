@@ -1,7 +1,7 @@
 -- What is found, step by step.
 use Rattle.std.proofs.Common.{◌≡◌, ℕ, suc, ◌+◌, List, [], ◌∷◌, ◌++◌, Some, refl, sym, ap, ◌∙◌, subst, arith, append_assoc, append-nil}
-use Rattle.lay_edits.specs.declared.command.Reply.{Reply}
-use Rattle.lay_edits.specs.declared.history.Entry.{Entry}
+use Rattle.lay_history.specs.declared.edits.command.Reply.{Reply}
+use Rattle.lay_history.specs.declared.edits.history.Entry.{Entry}
 use Rattle.lay_history.specs.Histories.{shown_version, version_in}
 use Rattle.lay_report.specs.Report.{entry_line, laid_line}
 use Rattle.lay_context.specs.Laws.{OneSolution}

@@ -1,3 +1,4 @@
+pub mod CheckLemmas
 mod LineFacts
 mod VerdictLaws
 mod Fronts

@@ -3,9 +3,9 @@ use Rattle.std.proofs.Common.{◌≡◌, ◌⊎◌, ℕ, ◌+◌, List, Some, No
 use Rattle.lay_doc.specs.Document.{Document}
 use Rattle.lay_doc.specs.declared.edit.Edit.{Edit as Change}
 use Rattle.lay_doc.specs.declared.edit.EditFault.{EditFault}
-use Rattle.lay_edits.specs.EditLists.{first}
-use Rattle.lay_edits.specs.declared.command.Reply.{Reply}
-use Rattle.lay_edits.specs.declared.command.Reply.TheVariants.{Accepted, Refused, Shown, NoMemory}
+use Rattle.lay_history.specs.Edits.EditLists.{first}
+use Rattle.lay_history.specs.declared.edits.command.Reply.{Reply}
+use Rattle.lay_history.specs.declared.edits.command.Reply.TheVariants.{Accepted, Refused, Shown, NoMemory}
 use Rattle.lay_history.specs.Legal.{AnswersEdits}
 use Rattle.lay_history.proofs.Lists.{not_none, some_is}
 

@@ -5,9 +5,9 @@ use Rattle.std.proofs.lemmas.Bool.{cases_eq}
 use Rattle.std.proofs.lemmas.List.Concat.{flat_map-append}
 use Rattle.std.proofs.lemmas.List.Elements.{All-push}
 use Rattle.lay_doc.specs.Document.{Document}
-use Rattle.lay_edits.specs.EditLists.{after_all}
-use Rattle.lay_edits.specs.declared.history.Entry.{Entry}
-use Rattle.lay_edits.specs.declared.history.Entry.TheVariants.{Publish}
+use Rattle.lay_history.specs.Edits.EditLists.{after_all}
+use Rattle.lay_history.specs.declared.edits.history.Entry.{Entry}
+use Rattle.lay_history.specs.declared.edits.history.Entry.TheVariants.{Publish}
 use Rattle.lay_history.specs.Histories.{accepted, doc_at, list_in, lists, last_or, last_published, published, version_in}
 use Rattle.lay_history.specs.Legal.{IsLegal}
 use Rattle.lay_history.specs.Trees.{HasTrees, PublishedTreeValue, tree_at, versions_of}

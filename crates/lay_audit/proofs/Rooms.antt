@@ -1,8 +1,8 @@
 -- Numbers that are counted while a text is read.
 use Rattle.std.proofs.Common.{◌≡◌, ℕ, ◌+◌, ◌<◌, ◌≤◌, List, [], ◌++◌, length, refl, sym, ap, ◌∙◌, subst, arith, length-append, slice_index_or}
-use Rattle.lay_edits.specs.declared.command.Cmd.{Cmd}
-use Rattle.lay_edits.specs.declared.history.Entry.{Entry}
-use Rattle.lay_edits.specs.declared.history.Entry.TheVariants as entry
+use Rattle.lay_history.specs.declared.edits.command.Cmd.{Cmd}
+use Rattle.lay_history.specs.declared.edits.history.Entry.{Entry}
+use Rattle.lay_history.specs.declared.edits.history.Entry.TheVariants as entry
 use Rattle.lay_report.specs.Report.{entry_line}
 use Rattle.lay_audit.specs.declared.step.Step.{Step}
 use Rattle.lay_audit.specs.declared.step.Step.TheVariants as step

@@ -1,9 +1,9 @@
 -- A step is taken while a text is read.
 use Rattle.std.proofs.Common.{◌≡◌, ℕ, ◌+◌, ◌<◌, List, [], length, Option, Some, None, IfSome, is_some, true, Result, Ok, Err, IfOk, refl, sym, subst, arith}
 use Rattle.lay_doc.specs.Document.{Document}
-use Rattle.lay_edits.specs.declared.command.Cmd.{Cmd}
-use Rattle.lay_edits.specs.declared.command.Reply.{Reply}
-use Rattle.lay_edits.specs.declared.history.Entry.{Entry}
+use Rattle.lay_history.specs.declared.edits.command.Cmd.{Cmd}
+use Rattle.lay_history.specs.declared.edits.command.Reply.{Reply}
+use Rattle.lay_history.specs.declared.edits.history.Entry.{Entry}
 use Rattle.lay_face.specs.FaceValue.{FaceValue}
 use Rattle.lay_context.specs.Laws.{OneSolution}
 use Rattle.lay_audit.specs.declared.next.Next.{Next}

@@ -1,3 +1,4 @@
+pub mod Check
 pub mod Lines
 pub mod LegalReports
 pub mod Verdicts

@@ -4,12 +4,12 @@ use Rattle.std.specs.Prelude.{ℕ, ⊤, zero, suc, ◌≡◌, ◌+◌, ◌≤◌
 use Rattle.std.specs.Prelude.{fold, slice_get, slice_index_or, slice_set, Option, Some, None}
 use Rattle.std.specs.List.{All}
 use Rattle.lay_doc.specs.Document.{Document}
-use Rattle.lay_edits.specs.EditLists.{after_all}
-use Rattle.lay_edits.specs.declared.command.Cmd.{Cmd}
-use Rattle.lay_edits.specs.declared.command.Cmd.TheVariants as command
-use Rattle.lay_edits.specs.declared.command.Reply.{Reply}
-use Rattle.lay_edits.specs.declared.history.Entry.{Entry}
-use Rattle.lay_edits.specs.declared.history.Entry.TheVariants as entry
+use Rattle.lay_history.specs.Edits.EditLists.{after_all}
+use Rattle.lay_history.specs.declared.edits.command.Cmd.{Cmd}
+use Rattle.lay_history.specs.declared.edits.command.Cmd.TheVariants as command
+use Rattle.lay_history.specs.declared.edits.command.Reply.{Reply}
+use Rattle.lay_history.specs.declared.edits.history.Entry.{Entry}
+use Rattle.lay_history.specs.declared.edits.history.Entry.TheVariants as entry
 use Rattle.lay_history.specs.Calls.{calls, calls_of, script_calls, script_of}
 use Rattle.lay_history.specs.Histories.{accepted, list_in, last_or, last_published, shown_by, version_in}
 use Rattle.lay_history.specs.Legal.{AnswersEdits, AnswersLatest, AnswersSync, IsLegal, doc_after}

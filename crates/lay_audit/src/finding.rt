@@ -2,15 +2,15 @@
 
 ghost use Rattle.std.specs.Prelude.{◌≡◌, ◌+◌, ◌<◌, ◌^◌, IfOk, IfSome, List, None, length};
 ghost use Rattle.std.specs.Bool.{Decides};
-ghost use Rattle.lay_edits.specs.declared.command.Cmd.{Cmd as ACmd};
-ghost use Rattle.lay_edits.specs.declared.command.Reply.{Reply as AReply};
+ghost use Rattle.lay_history.specs.declared.edits.command.Cmd.{Cmd as ACmd};
+ghost use Rattle.lay_history.specs.declared.edits.command.Reply.{Reply as AReply};
 ghost use Rattle.lay_audit.specs.declared.step.Step.{Step as AStep};
 ghost use Rattle.lay_audit.specs.NextLines.{BeginsWith, RepliesNext, StandsNext, StandsNot, edit_count, reply_end};
 
 use crate::lines::{behind, command_front, number_line, reply_end};
 use crate::present::{Present, command_at};
 use crate::step::Step;
-use lay_edits::{Cmd, CmdList, Reply};
+use lay_history::edits::{Cmd, CmdList, Reply};
 use lay_units::NoMemory;
 use std::alloc::Global;
 

@@ -1,8 +1,11 @@
 //! Reports that anybody wrote, judged: whether one is a legal report of a run, or which line is the first that no legal
 //! report has there.
+//!
+//! - `check`: the verdict on a report, as one line.
 #![tactic(auto)]
 
 mod auditing;
+pub mod check;
 mod comparing;
 mod ending;
 mod finding;

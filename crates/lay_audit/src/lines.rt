@@ -4,7 +4,7 @@ ghost use Rattle.std.specs.Prelude.{◌≡◌, ◌++◌, IfOk, IfSome, None, cod
 ghost use Rattle.std.specs.Fmt.{decimal};
 ghost use Rattle.lay_audit.specs.NextLines.{BeginsWith, command_front, command_word, edit_count, reply_end};
 
-use lay_edits::{Cmd, Reply};
+use lay_history::edits::{Cmd, Reply};
 use lay_report::{answer_text, push_number};
 use lay_units::NoMemory;
 use std::alloc::Global;

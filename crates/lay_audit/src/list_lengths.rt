@@ -3,7 +3,7 @@
 ghost use Rattle.std.specs.List.{All};
 ghost use Rattle.lay_audit.specs.Presents.{AreCommandsWithin, IsCommandWithin};
 
-use lay_edits::{Cmd, CmdList};
+use lay_history::edits::{Cmd, CmdList};
 
 /// Each command of the scripts has less than 2^64 edits.
 pub(crate) fn lists_fit(scripts: &[CmdList])

@@ -5,13 +5,13 @@ ghost use Rattle.std.specs.Prelude.{length, option_map, slice_get, slice_index_o
 ghost use Rattle.std.specs.Bool.{Decides};
 ghost use Rattle.std.specs.List.{All};
 ghost use Rattle.lay_face.specs.FaceValue.{FaceValue};
-ghost use Rattle.lay_edits.specs.declared.command.Reply.{Reply as AReply};
-ghost use Rattle.lay_edits.specs.declared.history.Entry.{Entry};
+ghost use Rattle.lay_history.specs.declared.edits.command.Reply.{Reply as AReply};
+ghost use Rattle.lay_history.specs.declared.edits.history.Entry.{Entry};
 ghost use Rattle.lay_audit.specs.Presents.{Accepts, AllAnswered, Answers, AreCommandsWithin, IsPresent, IsPresentWithin, IsStep, Moves};
 
 use crate::step::Step;
 use lay_doc::Doc;
-use lay_edits::{BatchFault, Cmd, CmdList, Edits, Reply, apply_all, check_all};
+use lay_history::edits::{BatchFault, Cmd, CmdList, Edits, Reply, apply_all, check_all};
 use lay_units::NoMemory;
 use std::alloc::Global;
 use std::marker::Model;

@@ -2,7 +2,7 @@
 
 ghost use Rattle.std.specs.Prelude.{◌≡◌, ◌+◌, ◌<◌, ◌≤◌, ◌^◌, [], IfOk, List, OnOk, Some, length, ℕ};
 ghost use Rattle.lay_doc.specs.Document.{Document};
-ghost use Rattle.lay_edits.specs.declared.command.Cmd.{Cmd};
+ghost use Rattle.lay_history.specs.declared.edits.command.Cmd.{Cmd};
 ghost use Rattle.lay_face.specs.FaceValue.{FaceValue};
 ghost use Rattle.lay_audit.specs.Lines.{behind_line};
 ghost use Rattle.lay_audit.specs.NextLines.{StandsNext};
@@ -18,8 +18,8 @@ use crate::present::Present;
 use crate::step::{Step, is_shown};
 use lay_context::one_solution;
 use lay_doc::Doc;
-use lay_edits::{CmdList, Reply};
 use lay_face::Face;
+use lay_history::edits::{CmdList, Reply};
 use lay_units::NoMemory;
 use std::alloc::Global;
 use std::marker::Model;

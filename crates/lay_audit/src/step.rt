@@ -3,7 +3,7 @@
 ghost use Rattle.std.specs.Prelude.{◌≡◌, is_some};
 ghost use Rattle.lay_audit.specs.Presents.{shown_in};
 
-use lay_edits::Reply;
+use lay_history::edits::Reply;
 
 /// The entry that comes next.
 #[derive(Clone, Copy)]

@@ -1,11 +1,11 @@
 -- What the work of guests comes to.
 use Rattle.std.proofs.Common.{◌≡◌, ◌≤◌, ◌+◌, ◌^◌, ◌⊎◌, ◌∙◌, inl, inr, ℕ, List, [], Option, Some, None, Result, Ok, Err, refl, ap, arith, subst}
 use Rattle.std.specs.Prelude.{⊤, IfOk}
-use Rattle.lay_layout.specs.units.declared.memory.NoMemory.{NoMemory as Want}
-use Rattle.lay_core.specs.cell_work.Claims.{Claim}
-use Rattle.lay_core.specs.document_cells.Batches.{ClaimsSome as CellsClaimSome, fewer, full, none}
-use Rattle.lay_core.specs.document_cells.State.{State as DocumentCells}
-use Rattle.lay_core.specs.document_cells.declared.idle.IdleKind.{IdleKind}
+use Rattle.lay_units.specs.declared.memory.NoMemory.{NoMemory as Want}
+use Rattle.lay_cell_work.specs.Claims.{Claim}
+use Rattle.lay_document_cells.specs.Batches.{ClaimsSome as CellsClaimSome, fewer, full, none}
+use Rattle.lay_document_cells.specs.State.{State as DocumentCells}
+use Rattle.lay_document_cells.specs.declared.idle.IdleKind.{IdleKind}
 use Rattle.lay_core.specs.Claims.{ClaimsSome, DrawsFew}
 use Rattle.lay_core.specs.State.{State, document_cells}
 use Rattle.lay_core.specs.Work.{ChangesCells}

@@ -4,4 +4,3 @@ pub mod Steps
 pub mod Turns
 pub mod Makings
 pub mod Guests
-pub use Rattle.lay_core.proofs as lay_core

@@ -4,7 +4,7 @@ use mathlib.Core.Option as opt
 use mathlib.Core.Option.{some-ne-none, some-injective}
 use lib.ListN.{get_elem?}
 use Rattle.atomic_table.proofs.Lists.{at_set}
-use Rattle.lay_layout.specs.edit_lists.declared.history.Entry.{Entry}
+use Rattle.lay_history.specs.declared.edits.history.Entry.{Entry}
 use Rattle.lay_board.specs.declared.views.View.{View}
 use Rattle.lay_board.specs.Entries.{Begins, by_editor, own_if}
 use Rattle.lay_board.specs.Rules.{At, all_calls, calls_of}

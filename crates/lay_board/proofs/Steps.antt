@@ -8,7 +8,7 @@ use lib.ListN.{get_elem?}
 use prog.Atomic.{either}
 use Rattle.atomic_table.specs.Table.{State as Table, Step, Act, Valid, stepped, carried_after, Allows, Enters, Splits, Joins, opening, step, keeps, takes, gives, rest}
 use Rattle.atomic_table.proofs.Lists.{at_set, at_longer, set_here, set_else, set_again}
-use Rattle.lay_layout.specs.edit_lists.declared.history.Entry.{Entry}
+use Rattle.lay_history.specs.declared.edits.history.Entry.{Entry}
 use Rattle.lay_board.specs.declared.views.PassView.{PassView}
 use Rattle.lay_board.specs.declared.views.MakerView.{MakerView}
 use Rattle.lay_board.specs.declared.views.View.{View}

@@ -1,7 +1,7 @@
 -- What a turn leaves to the pass.
 use Rattle.std.proofs.Common.{◌≡◌, ℕ, ◌+◌, ◌-◌, ◌<◌, ◌≤◌, List, [], ◌∷◌, ◌++◌, length, Some, None, IfSome, refl, sym, ap, ◌∙◌, subst, arith, length-append, append_assoc}
-use Rattle.lay_layout.specs.edit_lists.declared.history.Entry.{Entry}
-use Rattle.lay_layout.specs.history.Legal.{IsLegal}
+use Rattle.lay_history.specs.declared.edits.history.Entry.{Entry}
+use Rattle.lay_history.specs.Legal.{IsLegal}
 use Rattle.lay_core.specs.State.{State}
 use Rattle.lay_board.specs.Cores.{Adds, origin_of}
 use Rattle.lay_board.specs.Entries.{Begins, by_editor}

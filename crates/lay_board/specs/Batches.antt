@@ -1,10 +1,10 @@
 -- What a turn of those who lay out cells comes to: claims that the core hands out, and outcomes that are handed in. Nobody sees the states
 -- of the core in such a turn, so all that can be said is that there are some, of a core of this document and this face.
 use Rattle.std.specs.Prelude.{ℕ, ◌≡◌, [], Some, None, Ok, List, IfOk}
-use Rattle.lay_core.specs.claim_lists.declared.outcome.Outcome.{Outcome}
+use Rattle.lay_cell_work.specs.declared.claim_lists.outcome.Outcome.{Outcome}
 use Rattle.lay_core.specs.Claims.{ClaimsSome, FinishesAll}
 use Rattle.lay_core.specs.State.{IsCore, State}
-use Rattle.lay_core.specs.document_cells.Outcomes.{Tally}
+use Rattle.lay_document_cells.specs.Outcomes.{Tally}
 use Rattle.lay_board.specs.Cores.{origin_of}
 use Rattle.lay_board.specs.declared.batches.Batch.{Batch}
 use Rattle.lay_board.specs.declared.batches.Batch.TheVariants as batch

@@ -1,8 +1,8 @@
 -- What steps of a core are to those who know of it its origin, its history and how many calls are left.
 use Rattle.std.specs.Prelude.{◌≡◌, ◌≢◌, ◌⊎◌, ℕ, ◌+◌, ◌-◌, ◌*◌, ◌^◌, ◌≤◌, List, [], ◌∷◌, ◌++◌}
-use Rattle.lay_layout.specs.doc.Document.{Document}
-use Rattle.lay_layout.specs.face.FaceValue.{FaceValue}
-use Rattle.lay_layout.specs.edit_lists.declared.history.Entry.{Entry}
+use Rattle.lay_doc.specs.Document.{Document}
+use Rattle.lay_face.specs.FaceValue.{FaceValue}
+use Rattle.lay_history.specs.declared.edits.history.Entry.{Entry}
 use Rattle.lay_core.specs.State.{State}
 use Rattle.lay_board.specs.Entries.{by_editor}
 use Rattle.lay_board.specs.declared.table.Terms.{Terms}

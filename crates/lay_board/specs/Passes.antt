@@ -1,8 +1,8 @@
 -- What passes know, and what a call adds to it.
 use Rattle.std.specs.Prelude.{◌≡◌, ℕ, ◌+◌, ◌<◌, ◌≤◌, List, [], ◌∷◌, ◌++◌, length, slice_get, Option, Some, None}
 use Rattle.atomic_table.specs.Seated.{TableId}
-use Rattle.lay_layout.specs.edit_lists.declared.history.Entry.{Entry}
-use Rattle.lay_layout.specs.history.Legal.{IsLegal}
+use Rattle.lay_history.specs.declared.edits.history.Entry.{Entry}
+use Rattle.lay_history.specs.Legal.{IsLegal}
 use Rattle.lay_core.specs.State.{State}
 use Rattle.lay_board.specs.Cores.{origin_with}
 use Rattle.lay_board.specs.Entries.{Begins, by_editor}

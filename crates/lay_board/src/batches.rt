@@ -1,16 +1,16 @@
 //! Claims of cells by the batch, for those who lay them out.
 
 ghost use Rattle.std.specs.Prelude.{◌≡◌, ◌<◌, ◌≤◌, [], length, IfErr, IfOk};
-ghost use Rattle.lay_core.specs.document_cells.Outcomes.{tally_sum};
+ghost use Rattle.lay_document_cells.specs.Outcomes.{tally_sum};
 ghost use Rattle.lay_board.specs.Batches.{Exchanges, FinishesBatch, GivesBatch, GrantsBatch};
 ghost use Rattle.lay_board.specs.Cores.{IsQuiet};
 
 use crate::engine::Engine;
 use crate::turn::{give_core, visit};
+use lay_cell_work::claim_lists::{ClaimList, Outcomes};
 use lay_core::Core;
-use lay_core::claim_lists::{ClaimList, Outcomes};
-use lay_core::document_cells::{Idle, Tally};
-use lay_layout::units::NoMemory;
+use lay_document_cells::{Idle, Tally};
+use lay_units::NoMemory;
 use std::alloc::Global;
 use std::sync::Wait;
 

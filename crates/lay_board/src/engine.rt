@@ -2,12 +2,12 @@
 
 ghost use Rattle.std.specs.Prelude.{◌≡◌, ◌<◌, ◌≤◌, length};
 ghost use Rattle.lay_board.specs.Passes.{Calls};
-ghost use Rattle.lay_layout.specs.edit_lists.declared.history.Entry.TheVariants as entry;
+ghost use Rattle.lay_history.specs.declared.edits.history.Entry.TheVariants as entry;
 
 use crate::pass::Pass;
 use crate::table::{Looks, Shelf};
 use crate::turn::{begun, ended};
-use lay_layout::edit_lists::{Edits, Reply};
+use lay_history::edits::{Edits, Reply};
 use lay_outside::Gate;
 use std::alloc::Global;
 use std::marker::Model;

@@ -1,13 +1,13 @@
 //! How a call helps before its turn, so that little is left to lay out under the lock.
 
 ghost use Rattle.std.specs.Prelude.{◌≡◌, ◌≤◌, [], length, vec_capacity};
-ghost use Rattle.lay_core.specs.claim_lists.Outcomes.{IsOutcomeOf};
+ghost use Rattle.lay_cell_work.specs.ClaimLists.Outcomes.{IsOutcomeOf};
 
 use crate::batches::Batch;
 use crate::engine::Engine;
 use crate::turn::{give_core, visit};
-use lay_core::cell_work::Claim;
-use lay_core::claim_lists::{ClaimList, Outcome, Outcomes};
+use lay_cell_work::Claim;
+use lay_cell_work::claim_lists::{ClaimList, Outcome, Outcomes};
 use lay_outside::{Gate, Point};
 use std::alloc::Global;
 use std::sync::Wait;

@@ -20,6 +20,5 @@ mod views;
 
 pub use batches::{Batch, Exchange};
 pub use engine::Engine;
-pub use lay_core as editing_core;
 pub use pass::Pass;
 pub use starting::{Closer, Passes};

@@ -3,8 +3,8 @@
 use crate::views::View;
 use atomic_table::{Join, Play, Seat, Split, Table, TableRule};
 use lay_core::Core;
-use lay_layout::doc::Doc;
-use lay_layout::face::Face;
+use lay_doc::Doc;
+use lay_face::Face;
 use std::alloc::Global;
 use std::snapshot::Snapshot;
 

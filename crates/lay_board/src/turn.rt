@@ -8,7 +8,7 @@ ghost use Rattle.lay_board.specs.Rules.{MeetsSeat, grown, guest_view, held_by, p
 ghost use Rattle.lay_board.specs.declared.views.PassView.{PassView as APass};
 ghost use Rattle.lay_board.specs.declared.views.View.{View as AView};
 ghost use Rattle.lay_core.specs.State.{State};
-ghost use Rattle.lay_layout.specs.edit_lists.declared.history.Entry.{Entry};
+ghost use Rattle.lay_history.specs.declared.edits.history.Entry.{Entry};
 
 use crate::pass::Pass;
 use crate::table::{Comes, CoreSeat, Gives, Shelf, Takes, Tells};

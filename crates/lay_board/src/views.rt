@@ -1,9 +1,9 @@
 //! What those who have a seat at the table know. No value of these types is made.
 
 use lay_core::Core;
-use lay_layout::doc::Doc;
-use lay_layout::edit_lists::Entry;
-use lay_layout::face::Face;
+use lay_doc::Doc;
+use lay_face::Face;
+use lay_history::edits::Entry;
 use std::collections::LinkedList;
 
 /// What an engine was started with, beside the calls: the document before any edit, and the face that texts are measured in.

@@ -2,17 +2,17 @@
 
 ghost use Rattle.std.specs.Prelude.{◌≡◌, ◌≤◌, length, All, IfOk};
 ghost use Rattle.lay_units.specs.Units.{IsSize};
-ghost use Rattle.lay_auto_columns.specs.AutoColumns.{sum_min};
-ghost use Rattle.lay_auto_columns.specs.Fit.{BoundFits, CellFits, SpanFits};
+ghost use Rattle.lay_grid.specs.Automatic.AutoColumns.{sum_min};
+ghost use Rattle.lay_grid.specs.Automatic.Fit.{BoundFits, CellFits, SpanFits};
 
 use crate::lengths::{size, sizes_or_none};
 use anyhow::{Result, bail};
-use lay_auto_columns::{
+use lay_case_reading::{ample, spanned};
+use lay_grid::WidthOptions;
+use lay_grid::automatic::{
     Bound, BoundList, BoundsIn, GroupSpan, GroupSpans, SpanCell, SpanCells, column_bounds,
     columns_auto,
 };
-use lay_case_reading::{ample, spanned};
-use lay_grid::WidthOptions;
 use lay_units::Unit;
 use std::alloc::Global;
 

@@ -2,7 +2,7 @@
 
 ghost use Rattle.std.specs.Prelude.{◌≤◌, length, All, IfOk};
 ghost use Rattle.lay_units.specs.Units.{IsSize};
-ghost use Rattle.lay_auto_columns.specs.Sizes.{MayBeSize};
+ghost use Rattle.lay_grid.specs.Automatic.Sizes.{MayBeSize};
 
 use anyhow::{Result, bail};
 use lay_units::Unit;

@@ -3,9 +3,9 @@
 
 use crate::boxes::{push_box, root_boxes, trimmed};
 use anyhow::Result;
+use lay_abspos::relative::former_parents;
 use lay_box_tree::inline_parts;
 use lay_case_reading::ample;
-use lay_relative::former_parents;
 use std::alloc::Global;
 
 /// First and last parts.

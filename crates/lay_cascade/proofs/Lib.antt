@@ -1,3 +1,4 @@
+pub mod StyledLemmas
 pub mod Climbing
 pub mod Leading
 pub mod Columns

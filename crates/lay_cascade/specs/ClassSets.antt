@@ -3,7 +3,7 @@ use Rattle.std.specs.Prelude.{ℕ, ◌≡◌, ◌<◌, List, length, is_some, sl
 use Rattle.std.specs.List.{list_any}
 use Rattle.std.specs.Str.{bytes_eq}
 use Rattle.std.specs.HashMap as hash
-use Rattle.lay_names.specs.declared.names.Names.{Names}
+use Rattle.lay_cascade.specs.declared.node_names.names.Names.{Names}
 use Rattle.lay_cascade.specs.declared.class_sets.ClassSet.{ClassSet}
 
 -- the set has the classes of this list and no other name

@@ -1,7 +1,7 @@
 -- What is kept while a selector is read from its first step on, for all nodes at once: a truth value for each node.
 use Rattle.std.specs.Prelude.{ℕ, ◌≡◌, ◌<◌, Bool, true, false, List, length, reverse, take, slice_index_or}
 use Rattle.lay_doc.specs.declared.node.Node.{Node}
-use Rattle.lay_names.specs.declared.names.Names.{Names}
+use Rattle.lay_cascade.specs.declared.node_names.names.Names.{Names}
 use Rattle.lay_sheet.specs.declared.selector.Joint.{Joint}
 use Rattle.lay_sheet.specs.declared.selector.Step.{Step}
 use Rattle.lay_cascade.specs.NodeNames.{fits_at}

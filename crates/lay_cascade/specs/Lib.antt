@@ -1,3 +1,4 @@
+pub mod Styled
 pub mod NodeNames
 pub mod ClassSets
 pub mod Siblings

@@ -8,7 +8,7 @@ use Rattle.lay_doc.specs.Tree.{IsUnder}
 use Rattle.lay_sheet.specs.declared.selector.Joint.{Joint}
 use Rattle.lay_sheet.specs.declared.selector.Joint.TheVariants.{Same, Descendant, Child, Adjacent}
 use Rattle.lay_sheet.specs.declared.selector.Step.{Step}
-use Rattle.lay_names.specs.declared.names.Names.{Names}
+use Rattle.lay_cascade.specs.declared.node_names.names.Names.{Names}
 use Rattle.lay_cascade.specs.NodeNames.{fits_at}
 use Rattle.lay_cascade.specs.Siblings.{IsAdjacent}
 

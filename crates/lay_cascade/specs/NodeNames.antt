@@ -4,7 +4,7 @@ use Rattle.std.specs.List.{list_any}
 use Rattle.std.specs.Str.{bytes_eq}
 use Rattle.lay_sheet.specs.declared.selector.Simple.{Simple}
 use Rattle.lay_sheet.specs.declared.selector.Simple.TheVariants.{Universal, Tag, Class, Label}
-use Rattle.lay_names.specs.declared.names.Names.{Names}
+use Rattle.lay_cascade.specs.declared.node_names.names.Names.{Names}
 
 -- whether a node with these names is what a simple selector asks for
 abbrev pub fits : Names → Simple → Bool

@@ -5,7 +5,7 @@ use Rattle.std.specs.List.{Contains}
 use Rattle.lay_doc.specs.declared.node.Node.{Node}
 use Rattle.lay_doc.specs.Document.{parents_of}
 use Rattle.lay_doc.specs.Tree.{IsTree}
-use Rattle.lay_names.specs.declared.names.Names.{Names}
+use Rattle.lay_cascade.specs.declared.node_names.names.Names.{Names}
 use Rattle.lay_sheet.specs.declared.selector.Joint.{Joint}
 use Rattle.lay_sheet.specs.declared.selector.Joint.TheVariants.{Descendant}
 use Rattle.lay_sheet.specs.declared.selector.Simple.{Simple}

@@ -5,7 +5,7 @@ ghost use Rattle.std.specs.List.{list_any};
 ghost use Rattle.std.specs.Str.{bytes_eq};
 ghost use Rattle.lay_cascade.specs.ClassSets.{IsSetOf, MaySetOf, AreSets};
 
-use lay_names::Names;
+use crate::node_names::Names;
 use lay_sheet::Name;
 use lay_units::{NoMemory, Text};
 use std::alloc::Global;

@@ -7,8 +7,8 @@ ghost use Rattle.lay_cascade.specs.Rising.{IsNamed, AreWithin, IsRising, AreBefo
 
 use crate::class_sets::ClassSet;
 use crate::names::fits_at;
+use crate::node_names::Names;
 use lay_doc::{Node, parent_at};
-use lay_names::Names;
 use lay_sheet::{Joint, Simple, Step};
 use lay_units::NoMemory;
 use std::alloc::Global;

@@ -7,7 +7,7 @@ ghost use Rattle.lay_cascade.specs.NodeNames.{fits, fits_at};
 ghost use Rattle.lay_cascade.specs.ClassSets.{MaySetOf, AreSets};
 
 use crate::class_sets::{ClassSet, FEW, names_at};
-use lay_names::Names;
+use crate::node_names::Names;
 use lay_sheet::{Name, Simple};
 use lay_units::Text;
 

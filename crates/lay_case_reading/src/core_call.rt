@@ -30,7 +30,7 @@ use crate::edits::one_edit;
 use crate::keys::Key;
 use crate::words::{first, node, number, small_number};
 use lay_doc::NodeId;
-use lay_edits::Edits;
+use lay_history::edits::Edits;
 use lay_units::NoMemory;
 use std::alloc::Global;
 

@@ -2,7 +2,7 @@
 
 use crate::words::{first, node, small_number};
 use lay_doc::{Edit, NewNode, NodeId};
-use lay_edits::Edits;
+use lay_history::edits::Edits;
 use lay_style::{Decl, Decls, Property};
 use lay_units::{NoMemory, Text};
 use lay_values::{ValueFault, property_of, read};

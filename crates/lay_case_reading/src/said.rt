@@ -1,7 +1,7 @@
 //! Answers to calls on a core, as text.
 
 use crate::keys::Key;
-use lay_edits::Reply;
+use lay_history::edits::Reply;
 use lay_units::NoMemory;
 use std::alloc::Global;
 

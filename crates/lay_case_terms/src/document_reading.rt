@@ -3,8 +3,8 @@
 use crate::answer::Answer;
 use anyhow::Result;
 use lay_doc::{BadDeclaration, Edit, Kind, NewNode, Node, NodeId};
-use lay_edits::Cmd;
 use lay_face::Face;
+use lay_history::edits::Cmd;
 use lay_json::read_run;
 use lay_run::RunDoc;
 use lay_style::Decls;

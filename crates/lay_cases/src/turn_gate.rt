@@ -1,9 +1,9 @@
 //! A gate under which a run has one report.
 
-use lay_cli::editing_core::{Core, Publish};
-use lay_layout::run::RunDoc;
-use lay_layout::units::NoMemory;
+use lay_core::{Core, Publish};
 use lay_outside::{Gate, Point};
+use lay_run::RunDoc;
+use lay_units::NoMemory;
 use std::alloc::Global;
 use std::sync::atomic::{AtomicBool, AtomicU64, Ordering};
 use std::thread;

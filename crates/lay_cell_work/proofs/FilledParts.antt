@@ -1,13 +1,13 @@
 -- What is filled in is within the bounds of what a placement is given.
 use Rattle.std.proofs.Common.{◌≡◌, List, length, arith, ◌∙◌}
-use Rattle.lay_layout.specs.frag.declared.frag.Frag.{Frag}
-use Rattle.lay_layout.specs.sizes.declared.own_boxes.OwnBox.{OwnBox}
-use Rattle.lay_layout.specs.sizes.OwnBoxes.{OwnBoxesFit}
-use Rattle.lay_layout.specs.sizes.SizeColumns.{sizes_at}
-use Rattle.lay_layout.specs.pieces.InnerPieces.{AreNearInnerPieces}
-use Rattle.lay_layout.specs.flow_boxes.PlaceInputs.{PlaceInput, PlaceInputFits, height_rule_of}
-use Rattle.lay_layout.specs.table.TableInputs.{TableInput, TableInputFits}
-use Rattle.lay_layout.proofs.lay_context.OwnHeights.{own_height_fits}
+use Rattle.lay_frag.specs.declared.frag.Frag.{Frag}
+use Rattle.lay_sizes.specs.declared.own_boxes.OwnBox.{OwnBox}
+use Rattle.lay_sizes.specs.OwnBoxes.{OwnBoxesFit}
+use Rattle.lay_sizes.specs.SizeColumns.{sizes_at}
+use Rattle.lay_placements.specs.InnerPieces.{AreNearInnerPieces}
+use Rattle.lay_flow_boxes.specs.PlaceInputs.{PlaceInput, PlaceInputFits, height_rule_of}
+use Rattle.lay_table.specs.TableInputs.{TableInput, TableInputFits}
+use Rattle.lay_context.proofs.OwnHeights.{own_height_fits}
 
 pub refilled_flow : (i : PlaceInput) (inner : List OwnBox) (pieces : List (List Frag)) → PlaceInputFits i → length inner ≡ length i.inner → length pieces ≡ length i.pieces
     → OwnBoxesFit inner → AreNearInnerPieces pieces → PlaceInputFits (record i { inner = inner; pieces = pieces; own_height = height_rule_of (sizes_at i.sizes 0) })

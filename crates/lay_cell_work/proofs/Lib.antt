@@ -1,5 +1,8 @@
+pub mod SameInputLemmas
+pub mod CellLawsLemmas
+pub mod ClaimListsLemmas
+pub mod OutcomeLawsLemmas
 pub mod FilledColumns
 pub mod FilledParts
 pub mod SameFilled
 pub mod RootSteps
-pub use Rattle.lay_shape.proofs as lay_shape

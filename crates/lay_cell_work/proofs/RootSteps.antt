@@ -4,21 +4,21 @@ use Rattle.std.proofs.Common.{◌≡◌, ◌≢◌, ◌<◌, ◌≤◌, ◌+◌,
 use Rattle.std.proofs.lemmas.Bool.{cases_eq, cases_lt}
 use Rattle.std.proofs.lemmas.Grind.{elements}
 use Rattle.std.proofs.lemmas.Option.{get_or_from_slice_get, slice_get-get_or}
-use Rattle.lay_layout.specs.context_sizes.MeasuredContexts.{MeasuredContext, not_measured}
-use Rattle.lay_layout.specs.sizes.declared.sizing.BoxSizes.{BoxSizes}
-use Rattle.lay_layout.specs.units.declared.length.Unit.{Unit as Length}
-use Rattle.lay_layout.specs.table_sizes.TableSizesValue.{TableSizesValue}
-use Rattle.lay_layout.specs.context_sizes.ContextSizes.{IsSizedAs, SizedContext, not_sized}
-use Rattle.lay_layout.specs.context_sizes.Inputs.{SizeInput}
-use Rattle.lay_layout.specs.context_sizes.TableContexts.{is_table}
-use Rattle.lay_layout.specs.context.declared.input.Input.{Input}
-use Rattle.lay_layout.specs.context.declared.input.Input.TheVariants as input
-use Rattle.lay_layout.specs.context.declared.value.Value.{Value}
-use Rattle.lay_layout.specs.context.declared.value.Value.TheVariants as value
-use Rattle.lay_layout.specs.context.DocumentLayout.{widths_in}
-use Rattle.lay_layout.specs.context.Local.{IsLocal}
-use Rattle.lay_layout.specs.context.PlacedContexts.{PlacedContext, not_placed, placed_in}
-use Rattle.lay_layout.specs.context.Settings.{sizes_in}
+use Rattle.lay_context_sizes.specs.MeasuredContexts.{MeasuredContext, not_measured}
+use Rattle.lay_sizes.specs.declared.sizing.BoxSizes.{BoxSizes}
+use Rattle.lay_units.specs.declared.length.Unit.{Unit as Length}
+use Rattle.lay_table_sizes.specs.TableSizesValue.{TableSizesValue}
+use Rattle.lay_context_sizes.specs.ContextSizes.{IsSizedAs, SizedContext, not_sized}
+use Rattle.lay_context_sizes.specs.Inputs.{SizeInput}
+use Rattle.lay_context_sizes.specs.TableContexts.{is_table}
+use Rattle.lay_context.specs.declared.input.Input.{Input}
+use Rattle.lay_context.specs.declared.input.Input.TheVariants as input
+use Rattle.lay_context.specs.declared.value.Value.{Value}
+use Rattle.lay_context.specs.declared.value.Value.TheVariants as value
+use Rattle.lay_context.specs.DocumentLayout.{widths_in}
+use Rattle.lay_context.specs.Local.{IsLocal}
+use Rattle.lay_context.specs.PlacedContexts.{PlacedContext, not_placed, placed_in}
+use Rattle.lay_context.specs.Settings.{sizes_in}
 use Rattle.lay_cell_work.specs.declared.root_spot.RootSpot.{RootSpot}
 use Rattle.lay_cell_work.specs.CellInputFits.{CellInputFits}
 use Rattle.lay_cell_work.specs.CellInputs.{CellInput, RootInput}

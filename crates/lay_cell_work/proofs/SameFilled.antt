@@ -1,18 +1,18 @@
 -- What a root is given in all is the same beside two values of its cell that have the same for what is linked in it and for the one around.
 use Rattle.std.proofs.Common.{◌≡◌, ℕ, zero, suc, List, [], ◌∷◌, map, slice_get, slice_index_or, Option, None, Some, refl, ap, sym, ◌∙◌}
-use Rattle.lay_layout.specs.frag.declared.frag.Frag.{Frag}
-use Rattle.lay_layout.specs.measure.MeasureInValue.{no_widths}
-use Rattle.lay_layout.specs.measure.declared.preferred_widths.PreferredWidths.{PreferredWidths}
-use Rattle.lay_layout.specs.sizes.declared.own_boxes.OwnBox.{OwnBox}
-use Rattle.lay_layout.specs.sizes.OwnBoxes.{no_own_box}
-use Rattle.lay_layout.specs.context_sizes.ContextSizes.{SizedContext}
-use Rattle.lay_layout.specs.context_sizes.MeasuredContexts.{MeasuredContext, not_measured}
-use Rattle.lay_layout.specs.context_sizes.declared.setting.Setting.{Setting}
-use Rattle.lay_layout.specs.context.declared.input.Input.{Input}
-use Rattle.lay_layout.specs.context.declared.input.Input.TheVariants as input
-use Rattle.lay_layout.specs.context.DocumentLayout.{widths_in}
-use Rattle.lay_layout.specs.context.PlacedContexts.{PlacedContext, not_placed, placed_in}
-use Rattle.lay_layout.specs.context.Settings.{setting_in, sizes_in}
+use Rattle.lay_frag.specs.declared.frag.Frag.{Frag}
+use Rattle.lay_measure.specs.MeasureInValue.{no_widths}
+use Rattle.lay_measure.specs.declared.preferred_widths.PreferredWidths.{PreferredWidths}
+use Rattle.lay_sizes.specs.declared.own_boxes.OwnBox.{OwnBox}
+use Rattle.lay_sizes.specs.OwnBoxes.{no_own_box}
+use Rattle.lay_context_sizes.specs.ContextSizes.{SizedContext}
+use Rattle.lay_context_sizes.specs.MeasuredContexts.{MeasuredContext, not_measured}
+use Rattle.lay_context_sizes.specs.declared.setting.Setting.{Setting}
+use Rattle.lay_context.specs.declared.input.Input.{Input}
+use Rattle.lay_context.specs.declared.input.Input.TheVariants as input
+use Rattle.lay_context.specs.DocumentLayout.{widths_in}
+use Rattle.lay_context.specs.PlacedContexts.{PlacedContext, not_placed, placed_in}
+use Rattle.lay_context.specs.Settings.{setting_in, sizes_in}
 use Rattle.lay_cell_work.specs.declared.root_spot.RootSpot.{RootSpot}
 use Rattle.lay_cell_work.specs.CellColumns.{filled}
 use Rattle.lay_cell_work.specs.CellInputs.{RootInput}

@@ -7,8 +7,8 @@
 -- in it. Among the boxes of the root 0 the table's box is linked to 1, and among those of the root 1 the cell's box to 2.
 use Rattle.std.specs.Prelude.{ℕ, zero, suc, ◌-◌, Bool, true, false, List, [], ◌∷◌, map, slice_index_or, Option, None, Some, if◌then◌else◌}
 use Rattle.std.specs.List.{list_any}
-use Rattle.lay_layout.specs.contexts.FormattingContexts.{FormattingContext, formatting_context_at}
-use Rattle.lay_layout.specs.context.DocumentLayout.{flow_numbers}
+use Rattle.lay_contexts.specs.FormattingContexts.{FormattingContext, formatting_context_at}
+use Rattle.lay_context.specs.DocumentLayout.{flow_numbers}
 
 -- Which root of its context the formatting context with the number j is, where it is an anonymous one and the first root of the
 -- context has the number `first`. An element's is the first root of another context, and 0 stands for none.

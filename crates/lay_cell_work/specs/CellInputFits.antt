@@ -2,10 +2,10 @@
 -- tables and cells (CSS 2.2, 17.2.1) stand behind what they are in, so preferred widths and places can be worked out from the last root to
 -- the first, and sizes from the first to the last.
 use Rattle.std.specs.Prelude.{ℕ, ◌≡◌, ◌<◌, length, slice_get, Some}
-use Rattle.lay_layout.specs.context.declared.input.Input.{Input}
-use Rattle.lay_layout.specs.context.declared.input.Input.TheVariants as input
-use Rattle.lay_layout.specs.context.declared.task.Phase.{Phase}
-use Rattle.lay_layout.specs.context.declared.task.Phase.TheVariants as phase
+use Rattle.lay_context.specs.declared.input.Input.{Input}
+use Rattle.lay_context.specs.declared.input.Input.TheVariants as input
+use Rattle.lay_context.specs.declared.task.Phase.{Phase}
+use Rattle.lay_context.specs.declared.task.Phase.TheVariants as phase
 use Rattle.lay_cell_work.specs.declared.root_spot.RootSpot.{RootSpot}
 use Rattle.lay_cell_work.specs.CellInputs.{CellInput, RootInput}
 use Rattle.lay_cell_work.specs.CellLocal.{boxes_given}

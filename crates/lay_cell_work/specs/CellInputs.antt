@@ -1,6 +1,6 @@
 -- What a cell is given: for each root of its context what the task of that is given, as far as it comes from outside the cell.
 use Rattle.std.specs.Prelude.{ℕ, List, Option}
-use Rattle.lay_layout.specs.context.declared.input.Input.{Input}
+use Rattle.lay_context.specs.declared.input.Input.{Input}
 use Rattle.lay_cell_work.specs.declared.root_spot.RootSpot.{RootSpot}
 use Rattle.lay_shape.specs.declared.cell_key.CellKey.{CellKey}
 

@@ -2,17 +2,17 @@
 -- the other parts give that root: preferred widths, own boxes and pieces of the roots in it, and the containing block by the root around
 -- it (CSS 2.2, 10.1). Which part is right is said by `IsLocal`, the same of all formatting contexts.
 use Rattle.std.specs.Prelude.{ℕ, ◌≡◌, List, [], length, map, slice_get, slice_index_or, Option, None, Some}
-use Rattle.lay_layout.specs.units.declared.records.Len.TheVariants.{Auto as auto}
-use Rattle.lay_layout.specs.box_tree.declared.box_tree.BoxNode.{BoxNode}
-use Rattle.lay_layout.specs.measure.MeasureInValue.{no_widths}
-use Rattle.lay_layout.specs.sizes.OwnBoxes.{no_own_box}
-use Rattle.lay_layout.specs.context_sizes.declared.setting.Setting.{Setting}
-use Rattle.lay_layout.specs.context_sizes.declared.setting.Setting.TheVariants.{Block}
-use Rattle.lay_layout.specs.context.declared.input.Input.{Input}
-use Rattle.lay_layout.specs.context.declared.input.Input.TheVariants as input
-use Rattle.lay_layout.specs.context.Local.{IsLocal}
-use Rattle.lay_layout.specs.context.Settings.{setting_in, sizes_in}
-use Rattle.lay_layout.specs.units.Lengths.{no_length}
+use Rattle.lay_units.specs.declared.records.Len.TheVariants.{Auto as auto}
+use Rattle.lay_box_tree.specs.declared.box_tree.BoxNode.{BoxNode}
+use Rattle.lay_measure.specs.MeasureInValue.{no_widths}
+use Rattle.lay_sizes.specs.OwnBoxes.{no_own_box}
+use Rattle.lay_context_sizes.specs.declared.setting.Setting.{Setting}
+use Rattle.lay_context_sizes.specs.declared.setting.Setting.TheVariants.{Block}
+use Rattle.lay_context.specs.declared.input.Input.{Input}
+use Rattle.lay_context.specs.declared.input.Input.TheVariants as input
+use Rattle.lay_context.specs.Local.{IsLocal}
+use Rattle.lay_context.specs.Settings.{setting_in, sizes_in}
+use Rattle.lay_units.specs.Lengths.{no_length}
 use Rattle.lay_cell_work.specs.declared.root_spot.RootSpot.{RootSpot}
 use Rattle.lay_cell_work.specs.CellColumns.{filled, masked}
 use Rattle.lay_cell_work.specs.CellInputs.{CellInput, RootInput}

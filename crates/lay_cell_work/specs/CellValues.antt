@@ -1,17 +1,17 @@
 -- What a cell answers: a value for each root of its context, the own box first.
 use Rattle.std.specs.Prelude.{ℕ, List, [], length, map}
-use Rattle.lay_layout.specs.frag.declared.frag.Frag.{Frag}
-use Rattle.lay_layout.specs.measure.declared.preferred_widths.PreferredWidths.{PreferredWidths}
-use Rattle.lay_layout.specs.sizes.declared.own_boxes.OwnBox.{OwnBox}
-use Rattle.lay_layout.specs.context_sizes.ContextSizes.{SizedContext}
-use Rattle.lay_layout.specs.context_sizes.MeasuredContexts.{MeasuredContext}
-use Rattle.lay_layout.specs.context.declared.task.Phase.{Phase}
-use Rattle.lay_layout.specs.context.declared.task.Phase.TheVariants as phase
-use Rattle.lay_layout.specs.context.declared.value.Value.{Value}
-use Rattle.lay_layout.specs.context.declared.value.Value.TheVariants as value
-use Rattle.lay_layout.specs.context.DocumentLayout.{widths_in}
-use Rattle.lay_layout.specs.context.PlacedContexts.{PlacedContext, placed_in}
-use Rattle.lay_layout.specs.context.Settings.{sizes_in}
+use Rattle.lay_frag.specs.declared.frag.Frag.{Frag}
+use Rattle.lay_measure.specs.declared.preferred_widths.PreferredWidths.{PreferredWidths}
+use Rattle.lay_sizes.specs.declared.own_boxes.OwnBox.{OwnBox}
+use Rattle.lay_context_sizes.specs.ContextSizes.{SizedContext}
+use Rattle.lay_context_sizes.specs.MeasuredContexts.{MeasuredContext}
+use Rattle.lay_context.specs.declared.task.Phase.{Phase}
+use Rattle.lay_context.specs.declared.task.Phase.TheVariants as phase
+use Rattle.lay_context.specs.declared.value.Value.{Value}
+use Rattle.lay_context.specs.declared.value.Value.TheVariants as value
+use Rattle.lay_context.specs.DocumentLayout.{widths_in}
+use Rattle.lay_context.specs.PlacedContexts.{PlacedContext, placed_in}
+use Rattle.lay_context.specs.Settings.{sizes_in}
 
 pub data CellValue : Type 0 where
   Widths : List MeasuredContext → CellValue

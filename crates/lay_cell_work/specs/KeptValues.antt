@@ -1,14 +1,14 @@
 -- The values that cells keep, laid end to end: of each context a value for each of its roots, so that the value of a formatting context
 -- stands at its number.
 use Rattle.std.specs.Prelude.{ℕ, zero, suc, ◌==◌, ◌&&◌, Bool, true, false, List, [], ◌∷◌, ◌++◌, length, Option, None, Some, if◌then◌else◌}
-use Rattle.lay_layout.specs.cells.Rows.{Row, Solved}
-use Rattle.lay_layout.specs.contexts.Contexts.{Context}
-use Rattle.lay_layout.specs.context_sizes.ContextSizes.{not_sized}
-use Rattle.lay_layout.specs.context_sizes.MeasuredContexts.{not_measured}
-use Rattle.lay_layout.specs.context.declared.task.Phase.{Phase}
-use Rattle.lay_layout.specs.context.declared.task.Phase.TheVariants as phase
-use Rattle.lay_layout.specs.context.PlacedContexts.{not_placed}
-use Rattle.lay_layout.specs.context.Workings.{Workings}
+use Rattle.lay_cells.specs.Rows.{Row, Solved}
+use Rattle.lay_contexts.specs.Contexts.{Context}
+use Rattle.lay_context_sizes.specs.ContextSizes.{not_sized}
+use Rattle.lay_context_sizes.specs.MeasuredContexts.{not_measured}
+use Rattle.lay_context.specs.declared.task.Phase.{Phase}
+use Rattle.lay_context.specs.declared.task.Phase.TheVariants as phase
+use Rattle.lay_context.specs.PlacedContexts.{not_placed}
+use Rattle.lay_context.specs.Workings.{Workings}
 use Rattle.lay_cell_work.specs.CellInputs.{CellInput}
 use Rattle.lay_shape.specs.declared.cell_key.CellKey.{CellKey}
 use Rattle.lay_cell_work.specs.CellValues.{CellValue, no_value, own_measured, own_places, own_sizes}

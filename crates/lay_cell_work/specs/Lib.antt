@@ -1,3 +1,6 @@
+pub mod CellLaws
+pub mod ClaimLists
+pub mod OutcomeLaws
 pub mod CellColumns
 pub mod CellInputs
 pub mod CellValues
@@ -8,4 +11,3 @@ pub mod ValueParts
 pub mod Claims
 pub mod PresentInputs
 pub mod KeptValues
-pub use Rattle.lay_shape.specs as shape

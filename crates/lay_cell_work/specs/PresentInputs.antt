@@ -3,15 +3,15 @@
 -- boxes of inner contexts and not their placements.
 use Rattle.std.specs.Prelude.{ℕ, ◌+◌, ◌-◌, List, [], length, map, Option, None, Some, if◌then◌else◌}
 use Rattle.std.specs.List.{range_with_len}
-use Rattle.lay_layout.specs.contexts.Contexts.{Context, boxes_in}
-use Rattle.lay_layout.specs.contexts.FormattingContexts.{FormattingContext, formatting_context_at}
-use Rattle.lay_layout.specs.contexts.FormattingContextList.{first_number, roots_before}
-use Rattle.lay_layout.specs.context.declared.input.Input.{Input}
-use Rattle.lay_layout.specs.context.declared.input.Input.TheVariants as input
-use Rattle.lay_layout.specs.context.declared.task.Phase.{Phase}
-use Rattle.lay_layout.specs.context.Local.{input_of}
-use Rattle.lay_layout.specs.context.Medium.{Medium}
-use Rattle.lay_layout.specs.context.Workings.{Workings}
+use Rattle.lay_contexts.specs.Contexts.{Context, boxes_in}
+use Rattle.lay_contexts.specs.FormattingContexts.{FormattingContext, formatting_context_at}
+use Rattle.lay_contexts.specs.FormattingContextList.{first_number, roots_before}
+use Rattle.lay_context.specs.declared.input.Input.{Input}
+use Rattle.lay_context.specs.declared.input.Input.TheVariants as input
+use Rattle.lay_context.specs.declared.task.Phase.{Phase}
+use Rattle.lay_context.specs.Local.{input_of}
+use Rattle.lay_context.specs.Medium.{Medium}
+use Rattle.lay_context.specs.Workings.{Workings}
 use Rattle.lay_shape.specs.declared.cell_key.CellKey.{CellKey}
 use Rattle.lay_shape.specs.Keys.{key_of as key_of_cell}
 use Rattle.lay_cell_work.specs.declared.root_spot.RootSpot.{RootSpot}

@@ -1,7 +1,7 @@
 -- Where an anonymous root stands, as far as that is sized: its setting comes of the boxes there and their sizes.
 use Rattle.std.specs.Prelude.{◌≡◌, ◌<◌, List, length}
-use Rattle.lay_layout.specs.context_sizes.ContextSizes.{SizedContext}
-use Rattle.lay_layout.specs.context.Settings.{sizes_in}
+use Rattle.lay_context_sizes.specs.ContextSizes.{SizedContext}
+use Rattle.lay_context.specs.Settings.{sizes_in}
 use Rattle.lay_cell_work.specs.declared.root_spot.RootSpot.{RootSpot}
 use Rattle.lay_cell_work.specs.CellInputs.{RootInput}
 use Rattle.lay_cell_work.specs.CellLocal.{boxes_given}

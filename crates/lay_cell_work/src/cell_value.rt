@@ -4,8 +4,8 @@ ghost use Rattle.std.specs.Prelude.{◌≡◌, option_map, slice_get};
 ghost use Rattle.lay_cell_work.specs.CellValues.{Places, Sizes, Widths, own_measured, own_places, own_sizes, phase_of, root_count_of};
 
 use crate::root_values::{RootPlaces, RootSizes, RootValues, RootWidths};
-use lay_layout::context::{Phase, PlacedContext};
-use lay_layout::context_sizes::{MeasuredContext, SizedContext};
+use lay_context::{Phase, PlacedContext};
+use lay_context_sizes::{MeasuredContext, SizedContext};
 use std::marker::Model;
 
 /// A value of one phase for each root of a context: first for its own box, then for the anonymous tables and cells in the order of their

@@ -1,20 +1,20 @@
 //! Columns over the boxes of a root, with what other roots of the context give it.
 
 ghost use Rattle.std.specs.Prelude.{◌≡◌, ◌<◌, [], length, slice_get, slice_index_or, IfOk};
-ghost use Rattle.lay_layout.specs.measure.MeasureInValue.{no_widths};
-ghost use Rattle.lay_layout.specs.pieces.InnerPieces.{inner_pieces_at, pieces_or_none};
-ghost use Rattle.lay_layout.specs.pieces.NearPieces.{AreNearPieces};
-ghost use Rattle.lay_layout.specs.sizes.OwnBoxes.{OwnBoxFits, no_own_box, own_box_at};
+ghost use Rattle.lay_measure.specs.MeasureInValue.{no_widths};
+ghost use Rattle.lay_placements.specs.InnerPieces.{inner_pieces_at, pieces_or_none};
+ghost use Rattle.lay_placements.specs.NearPieces.{AreNearPieces};
+ghost use Rattle.lay_sizes.specs.OwnBoxes.{OwnBoxFits, no_own_box, own_box_at};
 ghost use Rattle.lay_cell_work.specs.CellColumns.{filled, filled_at};
 ghost use Rattle.lay_cell_work.specs.CellValues.{Places, Widths, own_boxes, own_pieces, own_widths};
 
-use lay_layout::context::{PlacedContext, SharedPieces};
-use lay_layout::context_sizes::MeasuredContext;
-use lay_layout::frag::Pieces;
-use lay_layout::measure::{NO_WIDTHS, PreferredWidths};
-use lay_layout::pieces::OwnBoxes;
-use lay_layout::sizes::{NO_OWN_BOX, OwnBox};
-use lay_layout::units::NoMemory;
+use lay_context::{PlacedContext, SharedPieces};
+use lay_context_sizes::MeasuredContext;
+use lay_frag::Pieces;
+use lay_measure::{NO_WIDTHS, PreferredWidths};
+use lay_placements::OwnBoxes;
+use lay_sizes::{NO_OWN_BOX, OwnBox};
+use lay_units::NoMemory;
 use std::alloc::Global;
 use std::sync::Arc;
 

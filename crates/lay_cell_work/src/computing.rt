@@ -8,8 +8,8 @@ use crate::cell_value::CellValue;
 use crate::measuring::widths_of_roots;
 use crate::placing::places_of_roots;
 use crate::sizing::sizes_of_roots;
-use lay_layout::context::Phase;
-use lay_layout::units::NoMemory;
+use lay_context::Phase;
+use lay_units::NoMemory;
 use std::alloc::Global;
 
 /// The value of a cell that is given this, by itself.

@@ -1,15 +1,15 @@
 //! What a root is given, with what other roots of the context give it.
 
 ghost use Rattle.std.specs.Prelude.{◌≡◌, [], IfOk};
-ghost use Rattle.lay_layout.specs.measure.MeasureInValue.{no_widths};
-ghost use Rattle.lay_layout.specs.sizes.OwnBoxes.{no_own_box};
+ghost use Rattle.lay_measure.specs.MeasureInValue.{no_widths};
+ghost use Rattle.lay_sizes.specs.OwnBoxes.{no_own_box};
 ghost use Rattle.lay_cell_work.specs.CellColumns.{filled};
 ghost use Rattle.lay_cell_work.specs.CellValues.{Places, Widths, own_boxes, own_pieces, own_widths};
 
 use crate::columns::{filled_boxes, filled_pieces, filled_widths};
-use lay_layout::context::{FlowParts, MeasureParts, PlacedContext, TableParts};
-use lay_layout::context_sizes::MeasuredContext;
-use lay_layout::units::NoMemory;
+use lay_context::{FlowParts, MeasureParts, PlacedContext, TableParts};
+use lay_context_sizes::MeasuredContext;
+use lay_units::NoMemory;
 use std::alloc::Global;
 
 /// To be measured.

@@ -4,7 +4,7 @@ use crate::cell_input::CellInput;
 use crate::cell_value::CellValue;
 use crate::claim::Claim;
 use crate::same::same_cell_input;
-use lay_layout::cells::{Done, Work};
+use lay_cells::{Done, Work};
 use lay_shape::CellKey;
 
 /// A layout by cells: a phase of a context is worked out of what its roots are given.

@@ -1,14 +1,14 @@
 //! What a root is given from outside its cell: nothing, where another root of the context stands.
 
 ghost use Rattle.std.specs.Prelude.{◌≡◌, None, IfOk};
-ghost use Rattle.lay_layout.specs.context_sizes.Inputs.{OwnSettingFits};
+ghost use Rattle.lay_context_sizes.specs.Inputs.{OwnSettingFits};
 ghost use Rattle.lay_cell_work.specs.CellLocal.{masked_input, no_setting};
 
 use crate::filled_parts::{filled_flow, filled_measure, filled_table};
-use lay_layout::context::Input;
-use lay_layout::context_sizes::Setting;
-use lay_layout::sizes::ContainingBlock;
-use lay_layout::units::{Len, NoMemory, Unit};
+use lay_context::Input;
+use lay_context_sizes::Setting;
+use lay_sizes::ContainingBlock;
+use lay_units::{Len, NoMemory, Unit};
 use std::alloc::Global;
 
 /// What a task is given, without what the roots give it that are linked. Where none is it comes back as it is.

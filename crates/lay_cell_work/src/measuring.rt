@@ -1,9 +1,9 @@
 //! The preferred widths of the roots of a context.
 
 ghost use Rattle.std.specs.Prelude.{◌≡◌, IfOk, List, length};
-ghost use Rattle.lay_layout.specs.context.Local.{IsLocal};
-ghost use Rattle.lay_layout.specs.context.declared.task.Phase.TheVariants.{Measure};
-ghost use Rattle.lay_layout.specs.context.declared.value.Value.TheVariants.{Measure as measured};
+ghost use Rattle.lay_context.specs.Local.{IsLocal};
+ghost use Rattle.lay_context.specs.declared.task.Phase.TheVariants.{Measure};
+ghost use Rattle.lay_context.specs.declared.value.Value.TheVariants.{Measure as measured};
 ghost use Rattle.lay_cell_work.specs.CellInputFits.{phase_given};
 ghost use Rattle.lay_cell_work.specs.CellInputs.{RootInput};
 ghost use Rattle.lay_cell_work.specs.CellLocal.{IsCellLocal, whole_input};
@@ -12,9 +12,9 @@ ghost use Rattle.lay_cell_work.specs.CellValues.{Widths};
 use crate::cell_input::CellInput;
 use crate::filled_parts::filled_measure;
 use crate::root_input::RootInput;
-use lay_layout::context::{Input, Value, value_of_measure};
-use lay_layout::context_sizes::MeasuredContext;
-use lay_layout::units::NoMemory;
+use lay_context::{Input, Value, value_of_measure};
+use lay_context_sizes::MeasuredContext;
+use lay_units::NoMemory;
 use std::alloc::Global;
 
 /// The preferred widths of each root, from the last one to the first.

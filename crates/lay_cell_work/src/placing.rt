@@ -1,10 +1,10 @@
 //! The placements of the roots of a context.
 
 ghost use Rattle.std.specs.Prelude.{◌≡◌, IfOk, List, length};
-ghost use Rattle.lay_layout.specs.context.Local.{IsLocal};
-ghost use Rattle.lay_layout.specs.context.declared.input.Input.TheVariants.{Place as flow_given, PlaceTable as table_given};
-ghost use Rattle.lay_layout.specs.context.declared.task.Phase.TheVariants.{Place};
-ghost use Rattle.lay_layout.specs.context.declared.value.Value.TheVariants.{Place as placed};
+ghost use Rattle.lay_context.specs.Local.{IsLocal};
+ghost use Rattle.lay_context.specs.declared.input.Input.TheVariants.{Place as flow_given, PlaceTable as table_given};
+ghost use Rattle.lay_context.specs.declared.task.Phase.TheVariants.{Place};
+ghost use Rattle.lay_context.specs.declared.value.Value.TheVariants.{Place as placed};
 ghost use Rattle.lay_cell_work.specs.CellInputFits.{phase_given};
 ghost use Rattle.lay_cell_work.specs.CellInputs.{RootInput};
 ghost use Rattle.lay_cell_work.specs.CellLocal.{IsCellLocal, whole_input};
@@ -13,12 +13,12 @@ ghost use Rattle.lay_cell_work.specs.CellValues.{Places};
 use crate::cell_input::CellInput;
 use crate::filled_parts::{filled_flow, filled_table};
 use crate::root_input::RootInput;
-use lay_layout::abspos::StandInput;
-use lay_layout::context::{
+use lay_abspos::StandInput;
+use lay_context::{
     FlowParts, Input, PlacedContext, TableParts, Value, no_pieces, not_placed, value_of_flow,
     value_of_table,
 };
-use lay_layout::units::NoMemory;
+use lay_units::NoMemory;
 use std::alloc::Global;
 
 /// The placement of each root, from the last one to the first.

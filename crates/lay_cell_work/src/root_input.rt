@@ -3,7 +3,7 @@
 ghost use Rattle.std.specs.Prelude.{◌≡◌};
 
 use crate::root_spot::RootSpot;
-use lay_layout::context::Input;
+use lay_context::Input;
 use std::marker::Model;
 
 /// What the task of a root is given from outside its cell. Which of its boxes are those of other roots of the context is said as far as

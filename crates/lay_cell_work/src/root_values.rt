@@ -2,8 +2,8 @@
 
 ghost use Rattle.std.specs.Prelude.{◌≡◌};
 
-use lay_layout::context::PlacedContext;
-use lay_layout::context_sizes::{MeasuredContext, SizedContext};
+use lay_context::PlacedContext;
+use lay_context_sizes::{MeasuredContext, SizedContext};
 use std::marker::Model;
 
 /// The preferred widths of each root, with the bounds of a table.
@@ -14,7 +14,7 @@ pub(crate) struct RootWidths {
 
 impl Model for RootWidths {
     ghost use Rattle.std.specs.Prelude.{List};
-    ghost use Rattle.lay_layout.specs.context_sizes.MeasuredContexts.{MeasuredContext as Measured};
+    ghost use Rattle.lay_context_sizes.specs.MeasuredContexts.{MeasuredContext as Measured};
 
     ghost Value = { List Measured };
 
@@ -43,7 +43,7 @@ pub(crate) struct RootSizes {
 
 impl Model for RootSizes {
     ghost use Rattle.std.specs.Prelude.{List};
-    ghost use Rattle.lay_layout.specs.context_sizes.ContextSizes.{SizedContext as Sized};
+    ghost use Rattle.lay_context_sizes.specs.ContextSizes.{SizedContext as Sized};
 
     ghost Value = { List Sized };
 
@@ -72,7 +72,7 @@ pub(crate) struct RootPlaces {
 
 impl Model for RootPlaces {
     ghost use Rattle.std.specs.Prelude.{List};
-    ghost use Rattle.lay_layout.specs.context.PlacedContexts.{PlacedContext as Placed};
+    ghost use Rattle.lay_context.specs.PlacedContexts.{PlacedContext as Placed};
 
     ghost Value = { List Placed };
 

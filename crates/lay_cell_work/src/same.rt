@@ -5,8 +5,8 @@ ghost use Rattle.std.specs.Prelude.{◌≡◌, ◌↔◌, IsTrue};
 use crate::cell_input::CellInput;
 use crate::root_input::RootInput;
 use crate::root_spot::RootSpot;
-use lay_layout::context::Phase;
-use lay_same_input::same_input;
+use crate::same_input::same_input;
+use lay_context::Phase;
 use lay_shape::CellKey;
 
 /// Whether two cells are given the same: first their keys are told apart and how many roots they have, and what each root is given at

@@ -1,11 +1,11 @@
 //! The used sizes of the roots of a context.
 
 ghost use Rattle.std.specs.Prelude.{◌≡◌, Some, IfOk};
-ghost use Rattle.lay_layout.specs.context_sizes.Inputs.{OwnSettingFits};
-ghost use Rattle.lay_layout.specs.context.Local.{IsLocal};
-ghost use Rattle.lay_layout.specs.context.declared.input.Input.TheVariants.{Size as size_given};
-ghost use Rattle.lay_layout.specs.context.declared.task.Phase.TheVariants.{Size};
-ghost use Rattle.lay_layout.specs.context.declared.value.Value.TheVariants.{Size as sized};
+ghost use Rattle.lay_context_sizes.specs.Inputs.{OwnSettingFits};
+ghost use Rattle.lay_context.specs.Local.{IsLocal};
+ghost use Rattle.lay_context.specs.declared.input.Input.TheVariants.{Size as size_given};
+ghost use Rattle.lay_context.specs.declared.task.Phase.TheVariants.{Size};
+ghost use Rattle.lay_context.specs.declared.value.Value.TheVariants.{Size as sized};
 ghost use Rattle.lay_cell_work.specs.declared.root_spot.RootSpot.{RootSpot};
 ghost use Rattle.lay_cell_work.specs.CellInputFits.{phase_given};
 ghost use Rattle.lay_cell_work.specs.CellLocal.{IsCellLocal, filled_setting, setting_at, whole_input};
@@ -15,9 +15,9 @@ ghost use Rattle.lay_cell_work.specs.SizedSpots.{IsSpotSized};
 use crate::cell_input::CellInput;
 use crate::root_input::RootInput;
 use crate::root_spot::RootSpot;
-use lay_layout::context::{Input, Value, setting_in, value_of_size};
-use lay_layout::context_sizes::{Setting, SizeInput, SizedContext};
-use lay_layout::units::NoMemory;
+use lay_context::{Input, Value, setting_in, value_of_size};
+use lay_context_sizes::{Setting, SizeInput, SizedContext};
+use lay_units::NoMemory;
 use std::alloc::Global;
 
 /// The used sizes of each root, from the first one to the last.

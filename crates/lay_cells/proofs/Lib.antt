@@ -1,3 +1,4 @@
+pub mod ProgressLemmas
 pub mod Alike
 pub mod Answered
 pub mod TakenOver

@@ -1,3 +1,4 @@
+pub mod Progress
 pub mod Holdings
 pub mod Kept
 pub mod Laws

@@ -238,7 +238,8 @@ impl<W: Work> Cells<W> {
         needs_in::<W>(self.cells.as_slice(), place)
     }
 
-    /// What a look at the cell at a place shows. Where the cell has a claim that isn't stale, the cells that it depends on aren't looked at.
+    /// What a look at the cell at a place shows. Where the cell has a claim that isn't stale, the cells that it depends on aren't
+    /// looked at.
     pub fn look_at(&self, place: usize) -> Look<W::Key>
         requires { place < length self.now.rows }
         ensures { AtPlace self.now.rows place (λ r. Looks self.now.rows r.key result) }

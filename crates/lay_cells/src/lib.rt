@@ -3,6 +3,8 @@
 //! Contracts see cells as a list of rows (`specs/Rows.antt`), which keep the facts of `specs/Sound.antt`
 //! through every call. What each call comes to is said in `specs/Steps.antt`, `Marks.antt` and
 //! `Reshapes.antt`, and that each call has one answer and leaves one state, in `specs/Laws.antt`.
+//!
+//! - `progress`: laws of cells that are worked on, whatever the work is.
 #![tactic(auto)]
 
 mod answers;
@@ -19,6 +21,7 @@ mod laws;
 mod marking;
 mod needs;
 mod places;
+pub mod progress;
 mod reading;
 mod reshaping;
 mod reusing;

@@ -1,17 +1,17 @@
 -- How a call that judges a report ends, and what bytes that have a fault give.
 use Rattle.std.proofs.Common.{◌≡◌, ◌≢◌, ℕ, ◌<◌, List, length, codes, Option, Some, None, IfSome, Ok, Err, Result, IfOk}
-use Rattle.lay_layout.specs.units.declared.memory.NoMemory.{NoMemory}
+use Rattle.lay_units.specs.declared.memory.NoMemory.{NoMemory}
 use Rattle.lay_json.specs.declared.fault.InputFault.{InputFault}
 use Rattle.lay_json.specs.declared.fault.InputFault.TheVariants.{TooLong, NoMemory as ran_out}
-use Rattle.lay_input.specs.declared.check.Check.{Check}
-use Rattle.lay_input.specs.StyledChecks.{IsStyledCheck}
-use Rattle.lay_input.proofs.OneStyledCheck.{check_too_long_lem}
-use Rattle.lay_drive.specs.editing_core.State.{State}
+use Rattle.lay_json.specs.declared.styled.check.Check.{Check}
+use Rattle.lay_json.specs.Styled.StyledChecks.{IsStyledCheck}
+use Rattle.lay_json.proofs.StyledLemmas.OneStyledCheck.{check_too_long_lem}
+use Rattle.lay_core.specs.State.{State}
 use Rattle.lay_words.specs.declared.form.Form.TheVariants as form
 use Rattle.lay_cli.specs.declared.check_input.CheckInput.{CheckInput}
 use Rattle.lay_cli.specs.declared.check_input.CheckInput.TheVariants.{Asked, Refusal}
 use Rattle.lay_cli.specs.Answers.{Reports}
-use Rattle.lay_check.specs.Judging.{IsJudged, IsVerdictOn}
+use Rattle.lay_audit.specs.Check.Judging.{IsJudged, IsVerdictOn}
 use Rattle.lay_cli.specs.Checks.{IsCheckInput, IsFaultOfCheck}
 
 -- the verdict on a check is the one on the bytes that spell it

@@ -1,14 +1,14 @@
 -- Bytes don't both spell a run and have a fault, so without faults of the streams each has the answer of its kind.
 use Rattle.std.proofs.Common.{◌≡◌, ◌⊎◌, ℕ, List, refl, inl, inr, Option, Some, None, IfSome, Ok, Err}
-use Rattle.lay_layout.specs.run.Runs.{Run}
-use Rattle.lay_input.specs.StyledReading.{IsStyledReading}
-use Rattle.lay_input.proofs.OneStyledReading.{one_styled_reading_lem}
-use Rattle.lay_drive.specs.editing_core.State.{State}
+use Rattle.lay_run.specs.Runs.{Run}
+use Rattle.lay_json.specs.Styled.StyledReading.{IsStyledReading}
+use Rattle.lay_json.proofs.StyledLemmas.OneStyledReading.{one_styled_reading_lem}
+use Rattle.lay_core.specs.State.{State}
 use Rattle.lay_words.specs.declared.form.Form.{Form}
 use Rattle.lay_words.specs.declared.form.Form.TheVariants as form
-use Rattle.lay_input.specs.declared.check.Check.{Check}
-use Rattle.lay_input.specs.StyledChecks.{IsStyledCheck}
-use Rattle.lay_input.proofs.OneStyledCheck.{one_styled_check_lem}
+use Rattle.lay_json.specs.declared.styled.check.Check.{Check}
+use Rattle.lay_json.specs.Styled.StyledChecks.{IsStyledCheck}
+use Rattle.lay_json.proofs.StyledLemmas.OneStyledCheck.{one_styled_check_lem}
 use Rattle.lay_cli.specs.Answers.{IsAskedWell, IsRefusal, IsRefused, OfRun, Refuses, Reports}
 use Rattle.lay_cli.specs.Checks.{IsCheckRefusal}
 use Rattle.lay_cli.specs.Endings.{Ends, SinkValue}

@@ -1,10 +1,10 @@
 -- A core that answered a run's editors, by the parts that are known of it one by one, and the summary of one.
 use Rattle.std.specs.Prelude.{ℕ, ◌≡◌, ◌≤◌, List}
 use Rattle.std.proofs.Common.{subst}
-use Rattle.lay_layout.specs.history.Calls.{AnswersScripts}
-use Rattle.lay_layout.specs.history.Legal.{IsWhole}
-use Rattle.lay_drive.specs.editing_core.State.{IsCore, State}
-use Rattle.lay_layout.specs.run.Runs.{Run}
+use Rattle.lay_history.specs.Calls.{AnswersScripts}
+use Rattle.lay_history.specs.Legal.{IsWhole}
+use Rattle.lay_core.specs.State.{IsCore, State}
+use Rattle.lay_run.specs.Runs.{Run}
 use Rattle.lay_generator.specs.Generated.{generated}
 use Rattle.lay_cli.specs.Answers.{IsDriven, IsSummary, IsSummaryOf}
 use Rattle.lay_cli.specs.Laws.{SummariesComeOfNumbers}

@@ -1,15 +1,15 @@
 -- How calls end.
 use Rattle.std.proofs.Common.{◌≡◌, ◌≢◌, ◌⊎◌, ℕ, List, refl, sym, ◌∙◌, inl, inr, Option, Some, None, IfSome}
 use Rattle.lay_outside.specs.Outside.{Rose, Took, TookFront}
-use Rattle.lay_layout.specs.run.Runs.{Run}
-use Rattle.lay_drive.specs.editing_core.State.{State}
+use Rattle.lay_run.specs.Runs.{Run}
+use Rattle.lay_core.specs.State.{State}
 use Rattle.lay_report.specs.declared.fault.ReportFault.{ReportFault}
 use Rattle.lay_report.specs.declared.fault.ReportFault.TheVariants.{WriteFault as write_failed, NoMemory as ran_out}
 use Rattle.lay_words.specs.declared.form.Form.TheVariants as form
 use Rattle.lay_cli.specs.declared.status.Status.{Status}
 use Rattle.lay_cli.specs.declared.status.Status.TheVariants.{Ok, Refused, Usage, ReadFault, WriteFault, NoMemory}
 use Rattle.lay_cli.specs.Statuses.{status_of}
-use Rattle.lay_layout.specs.context.Solves.{Solves}
+use Rattle.lay_context.specs.Solves.{Solves}
 use Rattle.lay_cli.specs.Answers.{IsDriven, IsRunReport, IsScratchReport, OfKept, OfRun, Reports, Spells}
 use Rattle.lay_cli.specs.Endings.{Ends, SinkValue, TookFrontOf}
 

@@ -1,8 +1,8 @@
 -- How a call that says which piece is seen ends.
 use Rattle.std.proofs.Common.{◌≡◌, ◌≢◌, ◌⊎◌, ℕ, List, refl, sym, ◌∙◌, inl, inr, subst, Option, Some, None, IfSome}
 use Rattle.lay_outside.specs.Outside.{Rose, Took, TookFront}
-use Rattle.lay_layout.specs.run.Runs.{Run}
-use Rattle.lay_drive.specs.editing_core.State.{State}
+use Rattle.lay_run.specs.Runs.{Run}
+use Rattle.lay_core.specs.State.{State}
 use Rattle.lay_words.specs.declared.form.Form.TheVariants as form
 use Rattle.lay_hit.specs.declared.point.Point.{Point}
 use Rattle.lay_cli.specs.declared.status.Status.{Status}

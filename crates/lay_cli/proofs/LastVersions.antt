@@ -1,9 +1,9 @@
 -- The last version of a whole history is published.
 use Rattle.std.proofs.Common.{◌≡◌, ◌==◌, ◌⊎◌, ◌||◌, ℕ, Bool, true, false, List, [], ◌∷◌, inl, inr, ap, ◌∙◌, arith, Option, Some, None}
 use Rattle.std.specs.List.{list_any}
-use Rattle.lay_layout.specs.edit_lists.declared.history.Entry.{Entry}
-use Rattle.lay_layout.specs.history.Histories.{accepted, is_published, last_or, published}
-use Rattle.lay_layout.specs.history.Legal.{IsWhole}
+use Rattle.lay_history.specs.declared.edits.history.Entry.{Entry}
+use Rattle.lay_history.specs.Histories.{accepted, is_published, last_or, published}
+use Rattle.lay_history.specs.Legal.{IsWhole}
 
 last_there : (before : Option ℕ) (vs : List ℕ) (v : ℕ) → last_or before vs ≡ Some v → (before ≡ Some v) ⊎ (list_any (λ w. w == v) vs ≡ true)
 last_there before [] v is = inl is

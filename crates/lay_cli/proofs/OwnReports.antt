@@ -1,11 +1,11 @@
 -- The reports of `run` are answered `yes`.
 use Rattle.std.proofs.Common.{◌≡◌, ◌∙◌, ℕ, List, ap, subst, Some, None}
 use Rattle.lay_json.specs.Reading.{HoldsBoth}
-use Rattle.lay_drive.specs.editing_core.State.{State}
+use Rattle.lay_core.specs.State.{State}
 use Rattle.lay_audit.specs.declared.verdict.Verdict.{Verdict}
 use Rattle.lay_audit.specs.declared.verdict.Verdict.TheVariants.{Yes}
-use Rattle.lay_check.specs.Judging.{IsJudged, SpellCheck, verdict_line}
-use Rattle.lay_run_reports.specs.Laws.{RunReportsAreYes}
+use Rattle.lay_audit.specs.Check.Judging.{IsJudged, SpellCheck, verdict_line}
+use Rattle.lay_cli.specs.RunReports.Laws.{RunReportsAreYes}
 use Rattle.lay_cli.specs.Answers.{IsCoreReport, IsDriven, OfRun}
 use Rattle.lay_cli.specs.Laws.{RunReportsAreAnsweredYes}
 

@@ -1,17 +1,17 @@
 -- The summary of a generated run comes of its numbers: the document of its last version does, and that has one layout.
 use Rattle.std.proofs.Common.{◌≡◌, ℕ, ◌+◌, ◌*◌, ◌≤◌, List, [], length, sym, ap, ◌∙◌, subst}
 use Rattle.std.proofs.lemmas.List.Elements.{All-nil}
-use Rattle.lay_layout.specs.doc.Document.{Document, IsDocument}
-use Rattle.lay_layout.specs.frag.Pieces.{Context}
-use Rattle.lay_layout.specs.face.FaceValue.{FaceValue}
-use Rattle.lay_layout.specs.history.Histories.{accepted}
-use Rattle.lay_layout.specs.history.Legal.{IsLegal, doc_after}
-use Rattle.lay_layout.proofs.lay_history.Lists.{some_is}
-use Rattle.lay_layout.specs.context.Laws.{OneSolution}
-use Rattle.lay_layout.specs.context.Solves.{Solves}
-use Rattle.lay_layout.specs.run.Runs.{Run}
-use Rattle.lay_drive.specs.editing_core.Laws.{HasLastTree, LastTree}
-use Rattle.lay_drive.specs.editing_core.State.{State}
+use Rattle.lay_doc.specs.Document.{Document, IsDocument}
+use Rattle.lay_frag.specs.Pieces.{Context}
+use Rattle.lay_face.specs.FaceValue.{FaceValue}
+use Rattle.lay_history.specs.Histories.{accepted}
+use Rattle.lay_history.specs.Legal.{IsLegal, doc_after}
+use Rattle.lay_history.proofs.Lists.{some_is}
+use Rattle.lay_context.specs.Laws.{OneSolution}
+use Rattle.lay_context.specs.Solves.{Solves}
+use Rattle.lay_run.specs.Runs.{Run}
+use Rattle.lay_core.specs.Laws.{HasLastTree, LastTree}
+use Rattle.lay_core.specs.State.{State}
 use Rattle.lay_generator.specs.Generated.{generated}
 use Rattle.lay_generator.specs.LastDocuments.{last_document, list_count}
 use Rattle.lay_generator.specs.Laws.{ComesTo, GeneratedNodesStay, GeneratedRunsComeToOne, IsListOf}

@@ -7,28 +7,28 @@
 -- that the generator makes: it comes of its numbers alone where each edit was accepted.
 use Rattle.std.specs.Prelude.{ℕ, ◌≡◌, ◌≢◌, ◌<◌, ◌^◌, List, length, map, string_bytes, String, Option, Some, None, IfSome, Ok, Err}
 use Rattle.std.specs.declared.alloc.Global.{Global}
-use Rattle.lay_layout.specs.frag.Pieces.{Context}
-use Rattle.lay_layout.specs.context.Solves.{Solves}
-use Rattle.lay_layout.specs.history.Histories.{accepted}
-use Rattle.lay_layout.specs.history.Calls.{AnswersScripts}
-use Rattle.lay_layout.specs.history.Legal.{IsWhole}
-use Rattle.lay_layout.specs.history.Trees.{tree_at}
-use Rattle.lay_drive.specs.editing_core.State.{IsCore, State}
+use Rattle.lay_frag.specs.Pieces.{Context}
+use Rattle.lay_context.specs.Solves.{Solves}
+use Rattle.lay_history.specs.Histories.{accepted}
+use Rattle.lay_history.specs.Calls.{AnswersScripts}
+use Rattle.lay_history.specs.Legal.{IsWhole}
+use Rattle.lay_history.specs.Trees.{tree_at}
+use Rattle.lay_core.specs.State.{IsCore, State}
 use Rattle.lay_report.specs.Report.{run_report, scratch_report}
-use Rattle.lay_layout.specs.run.Runs.{Run}
+use Rattle.lay_run.specs.Runs.{Run}
 use Rattle.lay_json.specs.declared.fault.InputFault.{InputFault}
 use Rattle.lay_json.specs.declared.fault.InputFault.TheVariants.{NoMemory}
-use Rattle.lay_input.specs.StyledReading.{IsStyledReading}
+use Rattle.lay_json.specs.Styled.StyledReading.{IsStyledReading}
 use Rattle.lay_generator.specs.Generated.{generated}
 use Rattle.lay_generator.specs.LastDocuments.{list_count}
 use Rattle.lay_generator.specs.Summary.{summary}
 use Rattle.lay_words.specs.declared.form.Form.{Form}
 use Rattle.lay_words.specs.declared.form.Form.TheVariants as form
 use Rattle.lay_words.specs.Grammar.{form_of}
-use Rattle.lay_layout.specs.frag.declared.frag.Frag.{Frag}
+use Rattle.lay_frag.specs.declared.frag.Frag.{Frag}
 use Rattle.lay_hit.specs.declared.point.Point.{Point}
 use Rattle.lay_hit.specs.HitLines.{hit_line}
-use Rattle.lay_check.specs.Judging.{SpellCheck}
+use Rattle.lay_audit.specs.Check.Judging.{SpellCheck}
 use Rattle.lay_cli.specs.Checks.{IsCheckRefusal, IsVerdictReport}
 use Rattle.lay_cli.specs.Hits.{IsSeen, point_at}
 use Rattle.lay_cli.specs.Input.{IsDrained}

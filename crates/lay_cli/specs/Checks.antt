@@ -2,9 +2,9 @@
 use Rattle.std.specs.Prelude.{ℕ, ◌≡◌, ◌≢◌, List, Option, IfSome, Ok, Err}
 use Rattle.lay_json.specs.declared.fault.InputFault.{InputFault}
 use Rattle.lay_json.specs.declared.fault.InputFault.TheVariants.{NoMemory}
-use Rattle.lay_input.specs.StyledChecks.{IsStyledCheck}
+use Rattle.lay_json.specs.Styled.StyledChecks.{IsStyledCheck}
 use Rattle.lay_audit.specs.declared.verdict.Verdict.{Verdict}
-use Rattle.lay_check.specs.Judging.{IsJudged, verdict_line}
+use Rattle.lay_audit.specs.Check.Judging.{IsJudged, verdict_line}
 use Rattle.lay_cli.specs.Refusals.{fault_line}
 use Rattle.lay_cli.specs.declared.check_input.CheckInput.{CheckInput}
 use Rattle.lay_cli.specs.declared.check_input.CheckInput.TheVariants.{Asked, Refusal}

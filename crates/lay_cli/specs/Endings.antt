@@ -2,7 +2,7 @@
 -- `Refuses` the lines that refuse.
 use Rattle.std.specs.Prelude.{ℕ, ◌≡◌, ◌≢◌, ◌⊎◌, List, Option, None}
 use Rattle.lay_outside.specs.Outside.{Rose, Took, TookFront}
-use Rattle.lay_drive.specs.editing_core.State.{State}
+use Rattle.lay_core.specs.State.{State}
 use Rattle.lay_cli.specs.declared.status.Status.{Status}
 use Rattle.lay_cli.specs.declared.status.Status.TheVariants.{Ok, Refused, WriteFault, NoMemory}
 

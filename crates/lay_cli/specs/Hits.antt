@@ -1,17 +1,17 @@
 -- Which line answers `hit`: that of the piece that is seen at a point of the run's document, its editors taken as none.
 use Rattle.std.specs.Prelude.{ℕ, ◌≡◌, List, Option}
-use Rattle.lay_layout.specs.style.declared.style.Style.{Style}
-use Rattle.lay_layout.specs.style.LengthValues.{px}
-use Rattle.lay_layout.specs.style.ComputedStyle.{HasStyles}
-use Rattle.lay_layout.specs.doc.Document.{parents_of, declarations_of}
-use Rattle.lay_layout.specs.frag.declared.frag.Frag.{Frag}
-use Rattle.lay_layout.specs.frag.Pieces.{Context}
-use Rattle.lay_layout.specs.run.Runs.{Run}
-use Rattle.lay_layout.specs.context.Solves.{Solves}
+use Rattle.lay_style.specs.declared.style.Style.{Style}
+use Rattle.lay_style.specs.LengthValues.{px}
+use Rattle.lay_style.specs.ComputedStyle.{HasStyles}
+use Rattle.lay_doc.specs.Document.{parents_of, declarations_of}
+use Rattle.lay_frag.specs.declared.frag.Frag.{Frag}
+use Rattle.lay_frag.specs.Pieces.{Context}
+use Rattle.lay_run.specs.Runs.{Run}
+use Rattle.lay_context.specs.Solves.{Solves}
 use Rattle.lay_hit.specs.declared.point.Point.{Point}
 use Rattle.lay_hit.specs.Hits.{hit_of}
 use Rattle.lay_hit.specs.HitLines.{hit_line}
-use Rattle.lay_painted.specs.Laws.{IsPaintedOnce}
+use Rattle.lay_hit.specs.Painted.Laws.{IsPaintedOnce}
 
 -- a point of the page that is given in px
 abbrev pub point_at : ℕ → ℕ → Point

@@ -1,8 +1,8 @@
 -- The reports of `run` are answered `yes` by `check`, and the summary that `gen` writes comes of its numbers alone.
 use Rattle.std.specs.Prelude.{ℕ, ◌≡◌, ◌≤◌, List, codes, Option, Some}
-use Rattle.lay_layout.specs.history.Histories.{accepted}
+use Rattle.lay_history.specs.Histories.{accepted}
 use Rattle.lay_json.specs.Reading.{HoldsBoth}
-use Rattle.lay_drive.specs.editing_core.State.{State}
+use Rattle.lay_core.specs.State.{State}
 use Rattle.lay_generator.specs.Generated.{generated}
 use Rattle.lay_generator.specs.LastDocuments.{list_count}
 use Rattle.lay_words.specs.declared.form.Form.TheVariants as form

@@ -1,3 +1,4 @@
+pub mod RunReports
 pub mod Statuses
 pub mod Refusals
 pub mod Input
@@ -7,4 +8,3 @@ pub mod Summaries
 pub mod Answers
 pub mod Endings
 pub mod Laws
-pub use Rattle.lay_drive.specs.editing_core as editing_core

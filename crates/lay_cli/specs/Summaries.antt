@@ -1,8 +1,8 @@
 -- The summary that a size and a seed have by themselves: that of a layout of the document which their generated run comes to where each of
 -- its lists of edits is accepted.
 use Rattle.std.specs.Prelude.{ℕ, ◌≡◌, ◌+◌, ◌*◌, List}
-use Rattle.lay_layout.specs.context.Solves.{Solves}
-use Rattle.lay_layout.specs.frag.Pieces.{Context}
+use Rattle.lay_context.specs.Solves.{Solves}
+use Rattle.lay_frag.specs.Pieces.{Context}
 use Rattle.lay_generator.specs.Generated.{generated}
 use Rattle.lay_generator.specs.LastDocuments.{last_document, list_count}
 use Rattle.lay_generator.specs.Summary.{summary}

@@ -11,13 +11,13 @@ ghost use Rattle.lay_cli.specs.Input.{IsDrained, IsReadOut};
 use crate::run_input::{Input, Lack, run_input};
 use crate::status::Status;
 use crate::telling::told;
+use lay_frag::Frag;
+use lay_hit::painted::solved_documents_are_painted_once;
 use lay_hit::{Point, hit_line};
-use lay_layout::frag::Frag;
-use lay_layout::inherit::computed;
-use lay_layout::run::RunDoc;
-use lay_layout::units::{NoMemory, Text, Unit};
+use lay_inherit::computed;
 use lay_outside::{Sink, Source};
-use lay_painted::solved_documents_are_painted_once;
+use lay_run::RunDoc;
+use lay_units::{NoMemory, Text, Unit};
 use std::alloc::Global;
 
 /// Lays out the run document that the source has left, its editors taken as none, and writes which piece is seen at a
@@ -73,7 +73,7 @@ fn piece_at(alloc: Global, run: &RunDoc, at: Point) -> Result<Option<Frag>, NoMe
     ensures { IfOk result (IsSeen run.now at) }
 {
     let doc = run.doc();
-    let tree = lay_layout::context::scratch(alloc, doc, run.face())?;
+    let tree = lay_context::scratch(alloc, doc, run.face())?;
     let styles = computed(alloc, doc)?;
     // What is asked of a document holds of this one, and so its tree is painted once.
     doc.nodes();

@@ -16,7 +16,7 @@ use crate::from_scratch::scratch;
 use crate::means::Means;
 use crate::status::Status;
 use crate::telling::told;
-use lay_drive::editing_core::Core;
+use lay_core::Core;
 use lay_outside::{Gate, Sink, Source};
 use lay_words::{Form, read_words};
 use std::sync::Wait;

@@ -8,10 +8,10 @@ ghost use Rattle.lay_cli.specs.Input.{IsDrained, IsReadOut};
 use crate::input::{SourceFault, read_all};
 use crate::refusal::fault_line;
 use crate::run_input::Lack;
-use lay_input::{Check, read_styled_check};
 use lay_json::InputFault;
-use lay_layout::units::{NoMemory, Text};
+use lay_json::styled::{Check, read_styled_check};
 use lay_outside::Source;
+use lay_units::{NoMemory, Text};
 use std::alloc::Global;
 
 /// What was read.

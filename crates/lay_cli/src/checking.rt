@@ -3,7 +3,7 @@
 ghost use Rattle.std.specs.Prelude.{◌≡◌, ◌≢◌, None};
 ghost use Rattle.lay_outside.specs.Outside.{Rose};
 ghost use Rattle.lay_words.specs.declared.form.Form.TheVariants as form;
-ghost use Rattle.lay_check.specs.Judging.{IsVerdictOn};
+ghost use Rattle.lay_audit.specs.Check.Judging.{IsVerdictOn};
 ghost use Rattle.lay_cli.specs.Answers.{Refuses, Reports};
 ghost use Rattle.lay_cli.specs.Endings.{Ends};
 ghost use Rattle.lay_cli.specs.Input.{IsDrained, IsReadOut};
@@ -12,8 +12,8 @@ use crate::check_input::{CheckInput, check_input};
 use crate::run_input::Lack;
 use crate::status::Status;
 use crate::telling::told;
-use lay_check::verdict_on;
-use lay_input::Check;
+use lay_audit::check::verdict_on;
+use lay_json::styled::Check;
 use lay_outside::{Sink, Source};
 use std::alloc::Global;
 

@@ -1,7 +1,7 @@
 //! The answers to `run` and `gen`.
 
 ghost use Rattle.std.specs.Prelude.{◌≡◌, ◌≢◌, ◌<◌, ◌≤◌, ◌^◌, IfOk, None};
-ghost use Rattle.lay_layout.specs.history.Legal.{IsWhole};
+ghost use Rattle.lay_history.specs.Legal.{IsWhole};
 ghost use Rattle.lay_outside.specs.Outside.{Rose};
 ghost use Rattle.lay_words.specs.declared.form.Form.TheVariants as form;
 ghost use Rattle.lay_cli.specs.Answers.{IsRunReport, IsSummary, IsSummaryOf, OfKept, Refuses, Reports};
@@ -13,13 +13,13 @@ use crate::means::Means;
 use crate::run_input::{Input, Lack, run_input};
 use crate::status::Status;
 use crate::telling::{status_of, told};
+use lay_core::Core;
 use lay_drive::drive;
-use lay_drive::editing_core::Core;
 use lay_generator::{generated_run, run_summary};
-use lay_layout::run::RunDoc;
-use lay_layout::units::{NoMemory, Text};
 use lay_outside::{Gate, Sink, Source, write_all};
 use lay_report::write_run;
+use lay_run::RunDoc;
+use lay_units::{NoMemory, Text};
 use std::alloc::Global;
 use std::sync::Wait;
 use std::thread::Threads;

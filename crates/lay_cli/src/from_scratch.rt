@@ -10,9 +10,9 @@ ghost use Rattle.lay_cli.specs.Input.{IsDrained, IsReadOut};
 use crate::run_input::{Input, Lack, run_input};
 use crate::status::Status;
 use crate::telling::{status_of, told};
-use lay_layout::run::RunDoc;
 use lay_outside::{Sink, Source};
 use lay_report::write_scratch;
+use lay_run::RunDoc;
 use std::alloc::Global;
 use std::mem::forget;
 
@@ -43,7 +43,7 @@ fn laid_out<K: Sink>(alloc: Global, run: &RunDoc, sink: &mut K) -> Status
     ensures never_usage { result ≢ Status.Usage }
     ensures never_read_fault { result ≢ Status.ReadFault }
 {
-    let tree = match lay_layout::context::last_scratch(alloc, run.doc(), run.face()) {
+    let tree = match lay_context::last_scratch(alloc, run.doc(), run.face()) {
         Ok(tree) => tree,
         Err(_) => return Status::NoMemory,
     };

@@ -2,10 +2,10 @@
 
 ghost use Rattle.lay_cli.specs.Laws.{OneSummary, RunReportsAreAnsweredYes, SummariesComeOfNumbers};
 
-use lay_drive::editing_core::last_tree;
+use crate::run_reports::run_reports_are_yes;
+use lay_context::one_solution;
+use lay_core::last_tree;
 use lay_generator::{generated_nodes_stay, generated_runs_come_to_one};
-use lay_layout::context::one_solution;
-use lay_run_reports::run_reports_are_yes;
 
 /// Each report that `run` writes is answered `yes` by `check`.
 pub fn run_reports_are_answered_yes()

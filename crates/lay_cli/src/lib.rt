@@ -2,11 +2,13 @@
 //!
 //! `top` reads the words (lay_words) and the source, takes the bytes for a run document (lay_json), lays it out from scratch
 //! (lay_context) or drives its editors on threads of their own beside workers (lay_drive), and writes the report (lay_report) into
-//! the sink, or which piece is seen at a point (lay_hit). Or it judges a report that stands beside a run document (lay_check). Its
+//! the sink, or which piece is seen at a point (lay_hit). Or it judges a report that stands beside a run document (lay_audit). Its
 //! contract is in the words of `specs/Answers.antt`: which text answers which words and bytes; `specs/Endings.antt` says what a status
 //! says of the sink. `scratch`, `hit` and `check` are the calls that it makes for these words: they are given no runtime, so they start
 //! no thread and wait for none, and they return. The law `run_reports_are_answered_yes` says that the reports of `run` are answered
 //! `yes` by `check`, and `one_summary` that `gen` writes the same for the same numbers (`specs/Summaries.antt`).
+//!
+//! - `run_reports`: the reports of this engine are legal.
 #![tactic(auto)]
 
 mod at_point;
@@ -20,6 +22,7 @@ mod laws;
 mod means;
 mod refusal;
 mod run_input;
+pub mod run_reports;
 mod status;
 mod telling;
 
@@ -28,6 +31,5 @@ pub use call::top;
 pub use checking::check;
 pub use from_scratch::scratch;
 pub use laws::{one_summary, run_reports_are_answered_yes, summaries_come_of_numbers};
-pub use lay_drive::editing_core as editing_core;
 pub use means::Means;
 pub use status::Status;

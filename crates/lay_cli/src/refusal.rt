@@ -5,10 +5,10 @@ ghost use Rattle.std.specs.Fmt.{decimal};
 ghost use Rattle.lay_cli.specs.Refusals.{place_text, field_text, value_fault, fault_text, fault_line};
 ghost use Rattle.lay_report.specs.Report.{fault_number};
 
+use lay_doc::EditFault;
 use lay_json::{Field, InputFault, Spot};
-use lay_layout::doc::EditFault;
-use lay_layout::units::{NoMemory, Text};
 use lay_report::{fault_number, push_number};
+use lay_units::{NoMemory, Text};
 use std::alloc::Global;
 
 /// The line for a fault of a run document.

@@ -7,11 +7,11 @@ ghost use Rattle.lay_cli.specs.Input.{IsDrained, IsReadOut};
 
 use crate::input::{SourceFault, read_all};
 use crate::refusal::fault_line;
-use lay_input::read_styled;
 use lay_json::InputFault;
-use lay_layout::run::RunDoc;
-use lay_layout::units::{NoMemory, Text};
+use lay_json::styled::read_styled;
 use lay_outside::Source;
+use lay_run::RunDoc;
+use lay_units::{NoMemory, Text};
 use std::alloc::Global;
 
 /// What was read.

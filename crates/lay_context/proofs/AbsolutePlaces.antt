@@ -16,10 +16,10 @@ use Rattle.lay_sizes.specs.SizeColumns.{sizes_at}
 use Rattle.lay_abspos.specs.AbsoluteAxis.{IsUsedAxis}
 use Rattle.lay_box_tree.specs.BoxColumns.{box_at}
 use Rattle.lay_contexts.specs.FormattingContexts.{AreFormattingContexts, boxes_in, formatting_context_at}
-use Rattle.lay_pieces.specs.declared.corner.Corner.{Corner}
-use Rattle.lay_pieces.specs.declared.standing.Standing.{Standing}
-use Rattle.lay_pieces.specs.Corners.{corner_at, no_corner}
-use Rattle.lay_pieces.specs.Standings.{standing_at}
+use Rattle.lay_placements.specs.declared.corner.Corner.{Corner}
+use Rattle.lay_placements.specs.declared.standing.Standing.{Standing}
+use Rattle.lay_placements.specs.Corners.{corner_at, no_corner}
+use Rattle.lay_placements.specs.Standings.{standing_at}
 use Rattle.lay_flow_boxes.specs.PlaceInputs.{PlaceInput}
 use Rattle.lay_table.specs.TableInputs.{TableInput}
 use Rattle.lay_table_sizes.specs.TableSizesValue.{TableSizesValue}

@@ -3,8 +3,8 @@ use Rattle.std.proofs.Common.{◌≡◌, ℕ, ◌<◌, ◌≤◌, List, [], ◌�
 use Rattle.std.proofs.lemmas.Bool.{cases_lt}
 use Rattle.std.proofs.lemmas.Grind.{elements}
 use Rattle.lay_contexts.specs.FormattingContexts.{FormattingContext, AreFormattingContexts, formatting_context_at}
-use Rattle.lay_pieces.specs.Corners.{AreNearCorners, IsCornerNear, corner_at}
-use Rattle.lay_pieces.specs.declared.corner.Corner.{Corner}
+use Rattle.lay_placements.specs.Corners.{AreNearCorners, IsCornerNear, corner_at}
+use Rattle.lay_placements.specs.declared.corner.Corner.{Corner}
 use Rattle.lay_context.specs.PlacedContexts.{PlacedContext, placed_in}
 use Rattle.lay_context.specs.PageCorners.{HasPageCorners, inner_corner}
 

@@ -8,8 +8,8 @@ use Rattle.lay_frag.specs.declared.frag.Frag.{Frag}
 use Rattle.lay_sizes.specs.declared.own_boxes.OwnBox.{OwnBox}
 use Rattle.lay_sizes.specs.OwnBoxes.{OwnBoxFits, OwnBoxesFit, own_box_at}
 use Rattle.lay_contexts.specs.FormattingContexts.{AreFormattingContexts, FormattingContext, formatting_context_at}
-use Rattle.lay_pieces.specs.InnerPieces.{AreNearInnerPieces, inner_pieces_at}
-use Rattle.lay_pieces.specs.NearPieces.{AreNearPieces}
+use Rattle.lay_placements.specs.InnerPieces.{AreNearInnerPieces, inner_pieces_at}
+use Rattle.lay_placements.specs.NearPieces.{AreNearPieces}
 
 -- the number of an inner formatting context, or 0, is that of one of them
 pub inner_within : (contexts : List FormattingContext) (i k : ℕ) → AreFormattingContexts contexts → i < length contexts → k < length (formatting_context_at contexts i).inner → slice_index (formatting_context_at contexts i).inner k < length contexts

@@ -3,8 +3,8 @@ use Rattle.std.proofs.Common.{◌≡◌, ℕ, zero, suc, ◌<◌, ◌≤◌, Lis
 use Rattle.std.proofs.lemmas.Bool.{cases_lt}
 use Rattle.lay_doc.proofs.OneStyles.{same_list}
 use Rattle.lay_contexts.specs.FormattingContexts.{FormattingContext, AreFormattingContexts}
-use Rattle.lay_pieces.specs.Corners.{corner_at, no_corner}
-use Rattle.lay_pieces.specs.declared.corner.Corner.{Corner}
+use Rattle.lay_placements.specs.Corners.{corner_at, no_corner}
+use Rattle.lay_placements.specs.declared.corner.Corner.{Corner}
 use Rattle.lay_context.specs.Laws.{OnePageCorners}
 use Rattle.lay_context.specs.PlacedContexts.{PlacedContext}
 use Rattle.lay_context.specs.PageCorners.{HasPageCorners, inner_corner}

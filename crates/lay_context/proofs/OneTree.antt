@@ -12,7 +12,7 @@ use Rattle.lay_contexts.specs.FormattingContextList.{AreFormattingContextsOf}
 use Rattle.lay_contexts.specs.FormattingLaws.{FormattingContextsStandInOrder, OneFormattingContextList}
 use Rattle.lay_positioned.specs.Levels.{HasLevels}
 use Rattle.lay_positioned.proofs.LevelSteps.{levels_are, levels_of}
-use Rattle.lay_pieces.specs.declared.corner.Corner.{Corner}
+use Rattle.lay_placements.specs.declared.corner.Corner.{Corner}
 use Rattle.lay_context.specs.declared.task.Phase.TheVariants.{Size, Place}
 use Rattle.lay_context.specs.declared.task.Task.{Task}
 use Rattle.lay_context.specs.declared.input.Input.{Input}

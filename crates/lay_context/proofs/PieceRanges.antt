@@ -7,7 +7,7 @@ use Rattle.lay_units.specs.declared.length.Unit.{Unit as Length}
 use Rattle.lay_units.specs.declared.records.Rect.{Rect}
 use Rattle.lay_frag.specs.declared.frag.Frag.{Frag}
 use Rattle.lay_frag.specs.Pieces.{Context, AreInRange, IsRectInRange, IsContextInRange, moved, pieces_at}
-use Rattle.lay_pieces.specs.NearPieces.{AreNearPieces, IsRectNear}
+use Rattle.lay_placements.specs.NearPieces.{AreNearPieces, IsRectNear}
 
 near_position : (v : ℤ) → IsNear v → IsPosition v
 near_position v near = (omega (arith, ints, near.0), omega (arith, ints, near.1))

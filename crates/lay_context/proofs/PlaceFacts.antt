@@ -1,7 +1,7 @@
 -- A placement is that of boxes in block flow, or of a table.
 use Rattle.std.proofs.Common.{◌≡◌, ℕ, zero, suc, Bool, true, false, [], ◌∷◌, length, length-append, refl, ap, subst, ◌∙◌, arith, Option, None, Some, option_map}
 use Rattle.lay_context_sizes.specs.MeasuredContexts.{MeasuredContext}
-use Rattle.lay_pieces.specs.Placements.{Placement}
+use Rattle.lay_placements.specs.Placements.{Placement}
 use Rattle.lay_flow_boxes.specs.PlaceInputs.{PlaceInput}
 use Rattle.lay_placement.specs.BoxStandings.{standing_of_box, standings_to}
 use Rattle.lay_placement.specs.ContextPlacements.{IsPlacement}
@@ -12,7 +12,7 @@ use Rattle.lay_table.specs.TableStandings.{TablePlaces, standing_of}
 use Rattle.lay_table_sizes.specs.TableSizesValue.{TableSizesValue}
 use Rattle.lay_context.specs.declared.value.Value.TheVariants as value
 use Rattle.lay_sizes.specs.declared.own_boxes.OwnBox.{OwnBox}
-use Rattle.lay_pieces.specs.declared.corner.Corner.{Corner}
+use Rattle.lay_placements.specs.declared.corner.Corner.{Corner}
 use Rattle.lay_abspos.proofs.OnePlace.{one_own_place_lem}
 use Rattle.lay_context_sizes.specs.ContextSizes.{SizedContext}
 use Rattle.lay_context_sizes.specs.Inputs.{MeasureInput}

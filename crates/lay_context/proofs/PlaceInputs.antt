@@ -6,10 +6,10 @@ use Rattle.lay_sizes.specs.SizeBounds.{SizeFits}
 use Rattle.lay_sizes.specs.SizeColumns.{HaveSizeBounds, sizes_at}
 use Rattle.lay_sizes.specs.OwnBoxes.{OwnBoxesFit}
 use Rattle.lay_sizes.specs.declared.sizing.BoxSizes.{BoxSizes}
-use Rattle.lay_table_borders.specs.GridBounds.{PlacesAreBelow}
+use Rattle.lay_table_grid.specs.GridBounds.{PlacesAreBelow}
 use Rattle.lay_table_sizes.specs.TableSizesValue.{TableSizesValue}
 use Rattle.lay_contexts.specs.FormattingContexts.{AreFormattingContexts, FormattingContext, boxes_in, formatting_context_at}
-use Rattle.lay_pieces.specs.InnerPieces.{AreNearInnerPieces}
+use Rattle.lay_placements.specs.InnerPieces.{AreNearInnerPieces}
 use Rattle.lay_flow_boxes.specs.PlaceInputs.{HeightRuleFits, PlaceInputFits, height_rule_of}
 use Rattle.lay_table.specs.TableInputs.{TableInputFits}
 use Rattle.lay_context_sizes.specs.ContextSizes.{SizedContext}

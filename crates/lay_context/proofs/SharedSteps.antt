@@ -3,7 +3,7 @@ use Rattle.std.proofs.Common.{◌≡◌, ◌∙◌, ℕ, ◌+◌, ◌<◌, ◌++
 use Rattle.std.proofs.lemmas.Bool.{cases_lt}
 use Rattle.std.proofs.lemmas.Grind.{elements}
 use Rattle.lay_face.specs.FaceValue.{FaceValue}
-use Rattle.lay_items.specs.InlineContents.{KeptSegments}
+use Rattle.lay_line_items.specs.InlineContents.{KeptSegments}
 use Rattle.lay_flow_boxes.specs.AskedContents.{AreAskedContents, is_any_asked}
 use Rattle.lay_flow_boxes.specs.declared.asked_contents.Asked.{Asked}
 use Rattle.lay_flow_boxes.specs.declared.asked_contents.Asked.TheVariants.{Texts as texts, Anchors as anchors, Nothing as nothing}

@@ -2,7 +2,7 @@
 use Rattle.std.proofs.Common.{Bool, true, false, List, Option, None, Some}
 use Rattle.lay_units.specs.declared.length.Unit.{Unit as Length}
 use Rattle.lay_sizes.specs.declared.sizing.BoxSizes.{BoxSizes}
-use Rattle.lay_table_borders.specs.GridLaws.{GridsAreOfBoxes}
+use Rattle.lay_table_grid.specs.GridLaws.{GridsAreOfBoxes}
 use Rattle.lay_table_sizes.specs.TableSizesValue.{TableSizesValue}
 use Rattle.lay_box_tree.specs.ContextBoxes.{AreContextBoxes}
 use Rattle.lay_context_sizes.specs.ContextSizes.{SizedContext, HasSizes, IsSizedAs}

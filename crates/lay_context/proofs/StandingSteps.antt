@@ -3,8 +3,8 @@ use Rattle.std.proofs.Common.{◌≡◌, inl, inr, ℕ, ◌+◌, ◌<◌, List, 
 use Rattle.std.proofs.lemmas.Bool.{cases_lt}
 use Rattle.std.proofs.lemmas.Grind.{elements}
 use Rattle.lay_contexts.specs.FormattingContexts.{FormattingContext}
-use Rattle.lay_pieces.specs.Standings.{AreNearStandings, IsStandingNear, standing_at}
-use Rattle.lay_pieces.specs.declared.standing.Standing.{Standing}
+use Rattle.lay_placements.specs.Standings.{AreNearStandings, IsStandingNear, standing_at}
+use Rattle.lay_placements.specs.declared.standing.Standing.{Standing}
 use Rattle.lay_context.specs.PageCorners.{ArePageStandings, standing_of}
 use Rattle.lay_context.specs.PlacedContexts.{PlacedContext}
 

@@ -1,6 +1,6 @@
 -- Content of the lines of a formatting context is that of the boxes which a task of it is given.
 use Rattle.std.proofs.Common.{ℕ, Bool, true, false, List, Option, None, Some, option_map}
-use Rattle.lay_items.specs.InlineContents.{AreContents, KeptSegments}
+use Rattle.lay_line_items.specs.InlineContents.{AreContents, KeptSegments}
 use Rattle.lay_flow_boxes.specs.PlaceInputs.{PlaceInput}
 use Rattle.lay_table.specs.TableInputs.{TableInput}
 use Rattle.lay_abspos.specs.OwnOffsets.{StandInput}

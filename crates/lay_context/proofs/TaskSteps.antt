@@ -5,7 +5,7 @@ use Rattle.std.proofs.lemmas.Bool.{cases_lt}
 use Rattle.std.proofs.lemmas.Grind.{elements}
 use Rattle.lay_context_sizes.specs.MeasuredContexts.{MeasuredContext}
 use Rattle.lay_frag.specs.Pieces.{Context as PageContext}
-use Rattle.lay_table_borders.specs.GridLaws.{GridsAreOfBoxes}
+use Rattle.lay_table_grid.specs.GridLaws.{GridsAreOfBoxes}
 use Rattle.lay_contexts.specs.FormattingContexts.{FormattingContext, AreFormattingContexts, boxes_in}
 use Rattle.lay_positioned.specs.Levels.{HasLevels}
 use Rattle.lay_context.specs.declared.task.Phase.{Phase}

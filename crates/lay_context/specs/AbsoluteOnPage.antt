@@ -16,9 +16,9 @@ use Rattle.lay_abspos.specs.declared.axis.ContentSize.TheVariants.{Shrinks as sh
 use Rattle.lay_abspos.specs.AbsoluteAxis.{IsUsedAxis}
 use Rattle.lay_box_tree.specs.BoxColumns.{box_at}
 use Rattle.lay_contexts.specs.FormattingContexts.{FormattingContext, boxes_in, formatting_context_at}
-use Rattle.lay_pieces.specs.declared.corner.Corner.{Corner}
-use Rattle.lay_pieces.specs.Corners.{corner_at, no_corner}
-use Rattle.lay_pieces.specs.Standings.{standing_at}
+use Rattle.lay_placements.specs.declared.corner.Corner.{Corner}
+use Rattle.lay_placements.specs.Corners.{corner_at, no_corner}
+use Rattle.lay_placements.specs.Standings.{standing_at}
 use Rattle.lay_abspos.specs.declared.setting.AbsoluteSetting.{AbsoluteSetting}
 use Rattle.lay_abspos.specs.AbsoluteAxes.{axis_across, wrapper_across}
 use Rattle.lay_abspos.specs.AbsoluteSizes.{own_axis_across}

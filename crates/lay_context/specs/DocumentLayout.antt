@@ -9,7 +9,7 @@ use Rattle.lay_sizes.specs.declared.own_boxes.OwnBox.{OwnBox}
 use Rattle.lay_sizes.specs.OwnBoxes.{no_own_box}
 use Rattle.lay_context_sizes.specs.MeasuredContexts.{MeasuredContext, not_measured}
 use Rattle.lay_contexts.specs.FormattingContexts.{FormattingContext, formatting_context_at}
-use Rattle.lay_pieces.specs.Placements.{Placement}
+use Rattle.lay_placements.specs.Placements.{Placement}
 use Rattle.lay_positioned.specs.Absolute.{is_absolute}
 use Rattle.lay_context.specs.PlacedContexts.{PlacedContext, placement_in}
 

@@ -1,6 +1,6 @@
 -- Content of lines that is made for a task, or shared by it with others (`SharedContents`).
 use Rattle.std.specs.Prelude.{⊤}
-use Rattle.lay_items.specs.InlineContents.{AreContents, KeptSegments}
+use Rattle.lay_line_items.specs.InlineContents.{AreContents, KeptSegments}
 use Rattle.lay_context.specs.declared.input.Input.{Input}
 use Rattle.lay_context.specs.declared.input.Input.TheVariants as input
 

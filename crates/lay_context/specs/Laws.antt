@@ -5,7 +5,7 @@ use Rattle.lay_doc.specs.Document.{Document, IsDocument}
 use Rattle.lay_frag.specs.Pieces.{Context as PageContext}
 use Rattle.lay_face.specs.FaceValue.{FaceValue}
 use Rattle.lay_contexts.specs.FormattingContexts.{FormattingContext, AreFormattingContexts, IsInside}
-use Rattle.lay_pieces.specs.declared.corner.Corner.{Corner}
+use Rattle.lay_placements.specs.declared.corner.Corner.{Corner}
 use Rattle.lay_positioned.specs.Absolute.{is_absolute}
 use Rattle.lay_positioned.specs.Levels.{HasLevels}
 use Rattle.lay_context.specs.AbsoluteOnPage.{IsSolved, PageLayout, StandsInContainingBlock}

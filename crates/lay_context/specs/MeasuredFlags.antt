@@ -1,6 +1,6 @@
 -- Whether each of a list of formatting contexts is measured, as who asks for one of them is given it.
 use Rattle.std.specs.Prelude.{ℕ, ◌≡◌, ◌<◌, Bool, List, length}
-use Rattle.lay_blocks.specs.Children.{flag_at}
+use Rattle.lay_flow.specs.Blocks.Children.{flag_at}
 use Rattle.lay_contexts.specs.FormattingContexts.{FormattingContext}
 use Rattle.lay_context.specs.Measured.{is_measured}
 

@@ -4,7 +4,7 @@ use Rattle.std.specs.Prelude.{List}
 use Rattle.std.proofs.Props.{props}
 use Rattle.lay_box_tree.specs.declared.box_tree.BoxNode.{BoxNode}
 use Rattle.lay_face.specs.FaceValue.{FaceValue}
-use Rattle.lay_items.specs.InlineContents.{KeptSegments}
+use Rattle.lay_line_items.specs.InlineContents.{KeptSegments}
 use Rattle.lay_contexts.specs.FormattingContexts.{FormattingContext}
 use Rattle.lay_context_sizes.specs.ContextSizes.{SizedContext}
 use Rattle.lay_context.specs.declared.task.Task.{Task}

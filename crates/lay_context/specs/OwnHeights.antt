@@ -8,7 +8,7 @@ use Rattle.lay_units.specs.Lengths.{no_length}
 use Rattle.lay_box_tree.specs.declared.box_tree.BoxKind.{BoxKind}
 use Rattle.lay_box_tree.specs.declared.box_tree.BoxKind.TheVariants as kind
 use Rattle.lay_box_tree.specs.declared.box_tree.BoxNode.{BoxNode}
-use Rattle.lay_blocks.specs.declared.flow_box.HeightRule.{HeightRule}
+use Rattle.lay_flow.specs.declared.blocks.flow_box.HeightRule.{HeightRule}
 use Rattle.lay_flow_boxes.specs.PlaceInputs.{height_rule_of}
 use Rattle.lay_sizes.specs.declared.sizing.BoxSizes.{BoxSizes}
 use Rattle.lay_sizes.specs.SizeColumns.{sizes_at}

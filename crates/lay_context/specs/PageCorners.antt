@@ -5,10 +5,10 @@ use Rattle.std.specs.Prelude.{ℕ, zero, suc, ◌≡◌, ◌<◌, ◌+ℤ◌, Li
 use Rattle.lay_units.specs.declared.length.Unit.{Unit as Length}
 use Rattle.lay_units.specs.Lengths.{no_length}
 use Rattle.lay_contexts.specs.FormattingContexts.{FormattingContext, formatting_context_at}
-use Rattle.lay_pieces.specs.declared.corner.Corner.{Corner}
-use Rattle.lay_pieces.specs.declared.standing.Standing.{Standing}
-use Rattle.lay_pieces.specs.Corners.{corner_at}
-use Rattle.lay_pieces.specs.Standings.{standing_at}
+use Rattle.lay_placements.specs.declared.corner.Corner.{Corner}
+use Rattle.lay_placements.specs.declared.standing.Standing.{Standing}
+use Rattle.lay_placements.specs.Corners.{corner_at}
+use Rattle.lay_placements.specs.Standings.{standing_at}
 use Rattle.lay_positioned.specs.Absolute.{is_absolute}
 use Rattle.lay_context.specs.PlacedContexts.{PlacedContext, placed_in, placement_in}
 

@@ -1,9 +1,9 @@
 -- What a formatting context answers of places: its placement (CSS 2.2, 9.4), and, where no one around it says so, where it stands
 -- itself: the root's on the page, and an absolutely positioned one in the one around it (9.6). The offset of another one is nothing.
 use Rattle.std.specs.Prelude.{ℕ, List, slice_index_or}
-use Rattle.lay_pieces.specs.declared.corner.Corner.{Corner}
-use Rattle.lay_pieces.specs.Corners.{no_corner}
-use Rattle.lay_pieces.specs.Placements.{Placement, no_placement}
+use Rattle.lay_placements.specs.declared.corner.Corner.{Corner}
+use Rattle.lay_placements.specs.Corners.{no_corner}
+use Rattle.lay_placements.specs.Placements.{Placement, no_placement}
 
 pub record PlacedContext : Type 0 where
   pub placement : Placement

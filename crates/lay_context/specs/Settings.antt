@@ -12,7 +12,7 @@ use Rattle.lay_sizes.specs.SizeColumns.{sizes_at}
 use Rattle.lay_table_sizes.specs.TableSizesValue.{TableSizesValue, cell_at}
 use Rattle.lay_table_sizes.specs.declared.cell_size.CellSize.{CellSize}
 use Rattle.lay_contexts.specs.FormattingContexts.{FormattingContext, formatting_context_at, boxes_in}
-use Rattle.lay_pieces.specs.ContainingBlocks.{block_around}
+use Rattle.lay_placements.specs.ContainingBlocks.{block_around}
 use Rattle.lay_positioned.specs.Absolute.{is_absolute}
 use Rattle.lay_positioned.specs.Layouts.{Layout}
 use Rattle.lay_positioned.specs.Settings.{absolute_setting}

@@ -1,7 +1,7 @@
 -- What the loop over tasks keeps: the tasks that had their turn are done, and so what the next one needs is there.
 use Rattle.std.specs.Prelude.{ℕ, ◌≡◌, ◌<◌, List, length, IfSome}
 use Rattle.lay_box_tree.specs.declared.box_tree.BoxNode.{BoxNode}
-use Rattle.lay_table_borders.specs.GridBounds.{PlacesAreBelow}
+use Rattle.lay_table_grid.specs.GridBounds.{PlacesAreBelow}
 use Rattle.lay_contexts.specs.FormattingContexts.{FormattingContext, boxes_in}
 use Rattle.lay_context.specs.declared.input.Input.{Input}
 use Rattle.lay_context.specs.declared.task.Phase.TheVariants.{Size}

@@ -4,8 +4,8 @@
 use Rattle.std.specs.Prelude.{ℕ, ◌≡◌, ◌<◌, true, List, [], Some, length, slice_index_or, if◌then◌else◌}
 use Rattle.lay_box_tree.specs.declared.box_tree.BoxNode.{BoxNode}
 use Rattle.lay_face.specs.FaceValue.{FaceValue}
-use Rattle.lay_items.specs.InlineContents.{AreContents, KeptSegments, kept_at}
-use Rattle.lay_items.specs.InlineSegments.{segments_in}
+use Rattle.lay_line_items.specs.InlineContents.{AreContents, KeptSegments, kept_at}
+use Rattle.lay_line_items.specs.InlineSegments.{segments_in}
 use Rattle.lay_flow_boxes.specs.AskedContents.{AreAskedContents, HoldsAsked, is_any_asked}
 use Rattle.lay_flow_boxes.specs.declared.asked_contents.Asked.{Asked}
 use Rattle.lay_flow_boxes.specs.declared.asked_contents.Asked.TheVariants.{Texts as texts, Anchors as anchors, Nothing as nothing}

@@ -23,8 +23,8 @@ use Rattle.lay_contexts.specs.ContextList.{AreContextsOf}
 use Rattle.lay_contexts.specs.FormattingContexts.{FormattingContext, boxes_in, formatting_context_at}
 use Rattle.lay_contexts.specs.FormattingContextList.{AreFormattingContextsOf}
 use Rattle.lay_table_sizes.specs.declared.cell_size.CellSize.{CellSize}
-use Rattle.lay_pieces.specs.declared.corner.Corner.{Corner}
-use Rattle.lay_pieces.specs.Corners.{corner_at}
+use Rattle.lay_placements.specs.declared.corner.Corner.{Corner}
+use Rattle.lay_placements.specs.Corners.{corner_at}
 use Rattle.lay_context.specs.declared.task.Task.{Task}
 use Rattle.lay_context.specs.Local.{HasCounts, IsTaskDone}
 use Rattle.lay_context.specs.Workings.{Workings}

@@ -2,7 +2,7 @@
 
 ghost use Rattle.std.specs.Prelude.{◌≡◌, ◌+◌, ◌^◌, ◌<◌, ◌≤◌, length, IfOk};
 ghost use Rattle.lay_frag.specs.Pieces.{IsContextInRange};
-ghost use Rattle.lay_pieces.specs.NearPieces.{IsRectNear};
+ghost use Rattle.lay_placements.specs.NearPieces.{IsRectNear};
 ghost use Rattle.lay_context.specs.PlacedContexts.{placement_in};
 ghost use Rattle.lay_context.specs.Solves.{IsAssembled, page_context, page_contexts, page_rect, page_width};
 
@@ -13,7 +13,7 @@ use crate::page_standings::{noted_standing, page_standings};
 use crate::settings::cell_of;
 use crate::values::Values;
 use lay_frag::{Placed, Tree};
-use lay_pieces::near_position;
+use lay_placements::near_position;
 use lay_sizes::OwnBox;
 use lay_table_sizes::CellSize;
 use lay_units::{NoMemory, Rect, Unit};

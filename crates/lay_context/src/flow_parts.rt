@@ -1,18 +1,18 @@
 //! What a formatting context in block flow is placed of.
 
 ghost use Rattle.std.specs.Prelude.{◌≡◌, length, IfOk};
-ghost use Rattle.lay_items.specs.InlineContents.{AreContents};
+ghost use Rattle.lay_line_items.specs.InlineContents.{AreContents};
 ghost use Rattle.lay_sizes.specs.SizeColumns.{sizes_at};
 ghost use Rattle.lay_flow_boxes.specs.PlaceInputs.{HeightRuleFits, PlaceInputFits, height_rule_of};
 
 use crate::own_heights::height_rule_of;
 use crate::shared_pieces::SharedPieces;
-use lay_blocks::HeightRule;
 use lay_box_tree::ContextBoxes;
 use lay_face::Face;
+use lay_flow::blocks::HeightRule;
 use lay_flow_boxes::PlaceInput;
-use lay_items::InlineContents;
-use lay_pieces::{ContextSizes, OwnBoxes};
+use lay_line_items::InlineContents;
+use lay_placements::{ContextSizes, OwnBoxes};
 use lay_sizes::BoxSizes;
 use lay_units::NoMemory;
 use std::alloc::Global;

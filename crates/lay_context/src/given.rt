@@ -2,8 +2,8 @@
 
 ghost use Rattle.std.specs.Prelude.{◌≡◌, ◌<◌, Some, IfOk, length, slice_index};
 ghost use Rattle.lay_sizes.specs.OwnBoxes.{OwnBoxFits, OwnBoxesFit};
-ghost use Rattle.lay_pieces.specs.InnerPieces.{AreNearInnerPieces, pieces_or_none};
-ghost use Rattle.lay_pieces.specs.NearPieces.{AreNearPieces};
+ghost use Rattle.lay_placements.specs.InnerPieces.{AreNearInnerPieces, pieces_or_none};
+ghost use Rattle.lay_placements.specs.NearPieces.{AreNearPieces};
 ghost use Rattle.lay_contexts.specs.FormattingContexts.{formatting_context_at};
 ghost use Rattle.lay_context.specs.DocumentLayout.{flow_number, inner_boxes, inner_pieces, inner_widths};
 ghost use Rattle.lay_context.specs.DocumentLayout.{inner_widths_in, own_box_in, pieces_in};
@@ -29,7 +29,7 @@ use lay_context_sizes::SizeInput;
 use lay_contexts::FormattingContexts;
 use lay_frag::Pieces;
 use lay_measure::{NO_WIDTHS, PreferredWidths};
-use lay_pieces::OwnBoxes;
+use lay_placements::OwnBoxes;
 use lay_positioned::is_absolute;
 use lay_sizes::{NO_OWN_BOX, OwnBox};
 use lay_table_sizes::TableSizes;

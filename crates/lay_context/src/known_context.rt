@@ -10,7 +10,7 @@ ghost use Rattle.lay_context.specs.declared.task.Phase.TheVariants.{Place, Size}
 
 use crate::values::Values;
 use lay_contexts::{FormattingContext, FormattingContexts};
-use lay_pieces::{Corner, Standing};
+use lay_placements::{Corner, Standing};
 use lay_positioned::Layouts;
 use lay_sizes::BoxSizes;
 

@@ -1,14 +1,14 @@
 //! The formatting contexts of a document, when all is known of them.
 
 ghost use Rattle.std.specs.Prelude.{◌≡◌, length};
-ghost use Rattle.lay_pieces.specs.Corners.{AreNearCorners};
-ghost use Rattle.lay_pieces.specs.Standings.{AreNearStandings};
+ghost use Rattle.lay_placements.specs.Corners.{AreNearCorners};
+ghost use Rattle.lay_placements.specs.Standings.{AreNearStandings};
 ghost use Rattle.lay_context.specs.PageCorners.{ArePageStandings};
 ghost use Rattle.lay_context.specs.Settling.{AreKnown};
 
 use crate::values::Values;
 use lay_contexts::FormattingContexts;
-use lay_pieces::{Corner, Standing};
+use lay_placements::{Corner, Standing};
 
 /// The formatting contexts of a document, with the values of all of them.
 #[derive(Drop)]

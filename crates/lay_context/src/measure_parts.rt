@@ -1,12 +1,12 @@
 //! What a formatting context is measured of.
 
 ghost use Rattle.std.specs.Prelude.{◌≡◌, IfOk};
-ghost use Rattle.lay_items.specs.InlineContents.{AreContents};
+ghost use Rattle.lay_line_items.specs.InlineContents.{AreContents};
 
 use lay_box_tree::ContextBoxes;
 use lay_context_sizes::MeasureInput;
 use lay_face::Face;
-use lay_items::InlineContents;
+use lay_line_items::InlineContents;
 use lay_measure::PreferredWidths;
 use lay_units::NoMemory;
 use std::alloc::Global;

@@ -7,7 +7,7 @@ ghost use Rattle.lay_context_sizes.specs.ContextSizes.{not_sized};
 use crate::placed_context::PlacedContext;
 use lay_context_sizes::SizedContext;
 use lay_frag::Pieces;
-use lay_pieces::{ContextSizes, Corner, Placement};
+use lay_placements::{ContextSizes, Corner, Placement};
 use lay_units::{NoMemory, Unit};
 use std::alloc::Global;
 use std::sync::Arc;

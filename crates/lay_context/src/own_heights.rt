@@ -5,9 +5,9 @@ ghost use Rattle.lay_sizes.specs.SizeBounds.{SizeFits};
 ghost use Rattle.lay_flow_boxes.specs.PlaceInputs.{HeightRuleFits, height_rule_of};
 ghost use Rattle.lay_context.specs.OwnHeights.{height_rule_as, own_height_rule};
 
-use lay_blocks::HeightRule;
 use lay_box_tree::{BoxKind, ContextBoxes};
 use lay_context_sizes::SizedContext;
+use lay_flow::blocks::HeightRule;
 use lay_sizes::BoxSizes;
 use lay_units::{Len, Unit};
 

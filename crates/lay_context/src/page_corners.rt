@@ -2,8 +2,8 @@
 
 ghost use Rattle.std.specs.Prelude.{◌≡◌, ◌<◌, ◌≤◌, ◌+ℤ◌, length, IfOk};
 ghost use Rattle.lay_units.specs.Units.{IsNear};
-ghost use Rattle.lay_pieces.specs.Corners.{AreNearCorners, IsCornerNear, corner_at};
-ghost use Rattle.lay_pieces.specs.Standings.{AreNearStandings, IsStandingNear, standing_at};
+ghost use Rattle.lay_placements.specs.Corners.{AreNearCorners, IsCornerNear, corner_at};
+ghost use Rattle.lay_placements.specs.Standings.{AreNearStandings, IsStandingNear, standing_at};
 ghost use Rattle.lay_context.specs.PageCorners.{ArePageStandings, HasPageCorners, beside, flow_standing, inner_corner, lowered};
 ghost use Rattle.lay_context.specs.PageCorners.{own_standing, standing_of};
 ghost use Rattle.lay_context.specs.PlacedContexts.{placed_in};
@@ -12,7 +12,7 @@ use crate::laid_contexts::LaidContexts;
 use crate::page_standings::noted_standing;
 use crate::placed_context::PlacedContext;
 use crate::values::Values;
-use lay_pieces::{Corner, Standing, near_position};
+use lay_placements::{Corner, Standing, near_position};
 use lay_positioned::is_absolute;
 use lay_units::{NoMemory, Unit};
 use std::alloc::Global;

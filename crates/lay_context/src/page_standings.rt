@@ -1,13 +1,13 @@
 //! How formatting contexts stand on the page. Of each this is asked once.
 
 ghost use Rattle.std.specs.Prelude.{◌≡◌, ◌<◌, length, IfOk};
-ghost use Rattle.lay_pieces.specs.Standings.{AreNearStandings, IsStandingNear};
+ghost use Rattle.lay_placements.specs.Standings.{AreNearStandings, IsStandingNear};
 ghost use Rattle.lay_context.specs.PageCorners.{ArePageStandings, standing_of};
 
 use crate::laid_contexts::LaidContexts;
 use crate::page_corners::{standing_at, standing_of};
 use crate::values::Values;
-use lay_pieces::Standing;
+use lay_placements::Standing;
 use lay_units::NoMemory;
 use std::alloc::Global;
 

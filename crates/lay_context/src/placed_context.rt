@@ -1,10 +1,10 @@
 //! What a formatting context answers of places.
 
 ghost use Rattle.std.specs.Prelude.{◌≡◌};
-ghost use Rattle.lay_pieces.specs.Corners.{IsCornerNear};
+ghost use Rattle.lay_placements.specs.Corners.{IsCornerNear};
 ghost use Rattle.lay_context.specs.PlacedContexts.{PlacedContext as Plain};
 
-use lay_pieces::{Corner, Placement};
+use lay_placements::{Corner, Placement};
 use std::marker::Model;
 
 /// The placement of a formatting context, and where it stands itself, if the one around it doesn't say so.
@@ -15,7 +15,7 @@ pub struct PlacedContext {
 }
 
 impl Model for PlacedContext {
-    ghost use Rattle.lay_pieces.specs.Corners.{IsCornerNear};
+    ghost use Rattle.lay_placements.specs.Corners.{IsCornerNear};
     ghost use Rattle.lay_context.specs.PlacedContexts.{PlacedContext as Plain};
 
     ghost Value = { Plain };

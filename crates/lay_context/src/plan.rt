@@ -1,8 +1,8 @@
 //! What the tasks of a layout share.
 
 ghost use Rattle.std.specs.Prelude.{◌≡◌, ◌<◌, length};
-ghost use Rattle.lay_items.specs.InlineContents.{AreContents};
-ghost use Rattle.lay_table_borders.specs.GridLaws.{GridsAreOfBoxes};
+ghost use Rattle.lay_line_items.specs.InlineContents.{AreContents};
+ghost use Rattle.lay_table_grid.specs.GridLaws.{GridsAreOfBoxes};
 ghost use Rattle.lay_contexts.specs.FormattingContexts.{boxes_in};
 ghost use Rattle.lay_positioned.specs.Levels.{HasLevels};
 ghost use Rattle.lay_context.specs.MeasuredFlags.{AreMeasured};
@@ -11,7 +11,7 @@ ghost use Rattle.lay_context.specs.SharedContents.{HaveContents, TextsAreKept, c
 
 use crate::medium::Medium;
 use lay_contexts::FormattingContexts;
-use lay_items::InlineContents;
+use lay_line_items::InlineContents;
 
 /// What the tasks of a layout share: the medium, the formatting contexts, their levels, the content of their lines that more
 /// than one task asks for, and whether each is measured.

@@ -17,7 +17,7 @@ use crate::values::Values;
 use lay_abspos::{AbsoluteSetting, OwnPlace};
 use lay_box_tree::ContextBoxes;
 use lay_context_sizes::{Setting, SizedContext};
-use lay_pieces::{ContextSizes, block_around};
+use lay_placements::{ContextSizes, block_around};
 use lay_positioned::{is_absolute, setting};
 use lay_sizes::{BoxSizes, ContainingBlock, NO_SIZES, content_block};
 use lay_table_sizes::{CellSize, TableSizes};

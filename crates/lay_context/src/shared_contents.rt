@@ -8,7 +8,7 @@ use crate::measured::is_measured;
 use crate::medium::Medium;
 use lay_contexts::FormattingContexts;
 use lay_flow_boxes::{Asked, contents_of};
-use lay_items::InlineContents;
+use lay_line_items::InlineContents;
 use lay_units::NoMemory;
 use std::alloc::Global;
 

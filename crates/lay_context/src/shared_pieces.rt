@@ -1,10 +1,10 @@
 //! The pieces of anonymous formatting contexts, as a task is given them.
 
 ghost use Rattle.std.specs.Prelude.{◌≡◌, map, IfOk};
-ghost use Rattle.lay_pieces.specs.InnerPieces.{AreNearInnerPieces, inner_pieces_at, pieces_or_none};
+ghost use Rattle.lay_placements.specs.InnerPieces.{AreNearInnerPieces, inner_pieces_at, pieces_or_none};
 
 use lay_frag::Pieces;
-use lay_pieces::InnerPieces;
+use lay_placements::InnerPieces;
 use lay_units::NoMemory;
 use std::alloc::Global;
 use std::marker::Model;
@@ -20,7 +20,7 @@ pub struct SharedPieces {
 impl Model for SharedPieces {
     ghost use Rattle.std.specs.Prelude.{List, map};
     ghost use Rattle.lay_frag.specs.declared.frag.Frag.{Frag};
-    ghost use Rattle.lay_pieces.specs.InnerPieces.{AreNearInnerPieces, pieces_or_none};
+    ghost use Rattle.lay_placements.specs.InnerPieces.{AreNearInnerPieces, pieces_or_none};
 
     ghost Value = { List (List Frag) };
 

@@ -6,7 +6,7 @@ ghost use Rattle.lay_table.specs.TableInputs.{TableInputFits};
 use crate::flow_parts::copied;
 use crate::shared_pieces::SharedPieces;
 use lay_box_tree::ContextBoxes;
-use lay_pieces::{ContextSizes, OwnBoxes};
+use lay_placements::{ContextSizes, OwnBoxes};
 use lay_table::TableInput;
 use lay_table_sizes::TableSizes;
 use lay_units::NoMemory;

@@ -4,7 +4,7 @@ use Rattle.lay_box_tree.specs.declared.box_tree.BoxNode.{BoxNode}
 use Rattle.lay_box_tree.specs.ContextBoxes.{AreContextBoxes}
 use Rattle.lay_box_tree.specs.Containing.{container_of, is_anonymous}
 use Rattle.lay_box_tree.proofs.ContainerSteps.{container_before}
-use Rattle.lay_pieces.specs.ContainingBlocks.{height_holder}
+use Rattle.lay_placements.specs.ContainingBlocks.{height_holder}
 
 holder_by : (boxes : List BoxNode) (c : ℕ) (b : Bool) → AreContextBoxes boxes → c < length boxes → (if b then container_of boxes c else c) ≤ c
 holder_by boxes zero true are within = omega arith

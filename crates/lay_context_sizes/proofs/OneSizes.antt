@@ -17,7 +17,7 @@ use Rattle.lay_table_sizes.specs.Laws.{OneCellSizes, OneTableSizes}
 use Rattle.lay_box_tree.specs.Containing.{container_of}
 use Rattle.lay_box_tree.specs.ContextBoxes.{AreContextBoxes, is_inner}
 use Rattle.lay_box_tree.proofs.ContainerSteps.{container_before}
-use Rattle.lay_pieces.specs.ContainingBlocks.{block_around, height_holder}
+use Rattle.lay_placements.specs.ContainingBlocks.{block_around, height_holder}
 use Rattle.lay_box_tree.specs.BoxColumns.{box_at}
 use Rattle.lay_abspos.proofs.OneAbsoluteBox.{one_absolute_sizes_lem, one_stretched_height_lem, one_table_left_lem}
 use Rattle.lay_context_sizes.specs.ContextSizes.{IsSizedAs, IsStretchedIn, IsWrapperLeft, SizedContext, table_rule}

@@ -28,7 +28,7 @@ use Rattle.lay_widths.specs.BlockWidths.{width_in}
 use Rattle.lay_widths.specs.FloatWidths.{IsUsedFloat, SolvesFloat}
 use Rattle.lay_widths.specs.MinMax.{AtMost}
 use Rattle.lay_sizes.specs.SizeColumns.{sizes_at}
-use Rattle.lay_table_borders.specs.TableGrid.{TableGridValue}
+use Rattle.lay_table_grid.specs.TableGrid.{TableGridValue}
 use Rattle.lay_table_sizes.specs.TableBounds.{TableBoundsValue}
 use Rattle.lay_table_sizes.specs.TableBoxes.{wrapper_style}
 use Rattle.lay_table_sizes.specs.TableLayouts.{has_width, is_fixed}

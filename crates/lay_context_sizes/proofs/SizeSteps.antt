@@ -12,7 +12,7 @@ use Rattle.lay_sizes.specs.SizeColumns.{HaveSizeBounds, no_sizes, sizes_at}
 use Rattle.lay_box_tree.specs.Containing.{container_of}
 use Rattle.lay_box_tree.specs.ContextBoxes.{AreContextBoxes, is_inner}
 use Rattle.lay_box_tree.proofs.ContainerSteps.{container_before}
-use Rattle.lay_pieces.specs.ContainingBlocks.{block_around, height_holder}
+use Rattle.lay_placements.specs.ContainingBlocks.{block_around, height_holder}
 use Rattle.lay_context_sizes.specs.FlowSizes.{HaveInsideSizes, IsBoxSized}
 use Rattle.lay_context_sizes.proofs.HolderSteps.{holder_before}
 

@@ -20,7 +20,7 @@ use Rattle.lay_sizes.specs.BoxSizes.{IsSized}
 use Rattle.lay_sizes.specs.SizeColumns.{no_sizes, sizes_at}
 use Rattle.lay_table_sizes.specs.CellSizes.{IsCellSized}
 use Rattle.lay_box_tree.specs.ContextBoxes.{is_inner}
-use Rattle.lay_pieces.specs.ContainingBlocks.{block_around}
+use Rattle.lay_placements.specs.ContainingBlocks.{block_around}
 use Rattle.lay_box_tree.specs.BoxColumns.{box_at}
 use Rattle.lay_abspos.specs.AbsoluteSizes.{IsAbsoluteSized}
 use Rattle.lay_context_sizes.specs.Inputs.{SizeInput}

@@ -14,7 +14,7 @@ use crate::setting::Setting;
 use lay_abspos::{AbsoluteSizes, absolute_sizes};
 use lay_box_tree::{BoxKind, ContextBoxes, Flow};
 use lay_measure::PreferredWidths;
-use lay_pieces::{ContextSizes, block_around};
+use lay_placements::{ContextSizes, block_around};
 use lay_sizes::{BoxSizes, NO_SIZES, NaturalSize, WidthRule, box_sizes};
 use lay_table_sizes::cell_sizes;
 use lay_units::{NoMemory, Unit};

@@ -1,7 +1,7 @@
 //! What the preferred widths and the used sizes of a formatting context are worked out of.
 
 ghost use Rattle.std.specs.Prelude.{◌≡◌};
-ghost use Rattle.lay_items.specs.InlineContents.{AreContents};
+ghost use Rattle.lay_line_items.specs.InlineContents.{AreContents};
 ghost use Rattle.lay_box_tree.specs.ContextBoxes.{AreContextBoxes};
 ghost use Rattle.lay_box_tree.specs.BoxColumns.{box_at};
 ghost use Rattle.lay_context_sizes.specs.Inputs.{SizeInputFits};
@@ -10,7 +10,7 @@ use crate::measured_context::MeasuredContext;
 use crate::setting::Setting;
 use lay_box_tree::{BoxNode, ContextBoxes};
 use lay_face::Face;
-use lay_items::InlineContents;
+use lay_line_items::InlineContents;
 use lay_measure::PreferredWidths;
 use std::marker::Model;
 use std::sync::Arc;
@@ -26,7 +26,7 @@ pub struct MeasureInput {
 }
 
 impl Model for MeasureInput {
-    ghost use Rattle.lay_items.specs.InlineContents.{AreContents};
+    ghost use Rattle.lay_line_items.specs.InlineContents.{AreContents};
     ghost use Rattle.lay_context_sizes.specs.Inputs.{MeasureInput as Plain};
 
     ghost Value = { Plain };

@@ -5,7 +5,7 @@ ghost use Rattle.lay_abspos.specs.OffsetBounds.{IsStart};
 ghost use Rattle.lay_context_sizes.specs.ContextSizes.{SizedContext as Plain};
 ghost use Rattle.lay_context_sizes.specs.ContextSizes.{IsStretchedSize};
 
-use lay_pieces::ContextSizes;
+use lay_placements::ContextSizes;
 use lay_table_sizes::TableSizes;
 use lay_units::{NoMemory, Unit};
 use std::marker::Model;

@@ -16,7 +16,7 @@ use crate::sized_context::SizedContext;
 use crate::table_contexts::is_table;
 use lay_abspos::{stretched_height, table_left};
 use lay_box_tree::{BoxKind, BoxNode, Flow};
-use lay_pieces::ContextSizes;
+use lay_placements::ContextSizes;
 use lay_sizes::{BoxSizes, NO_SIZES};
 use lay_table_sizes::{SizedTable, TableRule, table_sizes};
 use lay_units::{NoMemory, Unit};

@@ -1,3 +1,4 @@
+pub mod EditedLemmas
 pub mod AnonymousFlows
 pub mod Apart
 pub mod AtHome

@@ -1,3 +1,4 @@
+pub mod Edited
 pub mod ContextList
 pub mod ContextOrder
 pub mod ContextTree

@@ -9,6 +9,8 @@
 //! - That list as the code makes it: `AreContextsOf` of `specs/ContextList.antt`.
 //! - Formatting contexts: the contexts, and beside them those of the anonymous tables and cells in them (17.2.1), by
 //!   `AreFormattingContextsOf` of `specs/FormattingContextList.antt`.
+//!
+//! - `edited`: laws of which contexts an edit of a document may touch.
 #![tactic(auto)]
 
 mod box_laws;
@@ -16,6 +18,7 @@ mod context_list;
 mod context_places;
 mod context_spot;
 mod contexts;
+pub mod edited;
 mod formatting_context;
 mod formatting_context_list;
 mod formatting_laws;

@@ -1,10 +1,10 @@
 -- Calls but edits are steps of work on cells.
 use Rattle.std.proofs.Common.{◌≡◌, Bool, true, false, sym, ap, subst, inl, inr}
-use Rattle.lay_layout.specs.edit_lists.declared.command.Reply.{Reply}
-use Rattle.lay_layout.specs.edit_lists.declared.command.Reply.TheVariants.{Accepted, Refused, Shown, NoMemory}
-use Rattle.lay_layout.specs.cells.declared.answers.Claimed.{Claimed}
-use Rattle.lay_document_cells.specs.shape.declared.cell_key.CellKey.{CellKey}
-use Rattle.lay_document_cells.specs.cell_work.CellInputs.{CellInput}
+use Rattle.lay_history.specs.declared.edits.command.Reply.{Reply}
+use Rattle.lay_history.specs.declared.edits.command.Reply.TheVariants.{Accepted, Refused, Shown, NoMemory}
+use Rattle.lay_cells.specs.declared.answers.Claimed.{Claimed}
+use Rattle.lay_shape.specs.declared.cell_key.CellKey.{CellKey}
+use Rattle.lay_cell_work.specs.CellInputs.{CellInput}
 use Rattle.lay_document_cells.specs.Laws.{BatchesWork, ClaimsWork, NextClaimsWork, OutcomesWork}
 use Rattle.lay_document_cells.specs.Settling.{GivesUp, Settles, SettlesFirst, StopsAt as CellsStopAt, computed, granted, next as next_settled, none as none_settled, reused, taken, unclaimed}
 use Rattle.lay_document_cells.specs.State.{State as DocumentCells}

@@ -1,8 +1,8 @@
 -- Claims of cells, and what becomes of them.
 use Rattle.std.proofs.Common.{◌≡◌, ℕ, ap, ◌∙◌, subst, arith, inl, inr}
-use Rattle.lay_layout.specs.cells.declared.answers.Finished.{Finished}
-use Rattle.lay_layout.specs.cells.declared.answers.Released.{Released}
-use Rattle.lay_document_cells.specs.shape.declared.cell_key.CellKey.{CellKey}
+use Rattle.lay_cells.specs.declared.answers.Finished.{Finished}
+use Rattle.lay_cells.specs.declared.answers.Released.{Released}
+use Rattle.lay_shape.specs.declared.cell_key.CellKey.{CellKey}
 use Rattle.lay_document_cells.specs.Batches.{ClaimsSome as CellsClaimSome}
 use Rattle.lay_document_cells.specs.Claims.{AnswersClaim as CellsAnswerClaim, AnswersNext as CellsAnswerNext, DrawsFew as CellsDrawFew}
 use Rattle.lay_document_cells.specs.Outcomes.{FinishesAll as CellsFinishAll}

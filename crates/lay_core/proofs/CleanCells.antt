@@ -1,8 +1,8 @@
 -- Whether cells are clean.
 use Rattle.std.proofs.Common.{◌≡◌, ◌&&◌, ◌↔◌, zero, suc, not, Bool, true, false, List, [], ◌∷◌, refl, sym, ap, subst, rules}
-use Rattle.lay_layout.specs.cells.Reads.{AllClean}
-use Rattle.lay_document_cells.specs.cell_laws.SoundCells.{CellRow}
-use Rattle.lay_layout.proofs.lay_history.Lists.{not_none, some_is}
+use Rattle.lay_cells.specs.Reads.{AllClean}
+use Rattle.lay_cell_work.specs.CellLaws.SoundCells.{CellRow}
+use Rattle.lay_history.proofs.Lists.{not_none, some_is}
 use Rattle.lay_core.specs.State.{are_clean}
 
 both_true : (a b : Bool) → a ≡ true → b ≡ true → (a && b) ≡ true

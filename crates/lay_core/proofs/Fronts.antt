@@ -1,9 +1,9 @@
 -- The fronts of scripts, and the calls of a front.
 use Rattle.std.proofs.Common.{◌≡◌, ℕ, ◌+◌, zero, suc, List, [], ◌∷◌, ◌++◌, length, take, drop, refl, sym, ap, ◌∙◌, arith, append-nil, ne_eqb, if◌then◌else◌}
 use Rattle.std.proofs.lemmas.List.Concat.{flat_map-append}
-use Rattle.lay_layout.specs.edit_lists.declared.command.Cmd.{Cmd}
-use Rattle.lay_layout.specs.history.Calls.{Call, call_if_of, calls_of, script_calls}
-use Rattle.lay_layout.proofs.lay_history.Shown.{heads_same, own_first, tails_same}
+use Rattle.lay_history.specs.declared.edits.command.Cmd.{Cmd}
+use Rattle.lay_history.specs.Calls.{Call, call_if_of, calls_of, script_calls}
+use Rattle.lay_history.proofs.Shown.{heads_same, own_first, tails_same}
 
 not_empty : {X : Type 0} (x : X) (xs : List X) → [] ≡ x ∷ xs → ⊥
 not_empty x xs e = let n = ap length e in omega (arith, n)

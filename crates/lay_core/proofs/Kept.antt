@@ -1,22 +1,22 @@
 -- What a core keeps after each kind of step.
 use Rattle.std.proofs.Common.{◌≡◌, ◌<◌, ◌≤◌, ◌*◌, ℕ, ◌+◌, ◌-◌, ◌^◌, zero, suc, List, [], ◌∷◌, ◌++◌, length, Some, None, fold, refl, sym, ap, ◌∙◌, subst, arith, append-nil, length-append, All, slice_index_or}
 use Rattle.std.proofs.lemmas.List.Elements.{All-push}
-use Rattle.lay_layout.specs.doc.declared.edit.Edit.{Edit as Change}
-use Rattle.lay_layout.specs.doc.Document.{Document}
-use Rattle.lay_layout.specs.edit_lists.EditLists.{after_all, fault_at, first}
-use Rattle.lay_layout.specs.edit_lists.declared.command.Reply.{Reply}
-use Rattle.lay_layout.specs.edit_lists.declared.command.Reply.TheVariants.{Accepted, Refused, Shown, NoMemory}
-use Rattle.lay_layout.specs.edit_lists.declared.history.Entry.{Entry}
-use Rattle.lay_layout.specs.edit_lists.declared.history.Entry.TheVariants.{Edit, Publish, Latest, Sync}
-use Rattle.lay_layout.specs.frag.Pieces.{Context}
-use Rattle.lay_layout.specs.history.Histories.{accepted, doc_at, list_in, lists, last_or, last_published, published, version_in}
-use Rattle.lay_layout.specs.history.Legal.{MayFollow}
-use Rattle.lay_layout.specs.history.Calls.{call_in, calls}
-use Rattle.lay_layout.specs.history.Trees.{PublishedTreeValue, versions_of}
-use Rattle.lay_layout.proofs.lay_history.OneMore.{accepted_more, call_count_more, doc_after_more, doc_before, legal_more, published_more}
-use Rattle.lay_layout.proofs.lay_history.Lists.{not_none}
-use Rattle.lay_layout.proofs.lay_history.Versions.{all_below, entries_are, few_versions, none_greater}
-use Rattle.lay_layout.specs.context.Solves.{Solves}
+use Rattle.lay_doc.specs.declared.edit.Edit.{Edit as Change}
+use Rattle.lay_doc.specs.Document.{Document}
+use Rattle.lay_history.specs.Edits.EditLists.{after_all, fault_at, first}
+use Rattle.lay_history.specs.declared.edits.command.Reply.{Reply}
+use Rattle.lay_history.specs.declared.edits.command.Reply.TheVariants.{Accepted, Refused, Shown, NoMemory}
+use Rattle.lay_history.specs.declared.edits.history.Entry.{Entry}
+use Rattle.lay_history.specs.declared.edits.history.Entry.TheVariants.{Edit, Publish, Latest, Sync}
+use Rattle.lay_frag.specs.Pieces.{Context}
+use Rattle.lay_history.specs.Histories.{accepted, doc_at, list_in, lists, last_or, last_published, published, version_in}
+use Rattle.lay_history.specs.Legal.{MayFollow}
+use Rattle.lay_history.specs.Calls.{call_in, calls}
+use Rattle.lay_history.specs.Trees.{PublishedTreeValue, versions_of}
+use Rattle.lay_history.proofs.OneMore.{accepted_more, call_count_more, doc_after_more, doc_before, legal_more, published_more}
+use Rattle.lay_history.proofs.Lists.{not_none}
+use Rattle.lay_history.proofs.Versions.{all_below, entries_are, few_versions, none_greater}
+use Rattle.lay_context.specs.Solves.{Solves}
 use Rattle.lay_document_cells.specs.State.{IsOfDocument, State as DocumentCells}
 use Rattle.lay_core.specs.Changes.{ChangesTo}
 use Rattle.lay_core.specs.State.{AreSolved, HasNumbers, IsCore, IsCounted, IsKept, State, document_cells, with_cells}

@@ -2,10 +2,10 @@
 use Rattle.std.proofs.Common.{◌≡◌, ◌⊎◌, ◌||◌, ℕ, ◌==◌, suc, List, [], ◌∷◌, find, Bool, true, false, cond, Option, Some, None, option_map, refl, sym, ap, ◌∙◌, subst, arith, inl, inr, eq-eqb, ne_eqb, rules, All}
 use Rattle.std.specs.List.{list_any}
 use Rattle.std.proofs.lemmas.Bool.{cases_eq}
-use Rattle.lay_layout.specs.history.Histories.{accepted, doc_at, last_or, published}
-use Rattle.lay_layout.specs.history.Trees.{PublishedTreeValue, tree_at, versions_of}
-use Rattle.lay_layout.proofs.lay_history.Lists.{not_none, some_is}
-use Rattle.lay_layout.specs.context.Solves.{Solves}
+use Rattle.lay_history.specs.Histories.{accepted, doc_at, last_or, published}
+use Rattle.lay_history.specs.Trees.{PublishedTreeValue, tree_at, versions_of}
+use Rattle.lay_history.proofs.Lists.{not_none, some_is}
+use Rattle.lay_context.specs.Solves.{Solves}
 use Rattle.lay_core.specs.State.{IsCounted}
 use Rattle.lay_core.specs.Laws.{LastTree}
 

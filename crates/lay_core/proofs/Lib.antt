@@ -1,3 +1,4 @@
+pub mod CoreLawsLemmas
 pub mod CellSteps
 pub mod CellWork
 pub mod CleanCells
@@ -12,5 +13,3 @@ pub mod Shown
 pub mod ShownKept
 pub mod ShownTrees
 pub mod Trees
-pub use Rattle.lay_document_cells.proofs.lay_cell_work as lay_cell_work
-pub use Rattle.lay_document_cells.proofs.lay_shape as lay_shape

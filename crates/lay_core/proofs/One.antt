@@ -1,22 +1,22 @@
 -- What editors see of a core after a call is decided by what they saw before, but for want of memory.
 use Rattle.std.proofs.Common.{◌≡◌, ◌+◌, ℕ, Bool, true, false, List, Option, Some, refl, sym, ap, ◌∙◌, subst, rules}
-use Rattle.lay_layout.specs.doc.Document.{IsDocument}
-use Rattle.lay_layout.specs.edit_lists.EditLists.{after_all, first}
-use Rattle.lay_layout.specs.doc.declared.edit.Edit.{Edit as Change}
-use Rattle.lay_layout.specs.doc.declared.edit.EditFault.{EditFault}
-use Rattle.lay_layout.specs.edit_lists.declared.command.Reply.{Reply}
-use Rattle.lay_layout.specs.edit_lists.declared.command.Reply.TheVariants.{Accepted, Refused, Shown, NoMemory}
-use Rattle.lay_layout.specs.edit_lists.declared.history.Entry.TheVariants.{Edit, Latest, Sync}
-use Rattle.lay_layout.specs.cells.Laws.{OneFirstDirty}
-use Rattle.lay_layout.specs.cells.Reads.{AllClean, IsFirstDirtyKey}
-use Rattle.lay_document_cells.specs.shape.declared.cell_key.CellKey.{CellKey}
-use Rattle.lay_document_cells.specs.cell_work.CellInputs.{CellInput}
-use Rattle.lay_document_cells.specs.cell_work.CellValues.{CellValue}
-use Rattle.lay_document_cells.specs.cell_laws.SoundCells.{CellRow}
-use Rattle.lay_layout.specs.history.Histories.{accepted, last_published}
-use Rattle.lay_layout.proofs.lay_history.Lists.{not_none, some_is}
-use Rattle.lay_layout.specs.context.Laws.{OneSolution}
-use Rattle.lay_layout.specs.context.Solves.{Solves}
+use Rattle.lay_doc.specs.Document.{IsDocument}
+use Rattle.lay_history.specs.Edits.EditLists.{after_all, first}
+use Rattle.lay_doc.specs.declared.edit.Edit.{Edit as Change}
+use Rattle.lay_doc.specs.declared.edit.EditFault.{EditFault}
+use Rattle.lay_history.specs.declared.edits.command.Reply.{Reply}
+use Rattle.lay_history.specs.declared.edits.command.Reply.TheVariants.{Accepted, Refused, Shown, NoMemory}
+use Rattle.lay_history.specs.declared.edits.history.Entry.TheVariants.{Edit, Latest, Sync}
+use Rattle.lay_cells.specs.Laws.{OneFirstDirty}
+use Rattle.lay_cells.specs.Reads.{AllClean, IsFirstDirtyKey}
+use Rattle.lay_shape.specs.declared.cell_key.CellKey.{CellKey}
+use Rattle.lay_cell_work.specs.CellInputs.{CellInput}
+use Rattle.lay_cell_work.specs.CellValues.{CellValue}
+use Rattle.lay_cell_work.specs.CellLaws.SoundCells.{CellRow}
+use Rattle.lay_history.specs.Histories.{accepted, last_published}
+use Rattle.lay_history.proofs.Lists.{not_none, some_is}
+use Rattle.lay_context.specs.Laws.{OneSolution}
+use Rattle.lay_context.specs.Solves.{Solves}
 use Rattle.lay_document_cells.specs.Laws.{OneEdit as OneCellsEdit}
 use Rattle.lay_document_cells.specs.State.{IsOfDocument}
 use Rattle.lay_core.specs.State.{IsCore, State, document_cells, is_clean}

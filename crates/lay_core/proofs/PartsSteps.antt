@@ -1,11 +1,11 @@
 -- Steps of a core that is seen by its parts.
 use Rattle.std.proofs.Common.{◌≡◌, ◌≢◌, ◌<◌, ◌≤◌, ◌*◌, ◌+◌, ◌^◌, ℕ, List, length, true, false, Option, Some, None, Result, Ok, Err, OnErr, OnOk, refl, sym, ap, ◌∙◌, ◌⊎◌, subst, arith, inl, inr, ne_eqb}
-use Rattle.lay_layout.specs.edit_lists.declared.command.Reply.{Reply}
-use Rattle.lay_layout.specs.edit_lists.declared.history.Entry.{Entry}
-use Rattle.lay_layout.specs.edit_lists.declared.history.Entry.TheVariants.{Latest, Sync}
-use Rattle.lay_layout.specs.cells.Reads.{AllClean}
-use Rattle.lay_layout.specs.history.Histories.{accepted, last_or, last_published}
-use Rattle.lay_layout.specs.history.Trees.{PublishedTreeValue, versions_of}
+use Rattle.lay_history.specs.declared.edits.command.Reply.{Reply}
+use Rattle.lay_history.specs.declared.edits.history.Entry.{Entry}
+use Rattle.lay_history.specs.declared.edits.history.Entry.TheVariants.{Latest, Sync}
+use Rattle.lay_cells.specs.Reads.{AllClean}
+use Rattle.lay_history.specs.Histories.{accepted, last_or, last_published}
+use Rattle.lay_history.specs.Trees.{PublishedTreeValue, versions_of}
 use Rattle.lay_document_cells.specs.Settling.{SettlesTo as CellsSettleTo, StopsAt as CellsStopAt, none}
 use Rattle.lay_document_cells.specs.State.{IsOfDocument, State as DocumentCells}
 use Rattle.lay_core.specs.Parts.{parts}

@@ -1,12 +1,12 @@
 -- To settle and to publish answers no call.
 use Rattle.std.proofs.Common.{◌≡◌, List, Bool, true, false, refl, ap, ◌∙◌, subst, sym, append-nil, inl, inr}
-use Rattle.lay_layout.specs.edit_lists.declared.command.Reply.{Reply}
-use Rattle.lay_layout.specs.edit_lists.declared.command.Reply.TheVariants.{Accepted, Refused, Shown, NoMemory}
-use Rattle.lay_layout.specs.edit_lists.declared.history.Entry.TheVariants.{Publish}
-use Rattle.lay_layout.specs.frag.Pieces.{Context}
-use Rattle.lay_layout.specs.history.Histories.{accepted}
-use Rattle.lay_layout.specs.history.Calls.{calls}
-use Rattle.lay_layout.proofs.lay_history.OneMore.{calls_more}
+use Rattle.lay_history.specs.declared.edits.command.Reply.{Reply}
+use Rattle.lay_history.specs.declared.edits.command.Reply.TheVariants.{Accepted, Refused, Shown, NoMemory}
+use Rattle.lay_history.specs.declared.edits.history.Entry.TheVariants.{Publish}
+use Rattle.lay_frag.specs.Pieces.{Context}
+use Rattle.lay_history.specs.Histories.{accepted}
+use Rattle.lay_history.specs.Calls.{calls}
+use Rattle.lay_history.proofs.OneMore.{calls_more}
 use Rattle.lay_document_cells.specs.State.{State as DocumentCells}
 use Rattle.lay_core.specs.State.{State}
 use Rattle.lay_core.specs.Publishing.{PublishesUnless, RefreshesTo, is_last, with_tree}

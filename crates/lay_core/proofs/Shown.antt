@@ -1,12 +1,12 @@
 -- What a core shows, and what that makes of the history.
 use Rattle.std.proofs.Common.{◌≡◌, ℕ, Bool, true, false, Option, Some, None, sym, ap, ◌∙◌, subst, arith, rules, refl}
 use Rattle.std.proofs.lemmas.Bool.{eqb-true}
-use Rattle.lay_layout.specs.edit_lists.declared.command.Reply.{Reply}
-use Rattle.lay_layout.specs.edit_lists.declared.command.Reply.TheVariants.{Accepted, Refused, Shown, NoMemory}
-use Rattle.lay_layout.specs.edit_lists.declared.history.Entry.TheVariants.{Publish}
-use Rattle.lay_layout.specs.history.Histories.{accepted, last_or, last_published, published}
-use Rattle.lay_layout.specs.history.Legal.{AnswersLatest, AnswersSync, IsWhole}
-use Rattle.lay_layout.proofs.lay_history.OneMore.{accepted_more, last_of_more, published_more}
+use Rattle.lay_history.specs.declared.edits.command.Reply.{Reply}
+use Rattle.lay_history.specs.declared.edits.command.Reply.TheVariants.{Accepted, Refused, Shown, NoMemory}
+use Rattle.lay_history.specs.declared.edits.history.Entry.TheVariants.{Publish}
+use Rattle.lay_history.specs.Histories.{accepted, last_or, last_published, published}
+use Rattle.lay_history.specs.Legal.{AnswersLatest, AnswersSync, IsWhole}
+use Rattle.lay_history.proofs.OneMore.{accepted_more, last_of_more, published_more}
 use Rattle.lay_core.specs.State.{State}
 use Rattle.lay_core.specs.Publishing.{PublishesUnless, RefreshesTo, is_last, is_version}
 use Rattle.lay_core.specs.Steps.{ShowsLatest, ShowsPresent, ShowsVersion, is_due}

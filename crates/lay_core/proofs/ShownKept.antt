@@ -1,9 +1,9 @@
 -- What a core keeps where its cells are worked on, and where a version is published and shown.
 use Rattle.std.proofs.Common.{◌≡◌, ◌<◌, ◌≤◌, ℕ, ◌+◌, ◌^◌, Bool, true, false, length, Option, Some, refl, sym, ap, ◌∙◌, subst, arith, inl, inr, rules, eq-eqb}
-use Rattle.lay_layout.specs.edit_lists.declared.command.Reply.{Reply}
-use Rattle.lay_layout.specs.edit_lists.declared.command.Reply.TheVariants.{Accepted, Refused, Shown, NoMemory}
-use Rattle.lay_layout.specs.edit_lists.declared.history.Entry.{Entry}
-use Rattle.lay_layout.specs.edit_lists.declared.history.Entry.TheVariants.{Latest, Sync}
+use Rattle.lay_history.specs.declared.edits.command.Reply.{Reply}
+use Rattle.lay_history.specs.declared.edits.command.Reply.TheVariants.{Accepted, Refused, Shown, NoMemory}
+use Rattle.lay_history.specs.declared.edits.history.Entry.{Entry}
+use Rattle.lay_history.specs.declared.edits.history.Entry.TheVariants.{Latest, Sync}
 use Rattle.lay_document_cells.specs.State.{IsOfDocument, State as DocumentCells}
 use Rattle.lay_core.specs.State.{HasNumbers, IsKept, State, document_cells, with_cells}
 use Rattle.lay_core.specs.Publishing.{Publishes, PublishesUnless, RefreshesTo, is_last, is_version}

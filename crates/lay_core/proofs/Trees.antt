@@ -1,11 +1,11 @@
 -- The trees that a core keeps, and the versions of its history.
 use Rattle.std.proofs.Common.{◌≡◌, ℕ, ◌==◌, ◌-◌, suc, List, [], ◌∷◌, length, map, find, Bool, true, false, cond, Option, Some, None, option_map, is_some, refl, sym, ap, ◌∙◌, subst, arith, ◌||◌, slice_get}
 use Rattle.std.specs.List.{list_any}
-use Rattle.lay_layout.specs.frag.Pieces.{Context}
-use Rattle.lay_layout.specs.history.Histories.{is_published, last_or}
-use Rattle.lay_layout.specs.history.Trees.{HasTrees, PublishedTreeValue, tree_at, versions_of}
-use Rattle.lay_layout.proofs.lay_history.Lists.{not_none}
-use Rattle.lay_layout.specs.edit_lists.declared.history.Entry.{Entry}
+use Rattle.lay_frag.specs.Pieces.{Context}
+use Rattle.lay_history.specs.Histories.{is_published, last_or}
+use Rattle.lay_history.specs.Trees.{HasTrees, PublishedTreeValue, tree_at, versions_of}
+use Rattle.lay_history.proofs.Lists.{not_none}
+use Rattle.lay_history.specs.declared.edits.history.Entry.{Entry}
 
 found_by : (b : Bool) (t : PublishedTreeValue) (o : Option PublishedTreeValue) (others : Bool) → is_some (option_map (λ x. x.tree) o) ≡ others
     → is_some (option_map (λ x. x.tree) (cond b (Some t) o)) ≡ (b || others)

@@ -1,13 +1,13 @@
 -- What becomes of the cells of a core. No call but an edit makes a cell, drops one or dirties one: what such a call does to them is steps
 -- of work, by `Works` of lay_document_cells. So a clean cell stays clean, and each grant is one of the number of grants.
 use Rattle.std.specs.Prelude.{ℕ, ◌≡◌, List, Option, Result}
-use Rattle.lay_layout.specs.units.declared.memory.NoMemory.{NoMemory}
-use Rattle.lay_layout.specs.edit_lists.declared.command.Reply.{Reply}
-use Rattle.lay_layout.specs.cells.declared.answers.Finished.{Finished}
-use Rattle.lay_layout.specs.cells.declared.answers.Released.{Released}
-use Rattle.lay_document_cells.specs.shape.declared.cell_key.CellKey.{CellKey}
-use Rattle.lay_document_cells.specs.cell_work.Claims.{Claim}
-use Rattle.lay_document_cells.specs.claim_lists.declared.outcome.Outcome.{Outcome}
+use Rattle.lay_units.specs.declared.memory.NoMemory.{NoMemory}
+use Rattle.lay_history.specs.declared.edits.command.Reply.{Reply}
+use Rattle.lay_cells.specs.declared.answers.Finished.{Finished}
+use Rattle.lay_cells.specs.declared.answers.Released.{Released}
+use Rattle.lay_shape.specs.declared.cell_key.CellKey.{CellKey}
+use Rattle.lay_cell_work.specs.Claims.{Claim}
+use Rattle.lay_cell_work.specs.declared.claim_lists.outcome.Outcome.{Outcome}
 use Rattle.lay_document_cells.specs.Outcomes.{Tally}
 use Rattle.lay_document_cells.specs.Steps.{CellDone, Works}
 use Rattle.lay_document_cells.specs.declared.answers.Answer.{Answer}

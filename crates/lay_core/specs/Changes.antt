@@ -1,9 +1,9 @@
 -- What a list of edits with this reply changes of a document with its cells, and of the number of accepted lists.
 use Rattle.std.specs.Prelude.{ℕ, ◌≡◌, ◌+◌, List, Some, None}
-use Rattle.lay_layout.specs.doc.declared.edit.Edit.{Edit as Change}
-use Rattle.lay_layout.specs.edit_lists.EditLists.{fault_at, first}
-use Rattle.lay_layout.specs.edit_lists.declared.command.Reply.{Reply}
-use Rattle.lay_layout.specs.edit_lists.declared.command.Reply.TheVariants.{Accepted, Refused, Shown, NoMemory}
+use Rattle.lay_doc.specs.declared.edit.Edit.{Edit as Change}
+use Rattle.lay_history.specs.Edits.EditLists.{fault_at, first}
+use Rattle.lay_history.specs.declared.edits.command.Reply.{Reply}
+use Rattle.lay_history.specs.declared.edits.command.Reply.TheVariants.{Accepted, Refused, Shown, NoMemory}
 use Rattle.lay_document_cells.specs.Edits.{EditsTo as CellsEditTo}
 use Rattle.lay_document_cells.specs.State.{State as DocumentCells}
 

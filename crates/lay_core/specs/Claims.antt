@@ -1,11 +1,11 @@
 -- What calls on the cells of a core come to. Nothing else of it changes.
 use Rattle.std.specs.Prelude.{ℕ, ◌⊎◌, ◌+◌, ◌≤◌, ◌^◌, List, Option, Result}
-use Rattle.lay_layout.specs.units.declared.memory.NoMemory.{NoMemory}
-use Rattle.lay_layout.specs.cells.declared.answers.Finished.{Finished}
-use Rattle.lay_layout.specs.cells.declared.answers.Released.{Released}
-use Rattle.lay_document_cells.specs.shape.declared.cell_key.CellKey.{CellKey}
-use Rattle.lay_document_cells.specs.cell_work.Claims.{Claim}
-use Rattle.lay_document_cells.specs.claim_lists.declared.outcome.Outcome.{Outcome}
+use Rattle.lay_units.specs.declared.memory.NoMemory.{NoMemory}
+use Rattle.lay_cells.specs.declared.answers.Finished.{Finished}
+use Rattle.lay_cells.specs.declared.answers.Released.{Released}
+use Rattle.lay_shape.specs.declared.cell_key.CellKey.{CellKey}
+use Rattle.lay_cell_work.specs.Claims.{Claim}
+use Rattle.lay_cell_work.specs.declared.claim_lists.outcome.Outcome.{Outcome}
 use Rattle.lay_document_cells.specs.Batches.{ClaimsSome as CellsClaimSome}
 use Rattle.lay_document_cells.specs.Claims.{AnswersClaim as CellsAnswerClaim, AnswersNext as CellsAnswerNext}
 use Rattle.lay_document_cells.specs.Outcomes.{FinishesAll as CellsFinishAll, Tally}

@@ -1,16 +1,16 @@
 -- What editors see of a core after a call is decided by what they saw before, but for want of memory; and which trees a core has.
 -- Beside what they see there are the cells, whose numbers tell how the work on them went.
 use Rattle.std.specs.Prelude.{ℕ, ◌≡◌, List, [], slice_get, Some}
-use Rattle.lay_layout.specs.doc.declared.edit.Edit.{Edit as Change}
-use Rattle.lay_layout.specs.doc.Document.{IsDocument}
-use Rattle.lay_layout.specs.edit_lists.declared.command.Reply.{Reply}
-use Rattle.lay_layout.specs.edit_lists.declared.command.Reply.TheVariants.{NoMemory}
-use Rattle.lay_layout.specs.edit_lists.declared.history.Entry.{Entry}
-use Rattle.lay_layout.specs.frag.Pieces.{Context}
-use Rattle.lay_layout.specs.history.Histories.{accepted, doc_at, shown_version}
-use Rattle.lay_layout.specs.history.Legal.{IsWhole}
-use Rattle.lay_layout.specs.history.Trees.{tree_at}
-use Rattle.lay_layout.specs.context.Solves.{Solves}
+use Rattle.lay_doc.specs.declared.edit.Edit.{Edit as Change}
+use Rattle.lay_doc.specs.Document.{IsDocument}
+use Rattle.lay_history.specs.declared.edits.command.Reply.{Reply}
+use Rattle.lay_history.specs.declared.edits.command.Reply.TheVariants.{NoMemory}
+use Rattle.lay_history.specs.declared.edits.history.Entry.{Entry}
+use Rattle.lay_frag.specs.Pieces.{Context}
+use Rattle.lay_history.specs.Histories.{accepted, doc_at, shown_version}
+use Rattle.lay_history.specs.Legal.{IsWhole}
+use Rattle.lay_history.specs.Trees.{tree_at}
+use Rattle.lay_context.specs.Solves.{Solves}
 use Rattle.lay_core.specs.Publishing.{PublishesTo, RefreshesTo}
 use Rattle.lay_core.specs.State.{IsCore, IsCounted, State, is_clean}
 use Rattle.lay_core.specs.Steps.{EditsTo, LatestTo, SyncTo}

@@ -1,7 +1,7 @@
 -- A core by its parts, for functions that are given these.
 use Rattle.std.specs.Prelude.{List}
-use Rattle.lay_layout.specs.edit_lists.declared.history.Entry.{Entry}
-use Rattle.lay_layout.specs.history.Trees.{PublishedTreeValue}
+use Rattle.lay_history.specs.declared.edits.history.Entry.{Entry}
+use Rattle.lay_history.specs.Trees.{PublishedTreeValue}
 use Rattle.lay_document_cells.specs.State.{State as DocumentCells}
 use Rattle.lay_core.specs.State.{State, with_cells}
 

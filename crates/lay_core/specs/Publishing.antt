@@ -1,10 +1,10 @@
 -- How a version is published: it is the present one, each cell is clean, and its tree is the layout of the document.
 use Rattle.std.specs.Prelude.{ℕ, ◌≡◌, ◌≢◌, ◌==◌, ◌⊎◌, List, [], ◌∷◌, ◌++◌, Bool, true, false, Option, Some, None}
-use Rattle.lay_layout.specs.edit_lists.declared.history.Entry.TheVariants.{Publish as publication}
-use Rattle.lay_layout.specs.frag.Pieces.{Context}
-use Rattle.lay_layout.specs.cells.Reads.{AllClean, IsFirstDirtyKey}
-use Rattle.lay_layout.specs.history.Histories.{accepted, last_published}
-use Rattle.lay_layout.specs.context.Solves.{Solves}
+use Rattle.lay_history.specs.declared.edits.history.Entry.TheVariants.{Publish as publication}
+use Rattle.lay_frag.specs.Pieces.{Context}
+use Rattle.lay_cells.specs.Reads.{AllClean, IsFirstDirtyKey}
+use Rattle.lay_history.specs.Histories.{accepted, last_published}
+use Rattle.lay_context.specs.Solves.{Solves}
 use Rattle.lay_core.specs.State.{IsCounted, State, is_clean}
 use Rattle.lay_core.specs.Work.{SettlesTo}
 use Rattle.lay_core.specs.declared.answers.Publish.{Publish}

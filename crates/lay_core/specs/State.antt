@@ -2,16 +2,16 @@
 -- published. In a cell stands what was laid out of a context (CSS 2.2, 9.4.1); it is dirty where that may be of an older document.
 use Rattle.std.specs.Prelude.{ℕ, ◌≡◌, ◌+◌, ◌*◌, ◌≤◌, ◌^◌, ◌&&◌, not, Bool, true, List, [], ◌∷◌, length}
 use Rattle.std.specs.List.{All}
-use Rattle.lay_layout.specs.doc.Document.{Document}
-use Rattle.lay_layout.specs.edit_lists.declared.history.Entry.{Entry}
-use Rattle.lay_layout.specs.face.FaceValue.{FaceValue}
-use Rattle.lay_layout.specs.frag.Pieces.{Context}
-use Rattle.lay_layout.specs.history.Calls.{calls}
-use Rattle.lay_layout.specs.history.Histories.{accepted, doc_at}
-use Rattle.lay_layout.specs.history.Legal.{IsLegal, doc_after}
-use Rattle.lay_layout.specs.history.Trees.{HasTrees, PublishedTreeValue}
-use Rattle.lay_layout.specs.context.Solves.{Solves}
-use Rattle.lay_document_cells.specs.cell_laws.SoundCells.{CellRow, CellState}
+use Rattle.lay_doc.specs.Document.{Document}
+use Rattle.lay_history.specs.declared.edits.history.Entry.{Entry}
+use Rattle.lay_face.specs.FaceValue.{FaceValue}
+use Rattle.lay_frag.specs.Pieces.{Context}
+use Rattle.lay_history.specs.Calls.{calls}
+use Rattle.lay_history.specs.Histories.{accepted, doc_at}
+use Rattle.lay_history.specs.Legal.{IsLegal, doc_after}
+use Rattle.lay_history.specs.Trees.{HasTrees, PublishedTreeValue}
+use Rattle.lay_context.specs.Solves.{Solves}
+use Rattle.lay_cell_work.specs.CellLaws.SoundCells.{CellRow, CellState}
 use Rattle.lay_document_cells.specs.State.{IsOfDocument, State as DocumentCells}
 
 pub record State : Type 0 where

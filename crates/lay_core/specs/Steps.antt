@@ -1,15 +1,15 @@
 -- What the calls of editors on a core leave.
 use Rattle.std.specs.Prelude.{ℕ, ⊤, ◌≡◌, ◌+◌, ◌-◌, ◌&&◌, not, List, [], ◌∷◌, ◌++◌, Bool}
 use Rattle.std.specs.Prelude.{true, false, Option, Some, None, is_some, if◌then◌else◌}
-use Rattle.lay_layout.specs.doc.declared.edit.Edit.{Edit as Change}
-use Rattle.lay_layout.specs.doc.Document.{Document}
-use Rattle.lay_layout.specs.edit_lists.EditLists.{after_all, fault_at, first}
-use Rattle.lay_layout.specs.edit_lists.declared.command.Reply.{Reply}
-use Rattle.lay_layout.specs.edit_lists.declared.command.Reply.TheVariants.{Accepted, Refused, Shown, NoMemory}
-use Rattle.lay_layout.specs.edit_lists.declared.history.Entry.{Entry}
-use Rattle.lay_layout.specs.edit_lists.declared.history.Entry.TheVariants.{Edit, Publish, Latest, Sync}
-use Rattle.lay_layout.specs.face.FaceValue.{FaceValue}
-use Rattle.lay_layout.specs.history.Histories.{accepted, last_published}
+use Rattle.lay_doc.specs.declared.edit.Edit.{Edit as Change}
+use Rattle.lay_doc.specs.Document.{Document}
+use Rattle.lay_history.specs.Edits.EditLists.{after_all, fault_at, first}
+use Rattle.lay_history.specs.declared.edits.command.Reply.{Reply}
+use Rattle.lay_history.specs.declared.edits.command.Reply.TheVariants.{Accepted, Refused, Shown, NoMemory}
+use Rattle.lay_history.specs.declared.edits.history.Entry.{Entry}
+use Rattle.lay_history.specs.declared.edits.history.Entry.TheVariants.{Edit, Publish, Latest, Sync}
+use Rattle.lay_face.specs.FaceValue.{FaceValue}
+use Rattle.lay_history.specs.Histories.{accepted, last_published}
 use Rattle.lay_document_cells.specs.Edits.{EditsTo as CellsEditTo}
 use Rattle.lay_document_cells.specs.State.{IsNew}
 use Rattle.lay_core.specs.State.{State, document_cells, is_clean}

@@ -1,6 +1,6 @@
 //! What calls on a core are answered.
 
-use lay_document_cells::shape::CellKey;
+use lay_shape::CellKey;
 
 /// What comes of publishing.
 #[derive(Clone, Copy)]

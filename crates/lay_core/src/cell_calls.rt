@@ -1,18 +1,18 @@
 //! The calls of those who work on cells.
 
 ghost use Rattle.std.specs.Prelude.{◌≡◌, ◌≤◌, ◌<◌, [], IfNone, IfSome, length};
-ghost use Rattle.lay_layout.specs.cells.Looks.{IsGone};
-ghost use Rattle.lay_layout.specs.cells.Reads.{IsLaid, IsPaid};
+ghost use Rattle.lay_cells.specs.Looks.{IsGone};
+ghost use Rattle.lay_cells.specs.Reads.{IsLaid, IsPaid};
 ghost use Rattle.lay_document_cells.specs.Outcomes.{tally_sum};
 ghost use Rattle.lay_core.specs.Claims.{AnswersClaim, AnswersNext, ClaimsSome, DrawsFew, FinishesAll, FinishesTo, GivesBackTo};
 
 use crate::core_state::Core;
-use lay_document_cells::cell_work::{Claim, Layout};
-use lay_document_cells::claim_lists::{ClaimList, Outcomes};
-use lay_document_cells::shape::CellKey;
+use lay_cell_work::claim_lists::{ClaimList, Outcomes};
+use lay_cell_work::{Claim, Layout};
+use lay_cells::{Done, Finished, Released};
 use lay_document_cells::{Answer, Idle, Next, Tally, claims_work};
-use lay_layout::cells::{Done, Finished, Released};
-use lay_layout::units::NoMemory;
+use lay_shape::CellKey;
+use lay_units::NoMemory;
 
 impl Core {
     /// A claim of the cell of a key. Where 2^63 numbers are drawn or more, none is granted: the others are kept for edits and settling.

@@ -1,18 +1,18 @@
 //! The core.
 
 ghost use Rattle.std.specs.Prelude.{◌≡◌, ◌≤◌, ◌^◌, IfOk, is_some, length, option_map};
-ghost use Rattle.lay_layout.specs.history.Histories.{accepted as accepted_in, is_published};
-ghost use Rattle.lay_layout.specs.history.Trees.{tree_at};
+ghost use Rattle.lay_history.specs.Histories.{accepted as accepted_in, is_published};
+ghost use Rattle.lay_history.specs.Trees.{tree_at};
 ghost use Rattle.lay_core.specs.State.{IsCore};
 ghost use Rattle.lay_core.specs.Steps.{IsNewCore};
 
+use lay_doc::Doc;
 use lay_document_cells::DocumentCells;
-use lay_layout::doc::Doc;
-use lay_layout::edit_lists::Entry;
-use lay_layout::face::Face;
-use lay_layout::frag::Tree;
-use lay_layout::history::{PublishedTree, tree_at};
-use lay_layout::units::NoMemory;
+use lay_face::Face;
+use lay_frag::Tree;
+use lay_history::edits::Entry;
+use lay_history::{PublishedTree, tree_at};
+use lay_units::NoMemory;
 use std::alloc::Global;
 use std::marker::Model;
 use std::sync::Arc;

@@ -4,7 +4,7 @@ ghost use Rattle.std.specs.Prelude.{◌<◌, ◌≤◌, ◌^◌, ◌-◌, ◌+�
 ghost use Rattle.lay_core.specs.Changes.{ChangesTo};
 
 use lay_document_cells::DocumentCells;
-use lay_layout::edit_lists::{BatchFault, Edits, Reply};
+use lay_history::edits::{BatchFault, Edits, Reply};
 
 /// The reply to a list of edits, which is applied where it has no fault and memory is there: one list more is accepted then.
 pub(crate) fn edited(cells: &mut DocumentCells, accepted: &mut u64, edits: &Edits) -> Reply

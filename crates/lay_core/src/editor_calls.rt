@@ -7,7 +7,7 @@ ghost use Rattle.lay_core.specs.Steps.{EditsTo, LatestTo, SyncTo};
 use crate::core_state::Core;
 use crate::editing::edited;
 use crate::showing::{shown_latest, shown_present};
-use lay_layout::edit_lists::{Edits, Entry, Reply};
+use lay_history::edits::{Edits, Entry, Reply};
 
 impl Core {
     /// Answers a list of edits of an editor: Refused with its first fault and the place of that; else Accepted with the new version, and

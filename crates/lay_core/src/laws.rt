@@ -8,10 +8,10 @@ ghost use Rattle.lay_core.specs.CellLaws.{SettlingIsUnseen, SettlingIsWork, Stop
 ghost use Rattle.lay_core.specs.Laws.{LastTree, OneEdit, OneLatest, OnePublishing, OneRefreshing};
 ghost use Rattle.lay_core.specs.Laws.{OneSeenEdit, OneSettling, OneSync, ShownTrees};
 
-use lay_document_cells::cell_work::Layout;
+use lay_cell_work::Layout;
+use lay_cells::one_first_dirty;
+use lay_context::one_solution;
 use lay_document_cells::{claims_work, one_edit as one_cells_edit};
-use lay_layout::cells::one_first_dirty;
-use lay_layout::context::one_solution;
 
 /// Nothing is seen of it where cells are settled.
 pub fn one_settling()

@@ -7,10 +7,13 @@
 //! is published, and `specs/Work.antt` and `Claims.antt` what work on the cells comes to. `specs/Laws.antt` says that what editors see is
 //! decided by what they saw before, but for want of memory, and `specs/CellLaws.antt` that no call but an edit makes a cell, drops one or
 //! dirties one. Histories are those of lay_history, and trees those of lay_context.
+//!
+//! - `core_laws`: laws of a core through all of its calls.
 #![tactic(auto)]
 
 mod answers;
 mod cell_calls;
+pub mod core_laws;
 mod core_state;
 mod editing;
 mod editor_calls;
@@ -24,8 +27,4 @@ pub use laws::{
     calls_work, cell_calls_keep_history, last_tree, one_edit, one_latest, one_publishing,
     one_refreshing, one_seen_edit, one_settling, one_sync, shown_trees,
 };
-pub use lay_document_cells as document_cells;
-pub use lay_document_cells::{
-    Answer, Idle, IdleKind, Next, Tally, cell_work as cell_work, claim_lists as claim_lists,
-    shape as shape,
-};
+pub use lay_document_cells::{Answer, Idle, IdleKind, Next, Tally};

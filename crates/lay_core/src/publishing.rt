@@ -2,9 +2,9 @@
 
 ghost use Rattle.std.specs.Prelude.{◌≡◌, ◌≢◌, ◌<◌, ◌≤◌, ◌^◌, ◌+◌, ◌⊎◌, None, Some, OnErr, OnOk, false, length, vec_capacity};
 ghost use Rattle.lay_document_cells.specs.Settling.{SettlesTo as CellsSettleTo, StopsAt as CellsStopAt};
-ghost use Rattle.lay_layout.specs.cells.Reads.{AllClean};
-ghost use Rattle.lay_layout.specs.history.Histories.{accepted, last_or};
-ghost use Rattle.lay_layout.specs.history.Trees.{HasTrees, versions_of};
+ghost use Rattle.lay_cells.specs.Reads.{AllClean};
+ghost use Rattle.lay_history.specs.Histories.{accepted, last_or};
+ghost use Rattle.lay_history.specs.Trees.{HasTrees, versions_of};
 ghost use Rattle.lay_core.specs.Parts.{parts};
 ghost use Rattle.lay_core.specs.Publishing.{IsBehind, Publishes, PublishesTo, RefreshesTo};
 ghost use Rattle.lay_core.specs.State.{State, are_clean, is_clean};
@@ -14,9 +14,9 @@ use crate::answers::Publish;
 use crate::core_state::Core;
 use crate::showing::are_clean;
 use lay_document_cells::DocumentCells;
-use lay_layout::edit_lists::Entry;
-use lay_layout::history::PublishedTree;
-use lay_layout::units::NoMemory;
+use lay_history::PublishedTree;
+use lay_history::edits::Entry;
+use lay_units::NoMemory;
 use std::alloc::Global;
 use std::sync::Arc;
 

@@ -2,16 +2,16 @@
 //! versions and the history.
 
 ghost use Rattle.std.specs.Prelude.{◌≡◌, ◌≢◌, ◌<◌, ◌≤◌, ◌^◌, ◌+◌, ◌⊎◌, None, Some, IsSome, false, length, vec_capacity};
-ghost use Rattle.lay_layout.specs.history.Histories.{accepted, last_or};
-ghost use Rattle.lay_layout.specs.history.Trees.{HasTrees, versions_of};
+ghost use Rattle.lay_history.specs.Histories.{accepted, last_or};
+ghost use Rattle.lay_history.specs.Trees.{HasTrees, versions_of};
 ghost use Rattle.lay_core.specs.Parts.{parts};
 ghost use Rattle.lay_core.specs.State.{State, are_clean};
 ghost use Rattle.lay_core.specs.Steps.{ShowsLatest, ShowsPresent, ShowsVersion, due_of, is_due};
 
 use crate::publishing::{last_version, refreshed};
 use lay_document_cells::DocumentCells;
-use lay_layout::edit_lists::{Entry, Reply};
-use lay_layout::history::PublishedTree;
+use lay_history::PublishedTree;
+use lay_history::edits::{Entry, Reply};
 use std::alloc::Global;
 
 /// The reply to an editor that asks for the present version, which is settled and published.

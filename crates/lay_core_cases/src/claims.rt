@@ -3,10 +3,10 @@
 use crate::keys::key_of;
 use crate::said;
 use lay_case_reading::{Said, Taken};
-use lay_core::cell_work::Claim;
-use lay_core::claim_lists::{ClaimList, Outcome};
+use lay_cell_work::Claim;
+use lay_cell_work::claim_lists::{ClaimList, Outcome};
 use lay_core::{Answer, IdleKind, Next};
-use lay_layout::units::NoMemory;
+use lay_units::NoMemory;
 use std::alloc::Global;
 
 /// The claims that were granted, in order.

@@ -1,8 +1,8 @@
 //! Keys of cells, as a case names them and as a core does.
 
 use lay_case_reading::{Key, Phase};
-use lay_core::shape::CellKey;
-use lay_layout::context::Phase as CellPhase;
+use lay_context::Phase as CellPhase;
+use lay_shape::CellKey;
 
 /// The core's key of a cell.
 pub(crate) fn cell_key(key: Key) -> CellKey {

@@ -6,10 +6,10 @@ use crate::core_calls::{BATCH, CoreCalls, Handed};
 use crate::questions::{counts, question};
 use crate::said;
 use lay_case_reading::{CellCall, CoreCall, EditorCall, Grants, Said, Subject, Taken, shown_reply};
-use lay_core::cell_work::Claim;
-use lay_core::claim_lists::Outcomes;
-use lay_layout::edit_lists::Reply;
-use lay_layout::units::NoMemory;
+use lay_cell_work::Claim;
+use lay_cell_work::claim_lists::Outcomes;
+use lay_history::edits::Reply;
+use lay_units::NoMemory;
 use std::alloc::Global;
 
 /// The core of a case, the calls of editors on it, the claims that it granted, and how many there were.

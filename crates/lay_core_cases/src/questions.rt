@@ -2,8 +2,8 @@
 
 use crate::core_calls::CoreCalls;
 use lay_case_reading::{Count, Key, Phase, Question, Said, shown_counts};
-use lay_layout::doc::NodeId;
-use lay_layout::units::NoMemory;
+use lay_doc::NodeId;
+use lay_units::NoMemory;
 use std::alloc::Global;
 
 /// The answer to a question.

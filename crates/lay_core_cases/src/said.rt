@@ -2,9 +2,9 @@
 
 use crate::keys::key_of;
 use lay_case_reading::Said;
+use lay_cells::{Finished, Released};
 use lay_core::{IdleKind, Publish, Tally};
-use lay_layout::cells::{Finished, Released};
-use lay_layout::units::NoMemory;
+use lay_units::NoMemory;
 use std::alloc::Global;
 
 pub(crate) fn settled(answer: Result<(), NoMemory>) -> Said {

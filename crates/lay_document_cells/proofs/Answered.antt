@@ -1,38 +1,38 @@
 -- What calls answer of a document with its cells.
 use Rattle.std.proofs.Common.{◌≡◌, ℕ, ◌+◌, ◌*◌, ◌≤◌, ◌<◌, Bool, true, false, not, List, [], length, slice_get, Option, None, Some, Result, Ok, Err, IfOk, IfSome, IfNone, OnOk, OnErr, IsErr, IsTrue, is_some, refl, arith, ap, sym, subst, ◌∙◌}
 use Rattle.std.proofs.lemmas.Bool.{false≢true}
-use Rattle.lay_layout.proofs.lay_boxgen.NodeColumns.{length-parents}
-use Rattle.lay_layout.specs.doc.Document.{Document, IsDocument}
-use Rattle.lay_layout.specs.doc.declared.edit.Edit.{Edit}
-use Rattle.lay_layout.specs.doc.Edits.{after, fault}
-use Rattle.lay_layout.specs.doc.Laws.{PutsNode}
-use Rattle.lay_layout.specs.face.FaceValue.{FaceValue}
-use Rattle.lay_layout.specs.frag.Pieces.{Context as PageContext}
-use Rattle.lay_layout.specs.contexts.Contexts.{AreContexts, Context}
-use Rattle.lay_layout.specs.contexts.FormattingContexts.{FormattingContext}
-use Rattle.lay_layout.specs.context.Medium.{Medium}
-use Rattle.lay_layout.specs.context.Solves.{IsAssembled, Solves, medium_of}
-use Rattle.lay_layout.specs.cells.Places.{AtPlace}
-use Rattle.lay_layout.specs.cells.Reads.{AllClean, IsFirstDirtyKey}
-use Rattle.lay_layout.specs.cells.Reshapes.{Reshapes}
-use Rattle.lay_layout.specs.cells.Shapes.{IsIn}
-use Rattle.lay_layout.specs.cells.Sound.{IsSound}
-use Rattle.lay_layout.proofs.lay_cells.Lists.{one_at}
-use Rattle.lay_list_steps.specs.shape.Keys.{AreOfOwnNodes}
-use Rattle.lay_list_steps.specs.shape.Laws.{ContextsAreOfOwnNodes}
-use Rattle.lay_list_steps.specs.shape.Shapes.{shape_of}
-use Rattle.lay_list_steps.specs.shape.declared.cell_key.CellKey.{CellKey}
-use Rattle.lay_layout.specs.cell_progress.Grants.{laid_of_all}
-use Rattle.lay_list_steps.specs.cell_work.CellInputs.{CellInput}
-use Rattle.lay_list_steps.specs.cell_work.CellLocal.{IsCellLocal}
-use Rattle.lay_list_steps.specs.cell_work.PresentInputs.{key_of}
-use Rattle.lay_list_steps.specs.cell_laws.DocumentCells.{AreDocumentCells}
-use Rattle.lay_list_steps.specs.cell_laws.SoundCells.{CellRow, CellState, input_now}
-use Rattle.lay_list_steps.specs.cell_steps.CellSteps.{NewCellsAreSound, no_cells}
-use Rattle.lay_list_steps.specs.cell_steps.ReadyCells.{AssembledTreesSolve}
-use Rattle.lay_cell_table.specs.CellTables.{CellTable}
-use Rattle.lay_cell_table.specs.TableCells.{AreCellsOn, IsGivenNow as IsGivenThere, workings_in}
-use Rattle.lay_list_steps.specs.changes.ContextFlags.{ContextLists}
+use Rattle.lay_boxgen.proofs.NodeColumns.{length-parents}
+use Rattle.lay_doc.specs.Document.{Document, IsDocument}
+use Rattle.lay_doc.specs.declared.edit.Edit.{Edit}
+use Rattle.lay_doc.specs.Edits.{after, fault}
+use Rattle.lay_doc.specs.Laws.{PutsNode}
+use Rattle.lay_face.specs.FaceValue.{FaceValue}
+use Rattle.lay_frag.specs.Pieces.{Context as PageContext}
+use Rattle.lay_contexts.specs.Contexts.{AreContexts, Context}
+use Rattle.lay_contexts.specs.FormattingContexts.{FormattingContext}
+use Rattle.lay_context.specs.Medium.{Medium}
+use Rattle.lay_context.specs.Solves.{IsAssembled, Solves, medium_of}
+use Rattle.lay_cells.specs.Places.{AtPlace}
+use Rattle.lay_cells.specs.Reads.{AllClean, IsFirstDirtyKey}
+use Rattle.lay_cells.specs.Reshapes.{Reshapes}
+use Rattle.lay_cells.specs.Shapes.{IsIn}
+use Rattle.lay_cells.specs.Sound.{IsSound}
+use Rattle.lay_cells.proofs.Lists.{one_at}
+use Rattle.lay_shape.specs.Keys.{AreOfOwnNodes}
+use Rattle.lay_shape.specs.Laws.{ContextsAreOfOwnNodes}
+use Rattle.lay_shape.specs.Shapes.{shape_of}
+use Rattle.lay_shape.specs.declared.cell_key.CellKey.{CellKey}
+use Rattle.lay_cells.specs.Progress.Grants.{laid_of_all}
+use Rattle.lay_cell_work.specs.CellInputs.{CellInput}
+use Rattle.lay_cell_work.specs.CellLocal.{IsCellLocal}
+use Rattle.lay_cell_work.specs.PresentInputs.{key_of}
+use Rattle.lay_cell_work.specs.CellLaws.DocumentCells.{AreDocumentCells}
+use Rattle.lay_cell_work.specs.CellLaws.SoundCells.{CellRow, CellState, input_now}
+use Rattle.lay_kept_cells.specs.Steps.CellSteps.{NewCellsAreSound, no_cells}
+use Rattle.lay_kept_cells.specs.Steps.ReadyCells.{AssembledTreesSolve}
+use Rattle.lay_kept_cells.specs.Table.CellTables.{CellTable}
+use Rattle.lay_kept_cells.specs.Table.TableCells.{AreCellsOn, IsGivenNow as IsGivenThere, workings_in}
+use Rattle.lay_shape.specs.Touched.ContextFlags.{ContextLists}
 use Rattle.lay_document_cells.specs.Kept.{IsKept, TableValue}
 use Rattle.lay_document_cells.specs.Laws.{CleanCellsAreCounted}
 use Rattle.lay_document_cells.specs.Settling.{FinishesWork, GivesBackWork}

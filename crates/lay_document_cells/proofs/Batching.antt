@@ -1,19 +1,19 @@
 -- Claims by the batch, and outcomes that are handed in.
 use Rattle.std.proofs.Common.{◌≡◌, inl, inr, Bool, ℕ, ◌+◌, ◌≤◌, ◌<◌, List, [], ◌∷◌, ◌++◌, length, Option, None, Some, Result, Ok, Err, cond, count_by, refl, arith, ap, sym, subst, ◌∙◌, append-nil, length-append}
 use Rattle.std.proofs.lemmas.List.Sums.{sum_by_push}
-use Rattle.lay_layout.specs.units.declared.memory.NoMemory.{NoMemory}
-use Rattle.lay_layout.specs.cells.declared.answers.Finished.{Finished}
-use Rattle.lay_layout.specs.cells.declared.answers.Released.{Released}
-use Rattle.lay_list_steps.specs.shape.declared.cell_key.CellKey.{CellKey}
-use Rattle.lay_list_steps.specs.cell_work.Claims.{Claim}
-use Rattle.lay_claims.specs.declared.outcome.Outcome.{Outcome}
+use Rattle.lay_units.specs.declared.memory.NoMemory.{NoMemory}
+use Rattle.lay_cells.specs.declared.answers.Finished.{Finished}
+use Rattle.lay_cells.specs.declared.answers.Released.{Released}
+use Rattle.lay_shape.specs.declared.cell_key.CellKey.{CellKey}
+use Rattle.lay_cell_work.specs.Claims.{Claim}
+use Rattle.lay_cell_work.specs.declared.claim_lists.outcome.Outcome.{Outcome}
 use Rattle.lay_document_cells.specs.Batches.{ClaimsSome, Grants, GrantsNone, IsBatchAnswer, IsNoGrant, fewer, full, more, none, start}
 use Rattle.lay_document_cells.specs.Claims.{AnswersNext}
 use Rattle.lay_document_cells.specs.Outcomes.{FinishesAll, HandsIn, HandsInEach, Reply, Tally, counted, is_back, is_cleaned, is_gone, is_stored, is_superseded, no_answers, tally_of, tally_sum}
 use Rattle.lay_document_cells.specs.Outcomes.{more as one_more, start as no_outcomes}
 use Rattle.lay_document_cells.specs.State.{State}
 use Rattle.lay_document_cells.specs.Steps.{CellDone, FinishesTo, GivesBackTo}
-use Rattle.lay_list_steps.specs.cell_laws.SoundCells.{CellState}
+use Rattle.lay_cell_work.specs.CellLaws.SoundCells.{CellState}
 use Rattle.lay_document_cells.specs.declared.answers.Next.{Next}
 use Rattle.lay_document_cells.specs.declared.answers.Next.TheVariants as next
 use Rattle.lay_document_cells.specs.declared.idle.IdleKind.{IdleKind}

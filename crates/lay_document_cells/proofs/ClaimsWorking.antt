@@ -1,22 +1,22 @@
 -- Claims are steps of work, and so is what comes of them.
 use Rattle.std.proofs.Common.{◌≡◌, ◌+◌, ◌≤◌, ℕ, inl, inr, ⊎_elim, List, arith, ap, sym, subst, ◌∙◌}
-use Rattle.lay_layout.specs.cells.Looks.{IsAt}
-use Rattle.lay_layout.specs.cells.Places.{AtPlace}
-use Rattle.lay_layout.specs.cells.Steps.{draws_after}
-use Rattle.lay_layout.proofs.lay_cells.Lists.{one_at}
-use Rattle.lay_layout.specs.cells.declared.answers.Claimed.TheVariants.{Granted, Reused, Taken}
-use Rattle.lay_layout.specs.cells.declared.answers.Claimed.{Claimed}
-use Rattle.lay_list_steps.specs.shape.declared.cell_key.CellKey.{CellKey}
-use Rattle.lay_list_steps.specs.cell_work.CellInputs.{CellInput}
-use Rattle.lay_list_steps.specs.cell_work.Claims.{Claim}
-use Rattle.lay_claims.specs.declared.outcome.Outcome.{Outcome}
-use Rattle.lay_claims.specs.declared.outcome.Outcome.TheVariants as outcome
+use Rattle.lay_cells.specs.Looks.{IsAt}
+use Rattle.lay_cells.specs.Places.{AtPlace}
+use Rattle.lay_cells.specs.Steps.{draws_after}
+use Rattle.lay_cells.proofs.Lists.{one_at}
+use Rattle.lay_cells.specs.declared.answers.Claimed.TheVariants.{Granted, Reused, Taken}
+use Rattle.lay_cells.specs.declared.answers.Claimed.{Claimed}
+use Rattle.lay_shape.specs.declared.cell_key.CellKey.{CellKey}
+use Rattle.lay_cell_work.specs.CellInputs.{CellInput}
+use Rattle.lay_cell_work.specs.Claims.{Claim}
+use Rattle.lay_cell_work.specs.declared.claim_lists.outcome.Outcome.{Outcome}
+use Rattle.lay_cell_work.specs.declared.claim_lists.outcome.Outcome.TheVariants as outcome
 use Rattle.lay_document_cells.specs.Batches.{ClaimsSome, Grants, fewer, full, more, none as no_grants, start}
 use Rattle.lay_document_cells.specs.Claims.{AnswersClaim, AnswersNext, ClaimsFor, DrawsFew, IsOpenToClaims, Passes, none as none_passed, reused, taken}
 use Rattle.lay_document_cells.specs.Laws.{BatchesWork, ClaimsWork, NextClaimsWork, OutcomesWork}
 use Rattle.lay_document_cells.specs.Outcomes.{HandsIn, HandsInEach, Reply, finished, more as one_more, released, start as no_outcomes}
 use Rattle.lay_document_cells.specs.State.{State}
-use Rattle.lay_list_steps.specs.cell_laws.SoundCells.{CellRow, CellState}
+use Rattle.lay_cell_work.specs.CellLaws.SoundCells.{CellRow, CellState}
 use Rattle.lay_document_cells.specs.Steps.{ClaimsTo, Step, Works, claim, finish, give_back, none, step}
 use Rattle.lay_document_cells.specs.declared.answers.Answer.{Answer}
 use Rattle.lay_document_cells.specs.declared.answers.Answer.TheVariants as answer

@@ -1,21 +1,21 @@
 -- Cells that are all clean were granted three times for each context.
 use Rattle.std.proofs.Common.{◌≡◌, ◌⊎◌, inl, inr, ⊎_elim, ℕ, ◌+◌, ◌-◌, ◌*◌, ◌≤◌, ◌<◌, List, length, refl, arith, ap, sym, subst, ◌∙◌}
 use Rattle.std.proofs.lemmas.Bool.{cases_lt}
-use Rattle.lay_layout.proofs.lay_boxgen.NodeColumns.{length-parents}
-use Rattle.lay_layout.specs.cells.Reads.{AllClean}
-use Rattle.lay_layout.specs.cells.Shapes.{IsIn}
-use Rattle.lay_layout.specs.contexts.Contexts.{Context}
-use Rattle.lay_layout.specs.context.declared.task.Phase.{Phase}
-use Rattle.lay_layout.specs.context.declared.task.Phase.TheVariants as phase
-use Rattle.lay_list_steps.specs.shape.Keys.{AreOfOwnNodes}
-use Rattle.lay_list_steps.specs.shape.Laws.{ContextsAreOfOwnNodes}
-use Rattle.lay_list_steps.specs.shape.declared.cell_key.CellKey.{CellKey}
-use Rattle.lay_layout.specs.cell_progress.Grants.{CleanCellsCount, laid_of_all}
-use Rattle.lay_list_steps.specs.cell_work.CellInputs.{CellInput}
-use Rattle.lay_list_steps.specs.cell_work.CellLocal.{IsCellLocal}
-use Rattle.lay_list_steps.specs.cell_work.CellValues.{CellValue}
-use Rattle.lay_list_steps.specs.cell_work.PresentInputs.{key_of}
-use Rattle.lay_list_steps.specs.cell_laws.SoundCells.{CellRow, IsCellOf}
+use Rattle.lay_boxgen.proofs.NodeColumns.{length-parents}
+use Rattle.lay_cells.specs.Reads.{AllClean}
+use Rattle.lay_cells.specs.Shapes.{IsIn}
+use Rattle.lay_contexts.specs.Contexts.{Context}
+use Rattle.lay_context.specs.declared.task.Phase.{Phase}
+use Rattle.lay_context.specs.declared.task.Phase.TheVariants as phase
+use Rattle.lay_shape.specs.Keys.{AreOfOwnNodes}
+use Rattle.lay_shape.specs.Laws.{ContextsAreOfOwnNodes}
+use Rattle.lay_shape.specs.declared.cell_key.CellKey.{CellKey}
+use Rattle.lay_cells.specs.Progress.Grants.{CleanCellsCount, laid_of_all}
+use Rattle.lay_cell_work.specs.CellInputs.{CellInput}
+use Rattle.lay_cell_work.specs.CellLocal.{IsCellLocal}
+use Rattle.lay_cell_work.specs.CellValues.{CellValue}
+use Rattle.lay_cell_work.specs.PresentInputs.{key_of}
+use Rattle.lay_cell_work.specs.CellLaws.SoundCells.{CellRow, IsCellOf}
 use Rattle.lay_document_cells.specs.Laws.{CleanCellsAreCounted}
 use Rattle.lay_document_cells.specs.State.{IsOfDocument, State}
 use Rattle.lay_document_cells.proofs.Pigeonhole.{pigeonhole}

@@ -1,19 +1,19 @@
 -- What an edit leaves of a document with its cells.
 use Rattle.std.proofs.Common.{◌≡◌, inl, ℕ, ◌≤◌, List, All, arith, ap, sym, subst, ◌∙◌, None}
-use Rattle.lay_layout.specs.doc.Document.{Document}
-use Rattle.lay_layout.specs.doc.declared.edit.Edit.{Edit}
-use Rattle.lay_layout.specs.edit_lists.EditLists.{after_all, first}
-use Rattle.lay_layout.specs.doc.Laws.{PutsNode}
-use Rattle.lay_layout.specs.face.FaceValue.{FaceValue}
-use Rattle.lay_layout.specs.context.Medium.{Medium}
-use Rattle.lay_layout.specs.context.Solves.{medium_of}
-use Rattle.lay_layout.specs.cells.Sound.{IsSound}
-use Rattle.lay_layout.specs.cell_progress.Grants.{laid_of_all}
-use Rattle.lay_list_steps.specs.cell_work.CellLocal.{IsCellLocal}
-use Rattle.lay_list_steps.specs.cell_laws.DocumentCells.{AreDocumentCells}
-use Rattle.lay_list_steps.specs.cell_laws.SoundCells.{CellState}
-use Rattle.lay_list_steps.specs.EditedLists.{ListsKeepCells}
-use Rattle.lay_list_steps.specs.changes.Laws.{TouchedContextsAreListed}
+use Rattle.lay_doc.specs.Document.{Document}
+use Rattle.lay_doc.specs.declared.edit.Edit.{Edit}
+use Rattle.lay_history.specs.Edits.EditLists.{after_all, first}
+use Rattle.lay_doc.specs.Laws.{PutsNode}
+use Rattle.lay_face.specs.FaceValue.{FaceValue}
+use Rattle.lay_context.specs.Medium.{Medium}
+use Rattle.lay_context.specs.Solves.{medium_of}
+use Rattle.lay_cells.specs.Sound.{IsSound}
+use Rattle.lay_cells.specs.Progress.Grants.{laid_of_all}
+use Rattle.lay_cell_work.specs.CellLocal.{IsCellLocal}
+use Rattle.lay_cell_work.specs.CellLaws.DocumentCells.{AreDocumentCells}
+use Rattle.lay_cell_work.specs.CellLaws.SoundCells.{CellState}
+use Rattle.lay_kept_cells.specs.ListSteps.EditedLists.{ListsKeepCells}
+use Rattle.lay_shape.specs.Touched.Laws.{TouchedContextsAreListed}
 use Rattle.lay_document_cells.specs.Edits.{EditsTo, FollowsLists}
 use Rattle.lay_document_cells.specs.Kept.{IsKept, TableValue}
 use Rattle.lay_document_cells.specs.State.{AreStyledLists, State}

@@ -2,12 +2,12 @@
 use Rattle.std.proofs.Common.{◌≡◌, ℕ, ◌+◌, ◌<◌, ◌≤◌, Bool, List, [], ◌∷◌, ◌++◌, length, refl, ap, sym, subst, ◌∙◌, arith, inl, inr, ⊎_elim}
 use Rattle.std.proofs.lemmas.Bool.{cases_lt}
 use Rattle.std.proofs.lemmas.Grind.{elements}
-use Rattle.lay_layout.specs.blocks.Children.{flag_at}
-use Rattle.lay_layout.specs.contexts.Contexts.{Context}
-use Rattle.lay_layout.specs.contexts.FormattingContexts.{FormattingContext}
-use Rattle.lay_layout.specs.contexts.FormattingContextList.{first_number}
-use Rattle.lay_layout.specs.context.Measured.{is_measured}
-use Rattle.lay_list_steps.specs.changes.ContextFlags.{AreContextFlagsTo}
+use Rattle.lay_flow.specs.Blocks.Children.{flag_at}
+use Rattle.lay_contexts.specs.Contexts.{Context}
+use Rattle.lay_contexts.specs.FormattingContexts.{FormattingContext}
+use Rattle.lay_contexts.specs.FormattingContextList.{first_number}
+use Rattle.lay_context.specs.Measured.{is_measured}
+use Rattle.lay_shape.specs.Touched.ContextFlags.{AreContextFlagsTo}
 
 flag_before : (flags : List Bool) (b : Bool) (k : ℕ) → k < length flags → flag_at (flags ++ b ∷ []) k ≡ flag_at flags k
 flag_before flags b k lt = grind (arith, elements)

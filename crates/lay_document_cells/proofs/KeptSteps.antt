@@ -1,32 +1,32 @@
 -- What a document with its cells keeps, through work on a cell.
 use Rattle.std.proofs.Common.{◌≡◌, ℕ, ◌+◌, ◌≤◌, List, slice_get, Some, refl, arith, ap, sym, subst, ◌∙◌}
-use Rattle.lay_layout.specs.doc.Document.{Document}
-use Rattle.lay_layout.specs.doc.Laws.{OneStyleColumn}
-use Rattle.lay_layout.specs.face.FaceValue.{FaceValue}
-use Rattle.lay_layout.specs.contexts.FormattingLaws.{OneFormattingContextList}
-use Rattle.lay_layout.specs.contexts.Laws.{OneContextList}
-use Rattle.lay_layout.specs.context.Medium.{Medium}
-use Rattle.lay_layout.specs.cells.Looks.{Looks}
-use Rattle.lay_layout.specs.cells.Places.{AtPlace}
-use Rattle.lay_layout.specs.cells.Sound.{IsSound}
-use Rattle.lay_layout.specs.cells.Steps.{ClaimsIn, FinishesIn, GivesBackIn, draws_after}
-use Rattle.lay_layout.specs.cells.declared.answers.Claimed.{Claimed}
-use Rattle.lay_layout.specs.cells.declared.answers.Claimed.TheVariants.{Granted, Reused, Taken}
-use Rattle.lay_layout.specs.cells.declared.answers.Finished.{Finished}
-use Rattle.lay_layout.specs.cells.declared.answers.Look.TheVariants as look
-use Rattle.lay_layout.specs.cells.declared.answers.Released.{Released}
-use Rattle.lay_layout.proofs.lay_cells.Lists.{one_at}
-use Rattle.lay_list_steps.specs.shape.declared.cell_key.CellKey.{CellKey}
-use Rattle.lay_layout.specs.cell_progress.Grants.{ClaimsCount, FinishesCount, GiveBacksCount, grants, laid_of_all}
-use Rattle.lay_layout.specs.cell_progress.Progress.{FinishesKeepRows, GiveBacksKeepRows}
-use Rattle.lay_list_steps.specs.cell_work.CellInputs.{CellInput}
-use Rattle.lay_list_steps.specs.cell_work.CellLocal.{IsCellLocal}
-use Rattle.lay_list_steps.specs.cell_work.CellValues.{CellValue}
-use Rattle.lay_list_steps.specs.cell_work.PresentInputs.{key_of}
-use Rattle.lay_list_steps.specs.cell_laws.SoundCells.{CellRow, CellState}
-use Rattle.lay_list_steps.specs.cell_laws.DocumentCells.{AreDocumentCells}
-use Rattle.lay_list_steps.specs.cell_steps.CellSteps.{ClaimsKeepCells, FinishesKeepCells, GiveBacksKeepCells}
-use Rattle.lay_list_steps.specs.changes.ContextFlags.{ContextLists}
+use Rattle.lay_doc.specs.Document.{Document}
+use Rattle.lay_doc.specs.Laws.{OneStyleColumn}
+use Rattle.lay_face.specs.FaceValue.{FaceValue}
+use Rattle.lay_contexts.specs.FormattingLaws.{OneFormattingContextList}
+use Rattle.lay_contexts.specs.Laws.{OneContextList}
+use Rattle.lay_context.specs.Medium.{Medium}
+use Rattle.lay_cells.specs.Looks.{Looks}
+use Rattle.lay_cells.specs.Places.{AtPlace}
+use Rattle.lay_cells.specs.Sound.{IsSound}
+use Rattle.lay_cells.specs.Steps.{ClaimsIn, FinishesIn, GivesBackIn, draws_after}
+use Rattle.lay_cells.specs.declared.answers.Claimed.{Claimed}
+use Rattle.lay_cells.specs.declared.answers.Claimed.TheVariants.{Granted, Reused, Taken}
+use Rattle.lay_cells.specs.declared.answers.Finished.{Finished}
+use Rattle.lay_cells.specs.declared.answers.Look.TheVariants as look
+use Rattle.lay_cells.specs.declared.answers.Released.{Released}
+use Rattle.lay_cells.proofs.Lists.{one_at}
+use Rattle.lay_shape.specs.declared.cell_key.CellKey.{CellKey}
+use Rattle.lay_cells.specs.Progress.Grants.{ClaimsCount, FinishesCount, GiveBacksCount, grants, laid_of_all}
+use Rattle.lay_cells.specs.Progress.Progress.{FinishesKeepRows, GiveBacksKeepRows}
+use Rattle.lay_cell_work.specs.CellInputs.{CellInput}
+use Rattle.lay_cell_work.specs.CellLocal.{IsCellLocal}
+use Rattle.lay_cell_work.specs.CellValues.{CellValue}
+use Rattle.lay_cell_work.specs.PresentInputs.{key_of}
+use Rattle.lay_cell_work.specs.CellLaws.SoundCells.{CellRow, CellState}
+use Rattle.lay_cell_work.specs.CellLaws.DocumentCells.{AreDocumentCells}
+use Rattle.lay_kept_cells.specs.Steps.CellSteps.{ClaimsKeepCells, FinishesKeepCells, GiveBacksKeepCells}
+use Rattle.lay_shape.specs.Touched.ContextFlags.{ContextLists}
 use Rattle.lay_document_cells.specs.Kept.{IsKept, TableValue}
 use Rattle.lay_document_cells.specs.State.{AreListsOf, State}
 use Rattle.lay_document_cells.specs.Steps.{CellDone, ClaimsTo, FinishesTo, GivesBackTo, IsGivenNow}

@@ -2,34 +2,34 @@
 use Rattle.std.proofs.Common.{◌≡◌, ◌∙◌, ℕ, ◌<◌, Bool, true, false, List, [], length, map, Option, None, Some, IfSome, IsTrue, option_map, refl, arith, ap, sym, subst}
 use Rattle.std.specs.Prelude.{◌↔◌}
 use Rattle.std.proofs.lemmas.Option.{IfSome_then}
-use Rattle.lay_layout.specs.doc.Document.{Document}
-use Rattle.lay_layout.specs.face.FaceValue.{FaceValue}
-use Rattle.lay_layout.specs.cells.Marks.{Marks}
-use Rattle.lay_layout.specs.cells.Places.{AtPlace}
-use Rattle.lay_layout.specs.cells.Reads.{AllClean}
-use Rattle.lay_layout.specs.cells.Reshapes.{Reshapes}
-use Rattle.lay_layout.specs.cells.Rows.{entry_of}
-use Rattle.lay_layout.specs.cells.Shapes.{Entry, IsShape}
-use Rattle.lay_layout.specs.cells.Sound.{IsSound}
-use Rattle.lay_layout.specs.cells.Steps.{ClaimsIn, FinishesIn, GivesBackIn}
-use Rattle.lay_layout.specs.cells.declared.answers.Claimed.{Claimed}
-use Rattle.lay_layout.specs.cells.declared.answers.Finished.{Finished}
-use Rattle.lay_layout.specs.cells.declared.answers.Released.{Released}
-use Rattle.lay_layout.proofs.lay_cells.OneState.{one_reshape_lem}
-use Rattle.lay_layout.proofs.lay_cells.Unchanged.{reshapes_to_itself}
-use Rattle.lay_layout.specs.context.Medium.{Medium}
-use Rattle.lay_layout.specs.context.Solves.{medium_of}
-use Rattle.lay_layout.specs.contexts.Contexts.{Context}
-use Rattle.lay_list_steps.specs.shape.declared.cell_key.CellKey.{CellKey}
-use Rattle.lay_list_steps.specs.shape.Shapes.{shape_of}
-use Rattle.lay_list_steps.specs.cell_work.CellInputs.{CellInput}
-use Rattle.lay_list_steps.specs.cell_work.CellLocal.{IsCellLocal}
-use Rattle.lay_list_steps.specs.cell_laws.DocumentCells.{AreDocumentCells}
-use Rattle.lay_list_steps.specs.cell_laws.SoundCells.{CellState}
-use Rattle.lay_list_steps.specs.changes.ContextFlags.{ContextLists}
-use Rattle.lay_later_cells.specs.KeptBoxes.{KeepCells}
-use Rattle.lay_settled_cells.specs.Laws.{ClaimsKeepSince, EditsBeginSince, EditsKeepSince, FinishesKeepSince, GiveBacksKeepSince}
-use Rattle.lay_settled_cells.specs.Since.{IsSince, Since}
+use Rattle.lay_doc.specs.Document.{Document}
+use Rattle.lay_face.specs.FaceValue.{FaceValue}
+use Rattle.lay_cells.specs.Marks.{Marks}
+use Rattle.lay_cells.specs.Places.{AtPlace}
+use Rattle.lay_cells.specs.Reads.{AllClean}
+use Rattle.lay_cells.specs.Reshapes.{Reshapes}
+use Rattle.lay_cells.specs.Rows.{entry_of}
+use Rattle.lay_cells.specs.Shapes.{Entry, IsShape}
+use Rattle.lay_cells.specs.Sound.{IsSound}
+use Rattle.lay_cells.specs.Steps.{ClaimsIn, FinishesIn, GivesBackIn}
+use Rattle.lay_cells.specs.declared.answers.Claimed.{Claimed}
+use Rattle.lay_cells.specs.declared.answers.Finished.{Finished}
+use Rattle.lay_cells.specs.declared.answers.Released.{Released}
+use Rattle.lay_cells.proofs.OneState.{one_reshape_lem}
+use Rattle.lay_cells.proofs.Unchanged.{reshapes_to_itself}
+use Rattle.lay_context.specs.Medium.{Medium}
+use Rattle.lay_context.specs.Solves.{medium_of}
+use Rattle.lay_contexts.specs.Contexts.{Context}
+use Rattle.lay_shape.specs.declared.cell_key.CellKey.{CellKey}
+use Rattle.lay_shape.specs.Shapes.{shape_of}
+use Rattle.lay_cell_work.specs.CellInputs.{CellInput}
+use Rattle.lay_cell_work.specs.CellLocal.{IsCellLocal}
+use Rattle.lay_cell_work.specs.CellLaws.DocumentCells.{AreDocumentCells}
+use Rattle.lay_cell_work.specs.CellLaws.SoundCells.{CellState}
+use Rattle.lay_shape.specs.Touched.ContextFlags.{ContextLists}
+use Rattle.lay_shape.specs.KeptShapes.KeptBoxes.{KeepCells}
+use Rattle.lay_kept_cells.specs.Settled.Laws.{ClaimsKeepSince, EditsBeginSince, EditsKeepSince, FinishesKeepSince, GiveBacksKeepSince}
+use Rattle.lay_kept_cells.specs.Settled.Since.{IsSince, Since}
 use Rattle.lay_document_cells.specs.Edits.{FollowsLists}
 use Rattle.lay_document_cells.specs.Kept.{HaveCount, since_edit}
 use Rattle.lay_document_cells.specs.Steps.{CellDone}

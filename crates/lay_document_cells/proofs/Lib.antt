@@ -17,6 +17,3 @@ mod TextStyles
 mod UnchangedCells
 mod WalkSteps
 mod Working
-pub use Rattle.lay_list_steps.proofs.lay_cell_laws as lay_cell_laws
-pub use Rattle.lay_list_steps.proofs.lay_cell_work as lay_cell_work
-pub use Rattle.lay_list_steps.proofs.lay_shape as lay_shape

@@ -1,13 +1,13 @@
 -- What faults a list of edits has: one without any has none at its first edit, and want of memory says nothing of them.
 use Rattle.std.proofs.Common.{◌≡◌, List, [], ◌∷◌, None, Result, Ok, Err, IfErr, refl}
 use Rattle.std.specs.Prelude.{IsErrAnd}
-use Rattle.lay_layout.specs.doc.declared.edit.Edit.{Edit}
-use Rattle.lay_layout.specs.doc.Document.{Document}
-use Rattle.lay_layout.specs.edit_lists.Answers.{AnswersFirst}
-use Rattle.lay_layout.specs.edit_lists.EditLists.{fault_at, first}
-use Rattle.lay_layout.specs.edit_lists.declared.batch_fault.BatchFault.{BatchFault}
-use Rattle.lay_layout.specs.edit_lists.declared.batch_fault.BatchFault.TheVariants.{At, NoMemory}
-use Rattle.lay_layout.proofs.lay_edits.Lists.{none_first}
+use Rattle.lay_doc.specs.declared.edit.Edit.{Edit}
+use Rattle.lay_doc.specs.Document.{Document}
+use Rattle.lay_history.specs.Edits.Answers.{AnswersFirst}
+use Rattle.lay_history.specs.Edits.EditLists.{fault_at, first}
+use Rattle.lay_history.specs.declared.edits.batch_fault.BatchFault.{BatchFault}
+use Rattle.lay_history.specs.declared.edits.batch_fault.BatchFault.TheVariants.{At, NoMemory}
+use Rattle.lay_history.proofs.EditsLemmas.Lists.{none_first}
 
 pub none_at_first : (d : Document) (edits : List Edit) → first d edits ≡ None → fault_at d edits 0 ≡ None
 none_at_first d [] none = refl

@@ -2,15 +2,15 @@
 use Rattle.std.proofs.Common.{◌≡◌, ◌⊎◌, inl, inr, ⊎_elim, ℕ, zero, suc, ◌+◌, ◌-◌, ◌≤◌, ◌<◌, Bool, cond, true, false, List, [], ◌∷◌, ◌++◌, length, refl, rules, arith, ap, sym, subst, ◌∙◌, length-append}
 use Rattle.std.specs.Prelude.{nat_lt}
 use Rattle.std.proofs.lemmas.Bool.{false≢true, lt-ltb}
-use Rattle.lay_layout.specs.frag.Pieces.{Context as PageContext}
-use Rattle.lay_layout.specs.pieces.declared.corner.Corner.{Corner}
-use Rattle.lay_layout.specs.box_tree.declared.box_tree.BoxNode.{BoxNode}
-use Rattle.lay_layout.specs.contexts.Contexts.{AreContexts, Context, boxes_in}
-use Rattle.lay_layout.specs.contexts.FormattingContexts.{FormattingContext, formatting_context_at}
-use Rattle.lay_layout.specs.contexts.FormattingContextList.{AreFormattingContextsOf, first_number, formatting_context_of, number_of, roots_before}
-use Rattle.lay_layout.specs.contexts.Homes.{is_root}
-use Rattle.lay_layout.specs.context.Solves.{IsAssembled, listed, page_context, page_contexts}
-use Rattle.lay_layout.specs.context.Workings.{Workings}
+use Rattle.lay_frag.specs.Pieces.{Context as PageContext}
+use Rattle.lay_placements.specs.declared.corner.Corner.{Corner}
+use Rattle.lay_box_tree.specs.declared.box_tree.BoxNode.{BoxNode}
+use Rattle.lay_contexts.specs.Contexts.{AreContexts, Context, boxes_in}
+use Rattle.lay_contexts.specs.FormattingContexts.{FormattingContext, formatting_context_at}
+use Rattle.lay_contexts.specs.FormattingContextList.{AreFormattingContextsOf, first_number, formatting_context_of, number_of, roots_before}
+use Rattle.lay_contexts.specs.Homes.{is_root}
+use Rattle.lay_context.specs.Solves.{IsAssembled, listed, page_context, page_contexts}
+use Rattle.lay_context.specs.Workings.{Workings}
 use Rattle.lay_document_cells.specs.TreeLengths.{TreesListContexts}
 
 -- one context, once the first box is passed

@@ -1,26 +1,26 @@
 -- An edit leaves one state.
 use Rattle.std.proofs.Common.{◌≡◌, ℕ, ◌≤◌, List, [], length, map, refl, arith, ap, sym, subst, ◌∙◌}
-use Rattle.lay_layout.proofs.lay_boxgen.NodeColumns.{length-parents}
-use Rattle.lay_layout.proofs.lay_contexts.ContextNumbers.{are_contexts}
-use Rattle.lay_layout.proofs.lay_contexts.FewContexts.{few_contexts}
-use Rattle.lay_layout.specs.contexts.FormattingLaws.{OneFormattingContextList}
-use Rattle.lay_layout.specs.contexts.Laws.{OneContextList}
-use Rattle.lay_layout.specs.doc.declared.edit.Edit.{Edit}
-use Rattle.lay_layout.specs.doc.Document.{Document, IsDocument, declarations_of, parents_of}
-use Rattle.lay_layout.specs.edit_lists.EditLists.{after_all}
-use Rattle.lay_layout.specs.doc.Laws.{OneStyleColumn}
-use Rattle.lay_layout.specs.style.declared.style.Style.{Style}
-use Rattle.lay_layout.specs.cells.Laws.{OneMarking, OneReshape}
-use Rattle.lay_layout.specs.cells.Rows.{entry_of}
-use Rattle.lay_layout.specs.cells.Shapes.{IsShape}
-use Rattle.lay_list_steps.specs.shape.Laws.{CellsHaveAShape, ContextsAreOfOwnNodes}
-use Rattle.lay_list_steps.specs.shape.Shapes.{shape_of}
-use Rattle.lay_list_steps.specs.shape.declared.cell_key.CellKey.{CellKey}
-use Rattle.lay_list_steps.specs.cell_work.CellInputs.{CellInput}
-use Rattle.lay_list_steps.specs.cell_work.CellValues.{CellValue}
-use Rattle.lay_list_steps.specs.cell_laws.SoundCells.{CellRow, CellState}
-use Rattle.lay_list_steps.specs.changes.ContextFlags.{ContextLists}
-use Rattle.lay_list_steps.specs.changes.Laws.{OneListOfTouchedKeys}
+use Rattle.lay_boxgen.proofs.NodeColumns.{length-parents}
+use Rattle.lay_contexts.proofs.ContextNumbers.{are_contexts}
+use Rattle.lay_contexts.proofs.FewContexts.{few_contexts}
+use Rattle.lay_contexts.specs.FormattingLaws.{OneFormattingContextList}
+use Rattle.lay_contexts.specs.Laws.{OneContextList}
+use Rattle.lay_doc.specs.declared.edit.Edit.{Edit}
+use Rattle.lay_doc.specs.Document.{Document, IsDocument, declarations_of, parents_of}
+use Rattle.lay_history.specs.Edits.EditLists.{after_all}
+use Rattle.lay_doc.specs.Laws.{OneStyleColumn}
+use Rattle.lay_style.specs.declared.style.Style.{Style}
+use Rattle.lay_cells.specs.Laws.{OneMarking, OneReshape}
+use Rattle.lay_cells.specs.Rows.{entry_of}
+use Rattle.lay_cells.specs.Shapes.{IsShape}
+use Rattle.lay_shape.specs.Laws.{CellsHaveAShape, ContextsAreOfOwnNodes}
+use Rattle.lay_shape.specs.Shapes.{shape_of}
+use Rattle.lay_shape.specs.declared.cell_key.CellKey.{CellKey}
+use Rattle.lay_cell_work.specs.CellInputs.{CellInput}
+use Rattle.lay_cell_work.specs.CellValues.{CellValue}
+use Rattle.lay_cell_work.specs.CellLaws.SoundCells.{CellRow, CellState}
+use Rattle.lay_shape.specs.Touched.ContextFlags.{ContextLists}
+use Rattle.lay_shape.specs.Touched.Laws.{OneListOfTouchedKeys}
 use Rattle.lay_document_cells.specs.Edits.{EditsTo, FollowsLists}
 use Rattle.lay_document_cells.specs.Laws.{OneEdit}
 use Rattle.lay_document_cells.specs.State.{AreListsOf, IsOfDocument, State}

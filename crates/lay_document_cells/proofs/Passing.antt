@@ -1,22 +1,22 @@
 -- A walk comes to a cell: what is claimed of it, and how it stands after that.
 use Rattle.std.proofs.Common.{◌≡◌, ℕ, ◌+◌, ◌≤◌, ◌<◌, zero, suc, List, [], ◌∷◌, map, length, slice_get, slice_set, option_map, Some, true, false, refl, arith, ap, sym, subst, ◌∙◌}
 use Rattle.std.proofs.lemmas.Bool.{false≢true}
-use Rattle.lay_layout.specs.cells.Looks.{AreClean, IsClean, Looks}
-use Rattle.lay_layout.specs.cells.Places.{IsClaimed}
-use Rattle.lay_layout.specs.cells.Rows.{entry_of}
-use Rattle.lay_layout.specs.cells.Shapes.{IsIn, IsShape}
-use Rattle.lay_layout.specs.cells.declared.answers.Claimed.{Claimed}
-use Rattle.lay_layout.specs.cells.declared.answers.Claimed.TheVariants.{Granted, Reused, Taken}
-use Rattle.lay_layout.specs.cells.declared.answers.Look.{Look}
-use Rattle.lay_layout.specs.cells.declared.answers.Look.TheVariants as look
-use Rattle.lay_layout.proofs.lay_cells.Lists.{map_at, one_at, set_same}
-use Rattle.lay_layout.proofs.lay_cells.OneAnswer.{not_both, one_row}
-use Rattle.lay_layout.specs.cell_progress.Progress.{ClaimsKeepRows, KeepsRows}
-use Rattle.lay_list_steps.specs.shape.declared.cell_key.CellKey.{CellKey}
-use Rattle.lay_list_steps.specs.cell_work.CellInputs.{CellInput}
-use Rattle.lay_list_steps.specs.cell_work.CellValues.{CellValue}
-use Rattle.lay_list_steps.specs.cell_work.Claims.{Claim}
-use Rattle.lay_list_steps.specs.cell_laws.SoundCells.{CellRow, CellState}
+use Rattle.lay_cells.specs.Looks.{AreClean, IsClean, Looks}
+use Rattle.lay_cells.specs.Places.{IsClaimed}
+use Rattle.lay_cells.specs.Rows.{entry_of}
+use Rattle.lay_cells.specs.Shapes.{IsIn, IsShape}
+use Rattle.lay_cells.specs.declared.answers.Claimed.{Claimed}
+use Rattle.lay_cells.specs.declared.answers.Claimed.TheVariants.{Granted, Reused, Taken}
+use Rattle.lay_cells.specs.declared.answers.Look.{Look}
+use Rattle.lay_cells.specs.declared.answers.Look.TheVariants as look
+use Rattle.lay_cells.proofs.Lists.{map_at, one_at, set_same}
+use Rattle.lay_cells.proofs.OneAnswer.{not_both, one_row}
+use Rattle.lay_cells.specs.Progress.Progress.{ClaimsKeepRows, KeepsRows}
+use Rattle.lay_shape.specs.declared.cell_key.CellKey.{CellKey}
+use Rattle.lay_cell_work.specs.CellInputs.{CellInput}
+use Rattle.lay_cell_work.specs.CellValues.{CellValue}
+use Rattle.lay_cell_work.specs.Claims.{Claim}
+use Rattle.lay_cell_work.specs.CellLaws.SoundCells.{CellRow, CellState}
 use Rattle.lay_document_cells.specs.Claims.{HasDirtyCell, IsReady, none, reused, taken}
 use Rattle.lay_document_cells.specs.State.{State}
 use Rattle.lay_document_cells.specs.Steps.{ClaimsTo}

@@ -1,7 +1,7 @@
 -- As many elements as are told apart by their numbers are in a list.
 use Rattle.std.proofs.Common.{◌≡◌, ℕ, zero, suc, ◌≤◌, ◌<◌, List, [], ◌∷◌, Some, length, slice_get, refl, rules, arith, ap, sym, subst, ◌∙◌}
-use Rattle.lay_layout.specs.cells.Shapes.{IsIn}
-use Rattle.lay_layout.proofs.lay_cells.Lists.{some_inj}
+use Rattle.lay_cells.specs.Shapes.{IsIn}
+use Rattle.lay_cells.proofs.Lists.{some_inj}
 
 -- all but the element at a place
 abbrev without : {X : Type 0} → List X → ℕ → List X

@@ -1,22 +1,22 @@
 -- A claim of a cell for the input of its kept pair, which is what it is given now.
 use Rattle.std.proofs.Common.{◌≡◌, ◌+◌, ℕ, List, Option, Some, option_map, refl, arith, ap, sym, subst, ◌∙◌}
-use Rattle.lay_layout.specs.doc.Document.{Document}
-use Rattle.lay_layout.specs.face.FaceValue.{FaceValue}
-use Rattle.lay_layout.specs.cells.Looks.{Looks}
-use Rattle.lay_layout.specs.cells.Places.{AtPlace}
-use Rattle.lay_layout.specs.cells.Reuses.{ReusesIn}
-use Rattle.lay_layout.specs.cells.Rows.{Solved}
-use Rattle.lay_layout.specs.cells.Sound.{IsSound}
-use Rattle.lay_layout.specs.cells.Steps.{ClaimsIn}
-use Rattle.lay_layout.specs.cells.declared.answers.Claimed.TheVariants.{Reused}
-use Rattle.lay_layout.specs.cells.declared.answers.Look.TheVariants as look
-use Rattle.lay_layout.proofs.lay_cells.Lists.{one_at, some_inj}
-use Rattle.lay_layout.proofs.lay_cells.OneAnswer.{one_row}
-use Rattle.lay_list_steps.specs.shape.declared.cell_key.CellKey.{CellKey}
-use Rattle.lay_list_steps.specs.cell_work.CellInputs.{CellInput}
-use Rattle.lay_list_steps.specs.cell_work.CellLocal.{IsCellLocal}
-use Rattle.lay_list_steps.specs.cell_work.CellValues.{CellValue}
-use Rattle.lay_list_steps.specs.cell_laws.SoundCells.{CellRow, CellState}
+use Rattle.lay_doc.specs.Document.{Document}
+use Rattle.lay_face.specs.FaceValue.{FaceValue}
+use Rattle.lay_cells.specs.Looks.{Looks}
+use Rattle.lay_cells.specs.Places.{AtPlace}
+use Rattle.lay_cells.specs.Reuses.{ReusesIn}
+use Rattle.lay_cells.specs.Rows.{Solved}
+use Rattle.lay_cells.specs.Sound.{IsSound}
+use Rattle.lay_cells.specs.Steps.{ClaimsIn}
+use Rattle.lay_cells.specs.declared.answers.Claimed.TheVariants.{Reused}
+use Rattle.lay_cells.specs.declared.answers.Look.TheVariants as look
+use Rattle.lay_cells.proofs.Lists.{one_at, some_inj}
+use Rattle.lay_cells.proofs.OneAnswer.{one_row}
+use Rattle.lay_shape.specs.declared.cell_key.CellKey.{CellKey}
+use Rattle.lay_cell_work.specs.CellInputs.{CellInput}
+use Rattle.lay_cell_work.specs.CellLocal.{IsCellLocal}
+use Rattle.lay_cell_work.specs.CellValues.{CellValue}
+use Rattle.lay_cell_work.specs.CellLaws.SoundCells.{CellRow, CellState}
 use Rattle.lay_document_cells.specs.State.{State}
 use Rattle.lay_document_cells.specs.Steps.{IsGivenNow}
 use Rattle.lay_document_cells.specs.Unchanged.{CanReuseGiven, ReusesGiven}

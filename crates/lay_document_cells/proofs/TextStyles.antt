@@ -1,17 +1,17 @@
 -- A text has no declarations, so styles stay where one changes.
 use Rattle.std.proofs.Common.{◌≡◌, ℕ, All, zero, suc, List, [], ◌∷◌, map, refl, ap, sym, subst, Option, None, Some}
 use Rattle.std.proofs.lemmas.List.Elements.{All-head, All-tail}
-use Rattle.lay_layout.specs.style.declared.style.Style.{Style}
-use Rattle.lay_layout.specs.style.ComputedStyle.{HasStyles}
-use Rattle.lay_layout.specs.style.Places.{place_of}
-use Rattle.lay_layout.specs.doc.declared.edit.Edit.{Edit}
-use Rattle.lay_layout.specs.doc.declared.edit.Edit.TheVariants.{SetStyle, ClearStyle, SetText, Insert, Remove, Bad}
-use Rattle.lay_layout.specs.doc.declared.node.Node.{Node}
-use Rattle.lay_layout.specs.doc.declared.node.NodeId.{NodeId}
-use Rattle.lay_layout.specs.doc.Changes.{changed_at, with_text}
-use Rattle.lay_layout.specs.doc.Document.{Document, declarations_of, ids_of, parents_of}
-use Rattle.lay_layout.specs.doc.Edits.{after}
-use Rattle.lay_layout.specs.edit_lists.EditLists.{after_all}
+use Rattle.lay_style.specs.declared.style.Style.{Style}
+use Rattle.lay_style.specs.ComputedStyle.{HasStyles}
+use Rattle.lay_style.specs.Places.{place_of}
+use Rattle.lay_doc.specs.declared.edit.Edit.{Edit}
+use Rattle.lay_doc.specs.declared.edit.Edit.TheVariants.{SetStyle, ClearStyle, SetText, Insert, Remove, Bad}
+use Rattle.lay_doc.specs.declared.node.Node.{Node}
+use Rattle.lay_doc.specs.declared.node.NodeId.{NodeId}
+use Rattle.lay_doc.specs.Changes.{changed_at, with_text}
+use Rattle.lay_doc.specs.Document.{Document, declarations_of, ids_of, parents_of}
+use Rattle.lay_doc.specs.Edits.{after}
+use Rattle.lay_history.specs.Edits.EditLists.{after_all}
 use Rattle.lay_document_cells.specs.TextEdits.{IsTextEdit}
 
 column-stays : {X : Type 0} (g : Node → X) (text : List ℕ) → ((n : Node) → g (with_text text n) ≡ g n) → (p : ℕ) (ns : List Node) → map g (changed_at p (with_text text) ns) ≡ map g ns

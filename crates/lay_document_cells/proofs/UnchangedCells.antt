@@ -2,21 +2,21 @@
 use Rattle.std.proofs.Common.{◌≡◌, ◌<◌, ◌∙◌, ℕ, List, length, refl, ap, subst, sym}
 use Rattle.std.proofs.lemmas.List.{length-map}
 use Rattle.std.proofs.lemmas.Option.{slice_get_within}
-use Rattle.lay_layout.specs.doc.Document.{Document}
-use Rattle.lay_layout.specs.face.FaceValue.{FaceValue}
-use Rattle.lay_layout.specs.cells.Places.{AtPlace}
-use Rattle.lay_layout.specs.cells.Reuses.{CanReuse}
-use Rattle.lay_layout.specs.cells.Rows.{entry_of}
-use Rattle.lay_layout.specs.cells.Shapes.{Entry}
-use Rattle.lay_layout.proofs.lay_cells.Lists.{one_at}
-use Rattle.lay_layout.specs.context.Medium.{Medium}
-use Rattle.lay_layout.specs.context.Solves.{medium_of}
-use Rattle.lay_layout.specs.contexts.Contexts.{Context}
-use Rattle.lay_list_steps.specs.cell_laws.SoundCells.{CellRow, CellState, input_now}
-use Rattle.lay_list_steps.specs.shape.declared.cell_key.CellKey.{CellKey}
-use Rattle.lay_list_steps.specs.shape.Shapes.{cells_of, entry_of as entry_of_cell}
-use Rattle.lay_settled_cells.specs.Laws.{UnchangedCellsKeepInputs}
-use Rattle.lay_settled_cells.specs.Since.{IsSince, IsUnchanged, Since}
+use Rattle.lay_doc.specs.Document.{Document}
+use Rattle.lay_face.specs.FaceValue.{FaceValue}
+use Rattle.lay_cells.specs.Places.{AtPlace}
+use Rattle.lay_cells.specs.Reuses.{CanReuse}
+use Rattle.lay_cells.specs.Rows.{entry_of}
+use Rattle.lay_cells.specs.Shapes.{Entry}
+use Rattle.lay_cells.proofs.Lists.{one_at}
+use Rattle.lay_context.specs.Medium.{Medium}
+use Rattle.lay_context.specs.Solves.{medium_of}
+use Rattle.lay_contexts.specs.Contexts.{Context}
+use Rattle.lay_cell_work.specs.CellLaws.SoundCells.{CellRow, CellState, input_now}
+use Rattle.lay_shape.specs.declared.cell_key.CellKey.{CellKey}
+use Rattle.lay_shape.specs.Shapes.{cells_of, entry_of as entry_of_cell}
+use Rattle.lay_kept_cells.specs.Settled.Laws.{UnchangedCellsKeepInputs}
+use Rattle.lay_kept_cells.specs.Settled.Since.{IsSince, IsUnchanged, Since}
 use Rattle.lay_document_cells.specs.Kept.{IsKept, TableValue}
 use Rattle.lay_document_cells.specs.State.{State}
 use Rattle.lay_document_cells.specs.Unchanged.{CanReuseGiven, KeepsGiven}

@@ -2,15 +2,15 @@
 use Rattle.std.proofs.Common.{◌≡◌, ◌⊎◌, inl, inr, ⊎_elim, ℕ, ◌+◌, ◌≤◌, ◌<◌, ◌^◌, zero, suc, List, map, length, slice_get, Option, None, Some, Bool, true, false, refl, arith, rules, ap, sym, subst, ◌∙◌}
 use Rattle.std.proofs.lemmas.Bool.{cases_lt, false≢true}
 use Rattle.std.proofs.lemmas.Option.{slice_get_within}
-use Rattle.lay_layout.specs.cells.Looks.{AreClean}
-use Rattle.lay_layout.specs.cells.Places.{AreCleanFrom, IsClaimed, IsFirstDirtyFrom}
-use Rattle.lay_layout.specs.cells.Reads.{AllClean, IsFirstDirtyKey}
-use Rattle.lay_layout.specs.cells.Rows.{entry_of}
-use Rattle.lay_layout.specs.cells.Shapes.{IsShape}
-use Rattle.lay_layout.proofs.lay_cells.Lists.{map_at, map_got, one_at, some_inj}
-use Rattle.lay_list_steps.specs.shape.declared.cell_key.CellKey.{CellKey}
-use Rattle.lay_list_steps.specs.cell_work.Claims.{Claim}
-use Rattle.lay_list_steps.specs.cell_laws.SoundCells.{CellRow}
+use Rattle.lay_cells.specs.Looks.{AreClean}
+use Rattle.lay_cells.specs.Places.{AreCleanFrom, IsClaimed, IsFirstDirtyFrom}
+use Rattle.lay_cells.specs.Reads.{AllClean, IsFirstDirtyKey}
+use Rattle.lay_cells.specs.Rows.{entry_of}
+use Rattle.lay_cells.specs.Shapes.{IsShape}
+use Rattle.lay_cells.proofs.Lists.{map_at, map_got, one_at, some_inj}
+use Rattle.lay_shape.specs.declared.cell_key.CellKey.{CellKey}
+use Rattle.lay_cell_work.specs.Claims.{Claim}
+use Rattle.lay_cell_work.specs.CellLaws.SoundCells.{CellRow}
 use Rattle.lay_document_cells.specs.Claims.{AnswersNext, ArePassed, DrawsFew, HasDirtyCell, IsBusy, IsOpenToClaims, IsReady, Passes, none, reused, taken}
 use Rattle.lay_document_cells.specs.Settling.{AreCleanBefore}
 use Rattle.lay_document_cells.specs.State.{State}

@@ -1,16 +1,16 @@
 -- Work on cells, step by step.
 use Rattle.std.proofs.Common.{◌≡◌, ℕ, ◌+◌, refl, arith, ap, sym, subst, ◌∙◌, map}
-use Rattle.lay_layout.specs.cells.Rows.{entry_of}
-use Rattle.lay_layout.specs.cells.declared.answers.Claimed.{Claimed}
-use Rattle.lay_layout.specs.cells.declared.answers.Finished.{Finished}
-use Rattle.lay_layout.specs.cells.declared.answers.Released.{Released}
-use Rattle.lay_layout.proofs.lay_cells.Lists.{one_at}
-use Rattle.lay_layout.specs.cell_progress.Grants.{ClaimsCount, FinishesCount, GiveBacksCount, grants, laid_of_all}
-use Rattle.lay_layout.specs.cell_progress.Progress.{ClaimsKeepRows, FinishesKeepRows, GiveBacksKeepRows, GivesNoneBack, KeepingIsTransitive, KeepsRows}
-use Rattle.lay_list_steps.specs.shape.declared.cell_key.CellKey.{CellKey}
-use Rattle.lay_list_steps.specs.cell_work.CellInputs.{CellInput}
-use Rattle.lay_list_steps.specs.cell_work.CellValues.{CellValue}
-use Rattle.lay_list_steps.specs.cell_laws.SoundCells.{CellRow, CellState}
+use Rattle.lay_cells.specs.Rows.{entry_of}
+use Rattle.lay_cells.specs.declared.answers.Claimed.{Claimed}
+use Rattle.lay_cells.specs.declared.answers.Finished.{Finished}
+use Rattle.lay_cells.specs.declared.answers.Released.{Released}
+use Rattle.lay_cells.proofs.Lists.{one_at}
+use Rattle.lay_cells.specs.Progress.Grants.{ClaimsCount, FinishesCount, GiveBacksCount, grants, laid_of_all}
+use Rattle.lay_cells.specs.Progress.Progress.{ClaimsKeepRows, FinishesKeepRows, GiveBacksKeepRows, GivesNoneBack, KeepingIsTransitive, KeepsRows}
+use Rattle.lay_shape.specs.declared.cell_key.CellKey.{CellKey}
+use Rattle.lay_cell_work.specs.CellInputs.{CellInput}
+use Rattle.lay_cell_work.specs.CellValues.{CellValue}
+use Rattle.lay_cell_work.specs.CellLaws.SoundCells.{CellRow, CellState}
 use Rattle.lay_document_cells.specs.Laws.{KeepsCells, SettlingGivesNothingBack, SettlingWorks, StoppingWorks, WorkKeepsCells}
 use Rattle.lay_document_cells.specs.Settling.{ClaimsFirst, GivesUp, Settles, SettlesFirst, StopsAt, computed, granted, next, none as no_cell, reused, taken, unclaimed}
 use Rattle.lay_document_cells.specs.State.{State}

@@ -1,7 +1,7 @@
 -- Claims by the batch: the next cell is claimed again and again, until there are as many claims as are asked for or one isn't granted.
 use Rattle.std.specs.Prelude.{ℕ, ⊤, ◌≡◌, ◌<◌, List, [], ◌∷◌, ◌++◌, length, Option, None, Some, Result, Ok, IsErr}
-use Rattle.lay_layout.specs.units.declared.memory.NoMemory.{NoMemory}
-use Rattle.lay_list_steps.specs.cell_work.Claims.{Claim}
+use Rattle.lay_units.specs.declared.memory.NoMemory.{NoMemory}
+use Rattle.lay_cell_work.specs.Claims.{Claim}
 use Rattle.lay_document_cells.specs.Claims.{AnswersNext}
 use Rattle.lay_document_cells.specs.State.{State}
 use Rattle.lay_document_cells.specs.declared.answers.Next.{Next}

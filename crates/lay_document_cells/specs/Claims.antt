@@ -1,16 +1,16 @@
 -- What claims of the cells of a document come to.
 use Rattle.std.specs.Prelude.{ℕ, ◌≡◌, ◌⊎◌, ◌+◌, ◌≤◌, ◌<◌, ◌^◌, true, List, slice_get, Some}
-use Rattle.lay_layout.specs.cells.Looks.{AreClean, IsAt, IsClean, IsGone, Looks}
-use Rattle.lay_layout.specs.cells.Places.{IsClaimed}
-use Rattle.lay_layout.specs.cells.Reads.{AllClean}
-use Rattle.lay_layout.specs.cells.Shapes.{IsIn}
-use Rattle.lay_layout.specs.cells.declared.answers.Claimed.{Claimed}
-use Rattle.lay_layout.specs.cells.declared.answers.Claimed.TheVariants as claimed
-use Rattle.lay_layout.specs.cells.declared.answers.Look.TheVariants as look
-use Rattle.lay_list_steps.specs.shape.declared.cell_key.CellKey.{CellKey}
-use Rattle.lay_list_steps.specs.cell_work.CellInputs.{CellInput}
-use Rattle.lay_list_steps.specs.cell_work.Claims.{Claim}
-use Rattle.lay_list_steps.specs.cell_laws.SoundCells.{CellRow}
+use Rattle.lay_cells.specs.Looks.{AreClean, IsAt, IsClean, IsGone, Looks}
+use Rattle.lay_cells.specs.Places.{IsClaimed}
+use Rattle.lay_cells.specs.Reads.{AllClean}
+use Rattle.lay_cells.specs.Shapes.{IsIn}
+use Rattle.lay_cells.specs.declared.answers.Claimed.{Claimed}
+use Rattle.lay_cells.specs.declared.answers.Claimed.TheVariants as claimed
+use Rattle.lay_cells.specs.declared.answers.Look.TheVariants as look
+use Rattle.lay_shape.specs.declared.cell_key.CellKey.{CellKey}
+use Rattle.lay_cell_work.specs.CellInputs.{CellInput}
+use Rattle.lay_cell_work.specs.Claims.{Claim}
+use Rattle.lay_cell_work.specs.CellLaws.SoundCells.{CellRow}
 use Rattle.lay_document_cells.specs.State.{State}
 use Rattle.lay_document_cells.specs.Steps.{ClaimsTo}
 use Rattle.lay_document_cells.specs.declared.answers.Answer.{Answer}

@@ -2,15 +2,15 @@
 -- contexts are made and those of contexts that are gone are dropped; and then those of the contexts that the list touches are marked, with
 -- all that depend on them.
 use Rattle.std.specs.Prelude.{◌≡◌, List, []}
-use Rattle.lay_layout.specs.doc.declared.edit.Edit.{Edit}
-use Rattle.lay_layout.specs.edit_lists.EditLists.{after_all}
-use Rattle.lay_layout.specs.cells.Marks.{Marks}
-use Rattle.lay_layout.specs.cells.Reshapes.{Reshapes}
-use Rattle.lay_list_steps.specs.shape.declared.cell_key.CellKey.{CellKey}
-use Rattle.lay_list_steps.specs.shape.Shapes.{shape_of}
-use Rattle.lay_list_steps.specs.cell_laws.SoundCells.{CellState}
-use Rattle.lay_list_steps.specs.changes.ContextFlags.{ContextLists}
-use Rattle.lay_list_steps.specs.changes.TouchedKeys.{AreTouchedKeys}
+use Rattle.lay_doc.specs.declared.edit.Edit.{Edit}
+use Rattle.lay_history.specs.Edits.EditLists.{after_all}
+use Rattle.lay_cells.specs.Marks.{Marks}
+use Rattle.lay_cells.specs.Reshapes.{Reshapes}
+use Rattle.lay_shape.specs.declared.cell_key.CellKey.{CellKey}
+use Rattle.lay_shape.specs.Shapes.{shape_of}
+use Rattle.lay_cell_work.specs.CellLaws.SoundCells.{CellState}
+use Rattle.lay_shape.specs.Touched.ContextFlags.{ContextLists}
+use Rattle.lay_shape.specs.Touched.TouchedKeys.{AreTouchedKeys}
 use Rattle.lay_document_cells.specs.State.{AreListsOf, State}
 
 -- the cells s of the contexts before an edit became t, which are cells of those after it

@@ -1,13 +1,13 @@
 -- What a document with its cells keeps beside what contracts see: what it is laid out on, its computed styles, and its contexts.
 use Rattle.std.specs.Prelude.{ℕ, ◌≡◌, ◌≤◌, Bool, true, false, IfSome, List, length, Option, None, Some}
-use Rattle.lay_layout.specs.style.declared.style.Style.{Style}
-use Rattle.lay_layout.specs.cell_progress.Grants.{laid_of_all}
-use Rattle.lay_list_steps.specs.cell_laws.DocumentCells.{AreDocumentCells}
-use Rattle.lay_cell_table.specs.CellTables.{CellTable}
-use Rattle.lay_list_steps.specs.changes.ContextFlags.{ContextLists}
-use Rattle.lay_layout.specs.context.Medium.{Medium}
-use Rattle.lay_layout.specs.context.Solves.{medium_of}
-use Rattle.lay_settled_cells.specs.Since.{IsSince, Since, either}
+use Rattle.lay_style.specs.declared.style.Style.{Style}
+use Rattle.lay_cells.specs.Progress.Grants.{laid_of_all}
+use Rattle.lay_cell_work.specs.CellLaws.DocumentCells.{AreDocumentCells}
+use Rattle.lay_kept_cells.specs.Table.CellTables.{CellTable}
+use Rattle.lay_shape.specs.Touched.ContextFlags.{ContextLists}
+use Rattle.lay_context.specs.Medium.{Medium}
+use Rattle.lay_context.specs.Solves.{medium_of}
+use Rattle.lay_kept_cells.specs.Settled.Since.{IsSince, Since, either}
 use Rattle.lay_document_cells.specs.State.{AreStyledLists, State}
 
 -- the styles of a document and its contexts

@@ -1,15 +1,15 @@
 -- What work on the cells of a document keeps, and that an edit leaves one state.
 use Rattle.std.specs.Prelude.{ℕ, ◌≡◌, ◌+◌, ◌*◌, ◌≤◌, List, length, Option, Result}
-use Rattle.lay_layout.specs.units.declared.memory.NoMemory.{NoMemory}
-use Rattle.lay_layout.specs.doc.declared.edit.Edit.{Edit}
-use Rattle.lay_layout.specs.doc.Document.{IsDocument}
-use Rattle.lay_layout.specs.edit_lists.EditLists.{after_all}
-use Rattle.lay_layout.specs.cells.Reads.{AllClean}
-use Rattle.lay_layout.specs.cell_progress.Grants.{laid_of_all}
-use Rattle.lay_layout.specs.cell_progress.Progress.{GivesNoneBack, KeepsRows}
-use Rattle.lay_list_steps.specs.shape.declared.cell_key.CellKey.{CellKey}
-use Rattle.lay_list_steps.specs.cell_work.Claims.{Claim}
-use Rattle.lay_claims.specs.declared.outcome.Outcome.{Outcome}
+use Rattle.lay_units.specs.declared.memory.NoMemory.{NoMemory}
+use Rattle.lay_doc.specs.declared.edit.Edit.{Edit}
+use Rattle.lay_doc.specs.Document.{IsDocument}
+use Rattle.lay_history.specs.Edits.EditLists.{after_all}
+use Rattle.lay_cells.specs.Reads.{AllClean}
+use Rattle.lay_cells.specs.Progress.Grants.{laid_of_all}
+use Rattle.lay_cells.specs.Progress.Progress.{GivesNoneBack, KeepsRows}
+use Rattle.lay_shape.specs.declared.cell_key.CellKey.{CellKey}
+use Rattle.lay_cell_work.specs.Claims.{Claim}
+use Rattle.lay_cell_work.specs.declared.claim_lists.outcome.Outcome.{Outcome}
 use Rattle.lay_document_cells.specs.Batches.{ClaimsSome}
 use Rattle.lay_document_cells.specs.Claims.{AnswersClaim, AnswersNext}
 use Rattle.lay_document_cells.specs.Edits.{EditsTo}

@@ -1,11 +1,11 @@
 -- Outcomes of claims that are handed in: each is answered as finished work or as a claim that comes back, and each answer is counted.
 use Rattle.std.specs.Prelude.{ℕ, ◌≡◌, ◌+◌, Bool, true, false, List, [], ◌∷◌, ◌++◌, cond, count_by}
-use Rattle.lay_layout.specs.cells.declared.answers.Finished.{Finished}
-use Rattle.lay_layout.specs.cells.declared.answers.Finished.TheVariants as finish
-use Rattle.lay_layout.specs.cells.declared.answers.Released.{Released}
-use Rattle.lay_layout.specs.cells.declared.answers.Released.TheVariants as release
-use Rattle.lay_claims.specs.declared.outcome.Outcome.{Outcome}
-use Rattle.lay_claims.specs.declared.outcome.Outcome.TheVariants as outcome
+use Rattle.lay_cells.specs.declared.answers.Finished.{Finished}
+use Rattle.lay_cells.specs.declared.answers.Finished.TheVariants as finish
+use Rattle.lay_cells.specs.declared.answers.Released.{Released}
+use Rattle.lay_cells.specs.declared.answers.Released.TheVariants as release
+use Rattle.lay_cell_work.specs.declared.claim_lists.outcome.Outcome.{Outcome}
+use Rattle.lay_cell_work.specs.declared.claim_lists.outcome.Outcome.TheVariants as outcome
 use Rattle.lay_document_cells.specs.State.{State}
 use Rattle.lay_document_cells.specs.Steps.{FinishesTo, GivesBackTo}
 

@@ -1,18 +1,18 @@
 -- Settling: the first dirty cell is claimed for what it is given now, and unless its value is kept, that is computed and finished; and so
 -- on, until each cell is clean or memory runs out.
 use Rattle.std.specs.Prelude.{ℕ, ◌≡◌, ◌⊎◌, ◌+◌, ◌≤◌, ◌<◌, false, List, length, slice_get, Some}
-use Rattle.lay_layout.specs.cells.Reads.{AllClean, IsFirstDirtyKey}
-use Rattle.lay_layout.specs.cells.declared.answers.Claimed.{Claimed}
-use Rattle.lay_layout.specs.cells.declared.answers.Claimed.TheVariants.{Granted, Reused, Taken}
-use Rattle.lay_layout.specs.cells.declared.answers.Finished.{Finished}
-use Rattle.lay_layout.specs.cells.declared.answers.Finished.TheVariants.{Cleaned}
-use Rattle.lay_layout.specs.cells.declared.answers.Released.{Released as Answer}
-use Rattle.lay_layout.specs.cells.declared.answers.Released.TheVariants.{Released}
-use Rattle.lay_layout.specs.cell_progress.Settled.{claim_number}
-use Rattle.lay_list_steps.specs.shape.declared.cell_key.CellKey.{CellKey}
-use Rattle.lay_list_steps.specs.cell_work.CellInputs.{CellInput}
-use Rattle.lay_list_steps.specs.cell_work.CellValues.{CellValue}
-use Rattle.lay_list_steps.specs.cell_laws.SoundCells.{CellRow}
+use Rattle.lay_cells.specs.Reads.{AllClean, IsFirstDirtyKey}
+use Rattle.lay_cells.specs.declared.answers.Claimed.{Claimed}
+use Rattle.lay_cells.specs.declared.answers.Claimed.TheVariants.{Granted, Reused, Taken}
+use Rattle.lay_cells.specs.declared.answers.Finished.{Finished}
+use Rattle.lay_cells.specs.declared.answers.Finished.TheVariants.{Cleaned}
+use Rattle.lay_cells.specs.declared.answers.Released.{Released as Answer}
+use Rattle.lay_cells.specs.declared.answers.Released.TheVariants.{Released}
+use Rattle.lay_cells.specs.Progress.Settled.{claim_number}
+use Rattle.lay_shape.specs.declared.cell_key.CellKey.{CellKey}
+use Rattle.lay_cell_work.specs.CellInputs.{CellInput}
+use Rattle.lay_cell_work.specs.CellValues.{CellValue}
+use Rattle.lay_cell_work.specs.CellLaws.SoundCells.{CellRow}
 use Rattle.lay_document_cells.specs.State.{State}
 use Rattle.lay_document_cells.specs.Steps.{ClaimsTo, FinishesTo, GivesBackTo}
 

@@ -1,18 +1,18 @@
 -- A document with its cells: three for each of its contexts (CSS 2.2, 9.4.1), in which preferred widths, sizes and places are kept.
 use Rattle.std.specs.Prelude.{ℕ, ◌≡◌, ◌≤◌, List, []}
-use Rattle.lay_layout.specs.style.declared.style.Style.{Style}
-use Rattle.lay_layout.specs.style.ComputedStyle.{HasStyles}
-use Rattle.lay_layout.specs.doc.Document.{Document, declarations_of, parents_of}
-use Rattle.lay_layout.specs.face.FaceValue.{FaceValue}
-use Rattle.lay_layout.specs.cells.Reshapes.{Reshapes}
-use Rattle.lay_layout.specs.cell_progress.Grants.{laid_of_all}
-use Rattle.lay_layout.specs.contexts.ContextList.{AreContextsOf}
-use Rattle.lay_layout.specs.contexts.FormattingContextList.{AreFormattingContextsOf}
-use Rattle.lay_list_steps.specs.shape.Shapes.{shape_of}
-use Rattle.lay_list_steps.specs.cell_laws.DocumentCells.{AreDocumentCells}
-use Rattle.lay_list_steps.specs.cell_laws.SoundCells.{CellState}
-use Rattle.lay_list_steps.specs.cell_steps.CellSteps.{no_cells}
-use Rattle.lay_list_steps.specs.changes.ContextFlags.{ContextLists}
+use Rattle.lay_style.specs.declared.style.Style.{Style}
+use Rattle.lay_style.specs.ComputedStyle.{HasStyles}
+use Rattle.lay_doc.specs.Document.{Document, declarations_of, parents_of}
+use Rattle.lay_face.specs.FaceValue.{FaceValue}
+use Rattle.lay_cells.specs.Reshapes.{Reshapes}
+use Rattle.lay_cells.specs.Progress.Grants.{laid_of_all}
+use Rattle.lay_contexts.specs.ContextList.{AreContextsOf}
+use Rattle.lay_contexts.specs.FormattingContextList.{AreFormattingContextsOf}
+use Rattle.lay_shape.specs.Shapes.{shape_of}
+use Rattle.lay_cell_work.specs.CellLaws.DocumentCells.{AreDocumentCells}
+use Rattle.lay_cell_work.specs.CellLaws.SoundCells.{CellState}
+use Rattle.lay_kept_cells.specs.Steps.CellSteps.{no_cells}
+use Rattle.lay_shape.specs.Touched.ContextFlags.{ContextLists}
 
 pub record State : Type 0 where
   pub document : Document

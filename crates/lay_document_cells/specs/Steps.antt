@@ -1,23 +1,23 @@
 -- Steps of work on the cells of a document. A claim is for what the cell would be given now, and each grant is counted. No step makes a
 -- cell, drops one or dirties one.
 use Rattle.std.specs.Prelude.{ℕ, ◌≡◌, ◌+◌, ◌<◌, length}
-use Rattle.lay_layout.specs.cells.Looks.{Looks}
-use Rattle.lay_layout.specs.cells.Rows.{Solved}
-use Rattle.lay_layout.specs.cells.Steps.{ClaimsIn, FinishesIn, GivesBackIn}
-use Rattle.lay_layout.specs.cell_progress.Grants.{grants}
-use Rattle.lay_layout.specs.cells.declared.answers.Claimed.{Claimed}
-use Rattle.lay_layout.specs.cells.declared.answers.Finished.{Finished}
-use Rattle.lay_layout.specs.cells.declared.answers.Look.TheVariants.{Ready}
-use Rattle.lay_layout.specs.cells.declared.answers.Released.{Released}
-use Rattle.lay_layout.specs.context.declared.task.Phase.{Phase}
-use Rattle.lay_layout.specs.context.Solves.{medium_of}
-use Rattle.lay_list_steps.specs.shape.declared.cell_key.CellKey.{CellKey}
-use Rattle.lay_list_steps.specs.cell_work.CellInputs.{CellInput}
-use Rattle.lay_list_steps.specs.cell_work.CellLocal.{IsCellLocal}
-use Rattle.lay_list_steps.specs.cell_work.CellValues.{CellValue}
-use Rattle.lay_list_steps.specs.cell_work.PresentInputs.{key_of}
-use Rattle.lay_list_steps.specs.cell_laws.SoundCells.{CellState, input_now}
-use Rattle.lay_list_steps.specs.changes.ContextFlags.{ContextLists}
+use Rattle.lay_cells.specs.Looks.{Looks}
+use Rattle.lay_cells.specs.Rows.{Solved}
+use Rattle.lay_cells.specs.Steps.{ClaimsIn, FinishesIn, GivesBackIn}
+use Rattle.lay_cells.specs.Progress.Grants.{grants}
+use Rattle.lay_cells.specs.declared.answers.Claimed.{Claimed}
+use Rattle.lay_cells.specs.declared.answers.Finished.{Finished}
+use Rattle.lay_cells.specs.declared.answers.Look.TheVariants.{Ready}
+use Rattle.lay_cells.specs.declared.answers.Released.{Released}
+use Rattle.lay_context.specs.declared.task.Phase.{Phase}
+use Rattle.lay_context.specs.Solves.{medium_of}
+use Rattle.lay_shape.specs.declared.cell_key.CellKey.{CellKey}
+use Rattle.lay_cell_work.specs.CellInputs.{CellInput}
+use Rattle.lay_cell_work.specs.CellLocal.{IsCellLocal}
+use Rattle.lay_cell_work.specs.CellValues.{CellValue}
+use Rattle.lay_cell_work.specs.PresentInputs.{key_of}
+use Rattle.lay_cell_work.specs.CellLaws.SoundCells.{CellState, input_now}
+use Rattle.lay_shape.specs.Touched.ContextFlags.{ContextLists}
 use Rattle.lay_document_cells.specs.State.{AreListsOf, State}
 
 abbrev pub CellDone : Type 0

@@ -1,10 +1,10 @@
 -- Cells that keep what they would be given now, so that no input need be made of them to claim them.
-use Rattle.lay_layout.specs.cells.Reuses.{CanReuse}
-use Rattle.lay_layout.specs.cells.Steps.{HasKept}
-use Rattle.lay_layout.specs.cells.declared.answers.Claimed.TheVariants.{Reused}
-use Rattle.lay_list_steps.specs.shape.declared.cell_key.CellKey.{CellKey}
-use Rattle.lay_list_steps.specs.cell_work.CellInputs.{CellInput}
-use Rattle.lay_list_steps.specs.cell_laws.SoundCells.{CellRow}
+use Rattle.lay_cells.specs.Reuses.{CanReuse}
+use Rattle.lay_cells.specs.Steps.{HasKept}
+use Rattle.lay_cells.specs.declared.answers.Claimed.TheVariants.{Reused}
+use Rattle.lay_shape.specs.declared.cell_key.CellKey.{CellKey}
+use Rattle.lay_cell_work.specs.CellInputs.{CellInput}
+use Rattle.lay_cell_work.specs.CellLaws.SoundCells.{CellRow}
 use Rattle.lay_document_cells.specs.State.{State}
 use Rattle.lay_document_cells.specs.Steps.{ClaimsTo, IsGivenNow}
 

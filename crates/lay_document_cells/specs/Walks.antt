@@ -1,11 +1,11 @@
 -- One walk over the cells in which the next one to claim is looked for. The cells before it are passed: each of them that is ready is
 -- claimed, for what it is given now. No claim changes a cell before its own, so none of these need be seen again.
 use Rattle.std.specs.Prelude.{ℕ, ◌≡◌, ◌≢◌, ◌⊎◌, ◌+◌, ◌≤◌, ◌<◌, ◌^◌, List, length, map, slice_get, Option, Some}
-use Rattle.lay_layout.specs.cells.Looks.{IsAt}
-use Rattle.lay_layout.specs.cells.Places.{IsClaimed}
-use Rattle.lay_layout.specs.cells.Rows.{entry_of}
-use Rattle.lay_list_steps.specs.cell_work.Claims.{Claim}
-use Rattle.lay_list_steps.specs.cell_laws.SoundCells.{CellRow}
+use Rattle.lay_cells.specs.Looks.{IsAt}
+use Rattle.lay_cells.specs.Places.{IsClaimed}
+use Rattle.lay_cells.specs.Rows.{entry_of}
+use Rattle.lay_cell_work.specs.Claims.{Claim}
+use Rattle.lay_cell_work.specs.CellLaws.SoundCells.{CellRow}
 use Rattle.lay_document_cells.specs.Claims.{GrantsClaim, IsReady, Passes}
 use Rattle.lay_document_cells.specs.State.{State}
 use Rattle.lay_document_cells.specs.declared.walking.Passed.{Passed}

@@ -1,7 +1,7 @@
 //! What claims of the cells of a document are answered.
 
-use lay_list_steps::cell_work::Claim;
-use lay_list_steps::shape::CellKey;
+use lay_cell_work::Claim;
+use lay_shape::CellKey;
 
 /// What a claim of a key comes to.
 #[derive(Drop)]

@@ -9,8 +9,8 @@ use crate::answers::Next;
 use crate::document_cells::DocumentCells;
 use crate::idle::{Idle, IdleKind};
 use crate::tally::Tally;
-use lay_claims::{ClaimList, Outcome, Outcomes};
-use lay_layout::units::NoMemory;
+use lay_cell_work::claim_lists::{ClaimList, Outcome, Outcomes};
+use lay_units::NoMemory;
 
 /// How a batch is answered where this is the first answer to a claim.
 fn batch_answer(first: Next) -> Result<Option<Idle>, NoMemory>

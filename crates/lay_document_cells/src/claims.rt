@@ -1,18 +1,18 @@
 //! Claims of the cell of a key, and claims that come back.
 
 ghost use Rattle.std.specs.Prelude.{◌≡◌, ◌≤◌, ◌<◌, ◌^◌, length};
-ghost use Rattle.lay_layout.specs.cells.Looks.{Looks};
-ghost use Rattle.lay_layout.specs.cells.Places.{AtPlace};
-ghost use Rattle.lay_layout.specs.cells.declared.answers.Look.TheVariants as look;
+ghost use Rattle.lay_cells.specs.Looks.{Looks};
+ghost use Rattle.lay_cells.specs.Places.{AtPlace};
+ghost use Rattle.lay_cells.specs.declared.answers.Look.TheVariants as look;
 ghost use Rattle.lay_document_cells.specs.Claims.{AnswersClaim, DrawsFew};
 ghost use Rattle.lay_document_cells.specs.Steps.{GivesBackTo};
 
 use crate::answers::Answer;
 use crate::document_cells::DocumentCells;
 use crate::walking::CLAIM_NUMBERS;
-use lay_layout::cells::{Claimed, Look, Released};
-use lay_list_steps::cell_work::Claim;
-use lay_list_steps::shape::CellKey;
+use lay_cell_work::Claim;
+use lay_cells::{Claimed, Look, Released};
+use lay_shape::CellKey;
 
 impl DocumentCells {
     /// Claims the cell of a key: Gone where there is none, Clean where it is clean, Waiting where it depends on a dirty one; else Spent

@@ -3,31 +3,31 @@
 ghost use Rattle.std.specs.Prelude.{◌≡◌, ◌+◌, IfOk, IfSome, IsTrue, None, OnOk, length};
 ghost use Rattle.std.specs.List.{All};
 ghost use Rattle.std.specs.Arc.{arc_value};
-ghost use Rattle.lay_layout.specs.style.ComputedStyle.{HasStyles};
-ghost use Rattle.lay_layout.specs.doc.Document.{declarations_of, parents_of};
-ghost use Rattle.lay_layout.specs.doc.Edits.{after, fault};
-ghost use Rattle.lay_layout.specs.edit_lists.EditLists.{after_all, first};
-ghost use Rattle.lay_list_steps.specs.changes.ContextFlags.{AreContextFlags};
-ghost use Rattle.lay_layout.specs.contexts.FormattingContextList.{AreFormattingContextsOf};
-ghost use Rattle.lay_later_contexts.specs.Changed.{AreMadeAnew, AreStaying};
-ghost use Rattle.lay_later_contexts.specs.Links.{AreRestyled};
+ghost use Rattle.lay_style.specs.ComputedStyle.{HasStyles};
+ghost use Rattle.lay_doc.specs.Document.{declarations_of, parents_of};
+ghost use Rattle.lay_doc.specs.Edits.{after, fault};
+ghost use Rattle.lay_history.specs.Edits.EditLists.{after_all, first};
+ghost use Rattle.lay_shape.specs.Touched.ContextFlags.{AreContextFlags};
+ghost use Rattle.lay_contexts.specs.FormattingContextList.{AreFormattingContextsOf};
+ghost use Rattle.lay_after_edits.specs.Contexts.Changed.{AreMadeAnew, AreStaying};
+ghost use Rattle.lay_after_edits.specs.Contexts.Links.{AreRestyled};
 ghost use Rattle.lay_document_cells.specs.TextEdits.{IsTextEdit};
 ghost use Rattle.lay_document_cells.specs.State.{AreStyledLists};
 
-use lay_cell_table::CellTable;
-use lay_later_cells::MeasuredList;
-use lay_later_contexts::{
+use lay_after_edits::contexts::{
     DocPair, EditedDoc, LaterContexts, RestyledNodes, changed_nodes, contexts_after,
     contexts_after_all, restyled_nodes,
 };
-use lay_layout::contexts::{Contexts, contexts_of};
-use lay_layout::doc::{Doc, Edit};
-use lay_layout::edit_lists::Edits;
-use lay_layout::inherit::computed;
-use lay_layout::restyled::restyled;
-use lay_layout::style::Computed;
-use lay_layout::units::NoMemory;
-use lay_list_steps::changes::MeasuredContexts;
+use lay_after_edits::styles::restyled;
+use lay_contexts::{Contexts, contexts_of};
+use lay_doc::{Doc, Edit};
+use lay_history::edits::Edits;
+use lay_inherit::computed;
+use lay_kept_cells::table::CellTable;
+use lay_shape::kept_shapes::MeasuredList;
+use lay_shape::touched::MeasuredContexts;
+use lay_style::Computed;
+use lay_units::NoMemory;
 use std::alloc::Global;
 use std::marker::Model;
 use std::sync::Arc;
@@ -41,7 +41,7 @@ pub(crate) struct DocumentTable {
 }
 
 impl Model for DocumentTable {
-    ghost use Rattle.lay_list_steps.specs.changes.ContextFlags.{AreContextFlags};
+    ghost use Rattle.lay_shape.specs.Touched.ContextFlags.{AreContextFlags};
     ghost use Rattle.lay_document_cells.specs.Kept.{TableValue, lists_in};
 
     ghost Value = { TableValue };

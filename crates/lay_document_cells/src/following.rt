@@ -1,22 +1,24 @@
 //! What an edit does to cells.
 
 ghost use Rattle.std.specs.Prelude.{◌≡◌, ◌≤◌, ◌+◌, ◌^◌, IfOk, IfSome, IsTrue, OnErr, OnOk, map};
-ghost use Rattle.lay_layout.specs.cell_progress.Grants.{laid_of_all};
-ghost use Rattle.lay_list_steps.specs.shape.Keys.{AreOfOwnNodes};
-ghost use Rattle.lay_layout.specs.cells.Rows.{entry_of};
-ghost use Rattle.lay_list_steps.specs.shape.Shapes.{shape_of};
-ghost use Rattle.lay_later_cells.specs.KeptBoxes.{AreOfSameNodes, KeepBoxes, KeepCells};
-ghost use Rattle.lay_later_contexts.specs.Links.{AreRestyled};
+ghost use Rattle.lay_cells.specs.Progress.Grants.{laid_of_all};
+ghost use Rattle.lay_shape.specs.Keys.{AreOfOwnNodes};
+ghost use Rattle.lay_cells.specs.Rows.{entry_of};
+ghost use Rattle.lay_shape.specs.Shapes.{shape_of};
+ghost use Rattle.lay_shape.specs.KeptShapes.KeptBoxes.{AreOfSameNodes, KeepBoxes, KeepCells};
+ghost use Rattle.lay_after_edits.specs.Contexts.Links.{AreRestyled};
 ghost use Rattle.lay_document_cells.specs.Edits.{FollowsLists};
 
 use crate::document_table::DocumentTable;
-use lay_later_cells::{are_of_same_nodes, changed_flags, keys_of_touched, restyled_keep_cells};
-use lay_layout::cell_progress::{marks_count, reshapes_count, reshapes_draw};
-use lay_layout::cells::{Cells, Shape, present_shape_keeps};
-use lay_layout::units::NoMemory;
-use lay_list_steps::cell_work::Layout;
-use lay_list_steps::changes::changed_keys;
-use lay_list_steps::shape::CellKey;
+use lay_cell_work::Layout;
+use lay_cells::progress::{marks_count, reshapes_count, reshapes_draw};
+use lay_cells::{Cells, Shape, present_shape_keeps};
+use lay_shape::CellKey;
+use lay_shape::kept_shapes::{
+    are_of_same_nodes, changed_flags, keys_of_touched, restyled_keep_cells,
+};
+use lay_shape::touched::changed_keys;
+use lay_units::NoMemory;
 use std::alloc::Global;
 
 /// The cells of the contexts before an edit become those of the contexts after it, of which it may be known that just these boxes were made

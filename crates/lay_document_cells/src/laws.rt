@@ -4,16 +4,16 @@ ghost use Rattle.lay_document_cells.specs.TreeLengths.{TreesListContexts};
 ghost use Rattle.lay_document_cells.specs.Laws.{BatchesWork, ClaimsWork, CleanCellsAreCounted, NextClaimsWork, OneEdit, OutcomesWork};
 ghost use Rattle.lay_document_cells.specs.Laws.{SettlingGivesNothingBack, SettlingWorks, StoppingWorks, WorkKeepsCells};
 
-use lay_layout::cell_progress::{
+use lay_cell_work::Layout;
+use lay_cells::progress::{
     claims_count, claims_keep_rows, clean_cells_count, finishes_count, finishes_keep_rows,
     give_backs_count, give_backs_keep_rows, keeping_is_transitive,
 };
-use lay_layout::cells::{one_marking, one_reshape};
-use lay_layout::contexts::{one_context_list, one_formatting_context_list};
-use lay_layout::doc::one_style_column;
-use lay_list_steps::cell_work::Layout;
-use lay_list_steps::changes::one_list_of_touched_keys;
-use lay_list_steps::shape::{cells_have_a_shape, contexts_are_of_own_nodes};
+use lay_cells::{one_marking, one_reshape};
+use lay_contexts::{one_context_list, one_formatting_context_list};
+use lay_doc::one_style_column;
+use lay_shape::touched::one_list_of_touched_keys;
+use lay_shape::{cells_have_a_shape, contexts_are_of_own_nodes};
 
 /// Work on cells makes none anew, drops none and dirties none, and each grant is counted.
 pub fn work_keeps_cells()

@@ -30,6 +30,4 @@ pub use laws::{
     claims_work, clean_cells_are_counted, one_edit, settling_gives_nothing_back, settling_works,
     stopping_works, trees_list_contexts, work_keeps_cells,
 };
-pub use lay_claims as claim_lists;
-pub use lay_list_steps::{cell_laws as cell_laws, cell_work as cell_work, shape as shape};
 pub use tally::Tally;

@@ -1,14 +1,14 @@
 //! What a document is laid out on.
 
 ghost use Rattle.std.specs.Prelude.{◌≡◌};
-ghost use Rattle.lay_layout.specs.abspos.ViewportBounds.{ViewportFits};
-ghost use Rattle.lay_layout.specs.context.Solves.{medium_of, viewport_of};
+ghost use Rattle.lay_abspos.specs.ViewportBounds.{ViewportFits};
+ghost use Rattle.lay_context.specs.Solves.{medium_of, viewport_of};
 
-use lay_layout::context::Medium;
-use lay_layout::doc::Doc;
-use lay_layout::face::Face;
-use lay_layout::sizes::ContainingBlock;
-use lay_layout::units::{Len, Unit};
+use lay_context::Medium;
+use lay_doc::Doc;
+use lay_face::Face;
+use lay_sizes::ContainingBlock;
+use lay_units::{Len, Unit};
 use std::sync::Arc;
 
 /// The viewport of a document, and this face.

@@ -2,20 +2,20 @@
 
 ghost use Rattle.std.specs.Prelude.{◌≡◌, ◌+◌, ◌≤◌, ◌<◌, ◌^◌, ◌-◌, OnErr, OnOk, length};
 ghost use Rattle.std.specs.Arc.{arc_value};
-ghost use Rattle.lay_layout.specs.cells.Looks.{Looks};
-ghost use Rattle.lay_layout.specs.cells.Places.{AtPlace};
-ghost use Rattle.lay_layout.specs.cells.declared.answers.Look.TheVariants as look;
+ghost use Rattle.lay_cells.specs.Looks.{Looks};
+ghost use Rattle.lay_cells.specs.Places.{AtPlace};
+ghost use Rattle.lay_cells.specs.declared.answers.Look.TheVariants as look;
 ghost use Rattle.lay_document_cells.specs.Settling.{AreCleanBefore, FinishesWork, GivesBackWork, GivesUpAt, SettlesAt, SettlesTo, StopsAt};
 
 use crate::document_cells::DocumentCells;
-use lay_layout::cell_progress::{
+use lay_cell_work::{CellInput, Layout, value_of_cell};
+use lay_cells::progress::{
     claims_keep_rows, finished_cells_are_clean, finishes_keep_rows, give_backs_keep_rows,
     granted_claims_are_released, reused_cells_are_clean,
 };
-use lay_layout::cells::{Claimed, Done, Look};
-use lay_layout::units::NoMemory;
-use lay_list_steps::cell_work::{CellInput, Layout, value_of_cell};
-use lay_list_steps::shape::CellKey;
+use lay_cells::{Claimed, Done, Look};
+use lay_shape::CellKey;
+use lay_units::NoMemory;
 use std::sync::Arc;
 
 impl DocumentCells {

@@ -3,7 +3,7 @@
 ghost use Rattle.std.specs.Prelude.{◌≡◌, option_map};
 ghost use Rattle.lay_document_cells.specs.Kept.{HaveCount, since_edit};
 
-use lay_settled_cells::Since;
+use lay_kept_cells::settled::Since;
 
 /// It is known from the edit on, where all cells were clean before it, and else since it was. Where cells don't keep their shape
 /// nothing is known.

@@ -2,24 +2,24 @@
 
 ghost use Rattle.std.specs.Prelude.{◌≡◌, ◌+◌, ◌≤◌, ◌^◌, ◌-◌, IfOk};
 ghost use Rattle.std.specs.Arc.{arc_value};
-ghost use Rattle.lay_layout.specs.cells.Looks.{Looks};
-ghost use Rattle.lay_layout.specs.cells.Places.{AtPlace};
-ghost use Rattle.lay_layout.specs.cells.declared.answers.Look.TheVariants as look;
+ghost use Rattle.lay_cells.specs.Looks.{Looks};
+ghost use Rattle.lay_cells.specs.Places.{AtPlace};
+ghost use Rattle.lay_cells.specs.declared.answers.Look.TheVariants as look;
 ghost use Rattle.lay_document_cells.specs.Steps.{ClaimsTo, FinishesTo, GivesBackTo, IsGivenNow};
 
 use crate::document_cells::DocumentCells;
-use lay_cell_table::input_at;
-use lay_layout::cell_progress::{
+use lay_cell_work::{CellInput, Layout};
+use lay_cells::progress::{
     claims_count, finishes_count, finishes_keep_rows, give_backs_count, give_backs_keep_rows,
 };
-use lay_layout::cells::{Claimed, Done, Finished, Released};
-use lay_layout::contexts::{one_context_list, one_formatting_context_list};
-use lay_layout::doc::one_style_column;
-use lay_layout::units::NoMemory;
-use lay_list_steps::cell_steps::{claims_keep_cells, finishes_keep_cells, give_backs_keep_cells};
-use lay_list_steps::cell_work::{CellInput, Layout};
-use lay_list_steps::shape::CellKey;
-use lay_settled_cells::{claims_keep_since, finishes_keep_since, give_backs_keep_since};
+use lay_cells::{Claimed, Done, Finished, Released};
+use lay_contexts::{one_context_list, one_formatting_context_list};
+use lay_doc::one_style_column;
+use lay_kept_cells::settled::{claims_keep_since, finishes_keep_since, give_backs_keep_since};
+use lay_kept_cells::steps::{claims_keep_cells, finishes_keep_cells, give_backs_keep_cells};
+use lay_kept_cells::table::input_at;
+use lay_shape::CellKey;
+use lay_units::NoMemory;
 use std::sync::Arc;
 
 impl DocumentCells {

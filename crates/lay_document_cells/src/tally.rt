@@ -3,7 +3,7 @@
 ghost use Rattle.std.specs.Prelude.{◌≡◌, ◌+◌, ◌-◌, ◌<◌, ◌^◌};
 ghost use Rattle.lay_document_cells.specs.Outcomes.{counted, finished, no_answers, released, tally_sum};
 
-use lay_layout::cells::{Finished, Released};
+use lay_cells::{Finished, Released};
 use std::marker::Model;
 
 /// How many outcomes `finish_all` answered in each way. No other call makes one.

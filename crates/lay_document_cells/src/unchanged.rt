@@ -1,18 +1,18 @@
 //! Claims of cells that are known to keep what they would be given now.
 
 ghost use Rattle.std.specs.Prelude.{◌≤◌, ◌^◌, ◌-◌, IsTrue};
-ghost use Rattle.lay_layout.specs.cells.Looks.{Looks};
-ghost use Rattle.lay_layout.specs.cells.Places.{AtPlace};
-ghost use Rattle.lay_layout.specs.cells.declared.answers.Look.TheVariants as look;
+ghost use Rattle.lay_cells.specs.Looks.{Looks};
+ghost use Rattle.lay_cells.specs.Places.{AtPlace};
+ghost use Rattle.lay_cells.specs.declared.answers.Look.TheVariants as look;
 ghost use Rattle.lay_document_cells.specs.Unchanged.{CanReuseGiven, KeepsGiven, ReusesGiven};
 
 use crate::document_cells::DocumentCells;
-use lay_layout::cell_progress::claims_count;
-use lay_layout::contexts::{one_context_list, one_formatting_context_list};
-use lay_layout::doc::one_style_column;
-use lay_list_steps::cell_steps::claims_keep_cells;
-use lay_list_steps::cell_work::Layout;
-use lay_settled_cells::{claims_keep_since, unchanged_cells_keep_inputs};
+use lay_cell_work::Layout;
+use lay_cells::progress::claims_count;
+use lay_contexts::{one_context_list, one_formatting_context_list};
+use lay_doc::one_style_column;
+use lay_kept_cells::settled::{claims_keep_since, unchanged_cells_keep_inputs};
+use lay_kept_cells::steps::claims_keep_cells;
 
 impl DocumentCells {
     /// Whether it is known that the cell at a place, which is ready, keeps what it would be given now.

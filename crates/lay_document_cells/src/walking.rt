@@ -2,19 +2,19 @@
 
 ghost use Rattle.std.specs.Prelude.{◌≡◌, ◌+◌, ◌≤◌, ◌<◌, ◌^◌, ◌-◌, IfOk, OnErr, length};
 ghost use Rattle.std.specs.Arc.{arc_value};
-ghost use Rattle.lay_layout.specs.cells.Looks.{Looks};
-ghost use Rattle.lay_layout.specs.cells.Places.{AtPlace};
-ghost use Rattle.lay_layout.specs.cells.declared.answers.Look.TheVariants as look;
+ghost use Rattle.lay_cells.specs.Looks.{Looks};
+ghost use Rattle.lay_cells.specs.Places.{AtPlace};
+ghost use Rattle.lay_cells.specs.declared.answers.Look.TheVariants as look;
 ghost use Rattle.lay_document_cells.specs.Claims.{AnswersNext, DrawsFew, HasDirtyCell, IsOpenToClaims};
 ghost use Rattle.lay_document_cells.specs.Steps.{ClaimsTo};
 ghost use Rattle.lay_document_cells.specs.Walks.{DrawsFrom, IsLeastAfter, IsLesser, IsWalked, PassesAt};
 
 use crate::answers::Next;
 use crate::document_cells::DocumentCells;
-use lay_layout::cell_progress::claims_keep_rows;
-use lay_layout::cells::{Claimed, Look};
-use lay_layout::units::NoMemory;
-use lay_list_steps::cell_work::{CellInput, Claim, Layout};
+use lay_cell_work::{CellInput, Claim, Layout};
+use lay_cells::progress::claims_keep_rows;
+use lay_cells::{Claimed, Look};
+use lay_units::NoMemory;
 use std::sync::Arc;
 
 /// So many numbers are drawn by claims; those above are kept for edits and for settling.

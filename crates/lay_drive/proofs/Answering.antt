@@ -1,9 +1,9 @@
 -- The calls of an editor in a history are those of its entries.
 use Rattle.std.proofs.Common.{◌≡◌, ℕ, zero, suc, ◌+◌, ◌<◌, ◌≤◌, Bool, true, false, if◌then◌else◌, ◌==◌, List, [], ◌∷◌, ◌++◌, length, slice_get, slice_index_or, Option, Some, None, refl, sym, ap, ◌∙◌, subst, arith, rules, inl, inr}
-use Rattle.lay_layout.specs.edit_lists.declared.command.Cmd.TheVariants as command
-use Rattle.lay_layout.specs.edit_lists.declared.history.Entry.{Entry}
-use Rattle.lay_layout.specs.edit_lists.declared.history.Entry.TheVariants.{Edit, Publish, Latest, Sync}
-use Rattle.lay_layout.specs.history.Calls.{Call, calls, calls_of, script_calls}
+use Rattle.lay_history.specs.declared.edits.command.Cmd.TheVariants as command
+use Rattle.lay_history.specs.declared.edits.history.Entry.{Entry}
+use Rattle.lay_history.specs.declared.edits.history.Entry.TheVariants.{Edit, Publish, Latest, Sync}
+use Rattle.lay_history.specs.Calls.{Call, calls, calls_of, script_calls}
 use Rattle.lay_board.specs.Entries.{by_editor}
 use Rattle.lay_board.specs.Passes.{IsKnownIn, PassOf}
 use Rattle.lay_drive.specs.Laws.{PassesAnswerScripts}

@@ -1,9 +1,9 @@
 -- The calls of a pass, one by one.
 use Rattle.std.proofs.Common.{◌≡◌, ℕ, suc, ◌+◌, ◌<◌, ◌≤◌, List, [], ◌∷◌, ◌++◌, length, refl, sym, ap, ◌∙◌, arith, append_assoc, append-nil, length-append}
-use Rattle.lay_layout.specs.edit_lists.declared.command.Cmd.{Cmd}
-use Rattle.lay_layout.specs.edit_lists.declared.history.Entry.{Entry}
-use Rattle.lay_layout.specs.history.Calls.{Call, call_in, calls, script_calls}
-use Rattle.lay_layout.proofs.lay_history.OneMore.{calls_more}
+use Rattle.lay_history.specs.declared.edits.command.Cmd.{Cmd}
+use Rattle.lay_history.specs.declared.edits.history.Entry.{Entry}
+use Rattle.lay_history.specs.Calls.{Call, call_in, calls, script_calls}
+use Rattle.lay_history.proofs.OneMore.{calls_more}
 use Rattle.lay_board.specs.Passes.{Calls, PassOf}
 use Rattle.lay_drive.specs.Runs.{AreCalled, IsCalled}
 

@@ -4,12 +4,12 @@ use Rattle.std.proofs.lemmas.List.{length-map}
 use Rattle.std.proofs.lemmas.Option.{get_or_from_slice_get, slice_get-get_or, same_Some, slice_get-map, slice_get_within}
 use Rattle.std.specs.List.{All}
 use Rattle.atomic_table.specs.Seated.{TableId}
-use Rattle.lay_layout.specs.edit_lists.declared.command.Cmd.{Cmd}
-use Rattle.lay_layout.specs.edit_lists.declared.history.Entry.{Entry}
-use Rattle.lay_layout.specs.history.Calls.{AnswersScripts, calls, calls_of, script_calls}
-use Rattle.lay_board.specs.editing_core.Publishing.{RefreshesTo}
-use Rattle.lay_board.specs.editing_core.State.{State}
-use Rattle.lay_board.proofs.lay_core.Quiet.{refresh_quiet}
+use Rattle.lay_history.specs.declared.edits.command.Cmd.{Cmd}
+use Rattle.lay_history.specs.declared.edits.history.Entry.{Entry}
+use Rattle.lay_history.specs.Calls.{AnswersScripts, calls, calls_of, script_calls}
+use Rattle.lay_core.specs.Publishing.{RefreshesTo}
+use Rattle.lay_core.specs.State.{State}
+use Rattle.lay_core.proofs.Quiet.{refresh_quiet}
 use Rattle.lay_board.specs.Entries.{by_editor}
 use Rattle.lay_board.specs.Passes.{AreNew, CloserOf, IsKnownIn, PassOf, new_pass}
 use Rattle.lay_board.specs.Rules.{IsNoEditor}

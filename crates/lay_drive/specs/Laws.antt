@@ -1,9 +1,9 @@
 -- What the passes of a run say of its history.
 use Rattle.std.specs.Prelude.{ℕ, ◌≡◌, ◌+◌, List, length, slice_get, slice_index_or, Some, []}
 use Rattle.std.specs.List.{All}
-use Rattle.lay_layout.specs.edit_lists.declared.command.Cmd.{Cmd}
-use Rattle.lay_layout.specs.edit_lists.declared.history.Entry.{Entry}
-use Rattle.lay_layout.specs.history.Calls.{AnswersScripts, calls, script_calls}
+use Rattle.lay_history.specs.declared.edits.command.Cmd.{Cmd}
+use Rattle.lay_history.specs.declared.edits.history.Entry.{Entry}
+use Rattle.lay_history.specs.Calls.{AnswersScripts, calls, script_calls}
 use Rattle.lay_board.specs.Entries.{by_editor}
 use Rattle.lay_board.specs.Passes.{IsKnownIn, PassOf}
 use Rattle.lay_board.specs.Rules.{IsNoEditor}

@@ -1,9 +1,9 @@
 -- What editors on threads of their own come to: each pass makes the calls of its script, once and in order.
 use Rattle.std.specs.Prelude.{ℕ, ◌≡◌, ◌+◌, List, [], ◌∷◌, ◌++◌, length, slice_get, Some}
 use Rattle.atomic_table.specs.Seated.{TableId}
-use Rattle.lay_layout.specs.edit_lists.declared.command.Cmd.{Cmd}
-use Rattle.lay_layout.specs.edit_lists.declared.history.Entry.{Entry}
-use Rattle.lay_layout.specs.history.Calls.{call_in, calls, script_calls}
+use Rattle.lay_history.specs.declared.edits.command.Cmd.{Cmd}
+use Rattle.lay_history.specs.declared.edits.history.Entry.{Entry}
+use Rattle.lay_history.specs.Calls.{call_in, calls, script_calls}
 use Rattle.lay_board.specs.Passes.{PassOf, new_pass}
 use Rattle.lay_board.specs.declared.views.Origin.{Origin}
 use Rattle.lay_drive.specs.declared.jobs.Job.{Job}

@@ -7,7 +7,7 @@ ghost use Rattle.lay_drive.specs.Runs.{AreRun, IsCalled, IsRun};
 use crate::jobs::Job;
 use crate::session::Session;
 use lay_board::Pass;
-use lay_layout::edit_lists::Cmd;
+use lay_history::edits::Cmd;
 use lay_outside::{Gate, Point};
 use std::alloc::AllocError;
 use std::sync::Wait;

@@ -4,9 +4,9 @@ ghost use Rattle.std.specs.Prelude.{◌≡◌, ◌≤◌, length, map, IfOk};
 ghost use Rattle.std.specs.List.{All};
 
 use lay_board::Pass;
-use lay_layout::edit_lists::CmdList;
-use lay_layout::run::ScriptList;
-use lay_layout::units::NoMemory;
+use lay_history::edits::CmdList;
+use lay_run::ScriptList;
+use lay_units::NoMemory;
 use std::alloc::Global;
 use std::collections::VecDeque;
 

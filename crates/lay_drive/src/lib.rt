@@ -16,7 +16,4 @@ mod session;
 mod workers;
 
 pub use laws::passes_answer_scripts;
-pub use lay_board::editing_core as editing_core;
-pub use lay_pool as pool;
-pub use lay_pool::{cell_work as cell_work, claim_lists as claim_lists, shape as shape};
 pub use run::drive;

@@ -2,8 +2,8 @@
 
 ghost use Rattle.std.specs.Prelude.{◌≡◌, ◌<◌, ◌≤◌, length, IfOk};
 ghost use Rattle.std.specs.List.{All};
-ghost use Rattle.lay_layout.specs.history.Calls.{AnswersScripts};
-ghost use Rattle.lay_layout.specs.history.Legal.{IsWhole};
+ghost use Rattle.lay_history.specs.Calls.{AnswersScripts};
+ghost use Rattle.lay_history.specs.Legal.{IsWhole};
 ghost use Rattle.lay_drive.specs.Runs.{AreRun};
 
 use crate::editors::edit_all;
@@ -11,12 +11,12 @@ use crate::jobs::{Job, counts, paired};
 use crate::progress::Progress;
 use crate::session::Session;
 use crate::workers::work_all;
-use lay_board::editing_core::Core;
 use lay_board::{Engine, Pass, Passes};
-use lay_layout::run::RunDoc;
-use lay_layout::units::NoMemory;
+use lay_core::Core;
 use lay_outside::Gate;
 use lay_pool::{Hand, hands};
+use lay_run::RunDoc;
+use lay_units::NoMemory;
 use std::alloc::{AllocError, Global};
 use std::sync::Wait;
 use std::thread;

@@ -3,11 +3,11 @@
 ghost use Rattle.std.specs.Prelude.{◌≡◌, ◌<◌, ◌≤◌, [], vec_capacity};
 
 use crate::session::Session;
-use lay_board::editing_core::IdleKind;
 use lay_board::{Batch, Exchange};
+use lay_cell_work::claim_lists::{ClaimList, Outcome, Outcomes};
+use lay_core::IdleKind;
 use lay_outside::Gate;
 use lay_pool::Hand;
-use lay_pool::claim_lists::{ClaimList, Outcome, Outcomes};
 use std::alloc::Global;
 use std::sync::Wait;
 use std::thread::Threads;

@@ -5,21 +5,21 @@ use Rattle.std.proofs.lemmas.Bool.{cases_lt}
 use Rattle.std.proofs.lemmas.Grind.{elements}
 use Rattle.std.proofs.lemmas.Int.{ints}
 use Rattle.lay_floats.specs.declared.requests.Place.{Place}
-use Rattle.lay_blocks.specs.declared.flow_box.FlowBox.{FlowBox}
-use Rattle.lay_blocks.specs.declared.flow_places.BoxPlace.{BoxPlace}
+use Rattle.lay_flow.specs.declared.blocks.flow_box.FlowBox.{FlowBox}
+use Rattle.lay_flow.specs.declared.blocks.flow_places.BoxPlace.{BoxPlace}
 use Rattle.lay_flow.specs.declared.flow_columns.FlowColumns.{FlowColumns}
-use Rattle.lay_blocks.specs.Boxes.{box_at}
-use Rattle.lay_blocks.specs.BlockFloats.{Spot, no_place, place_at, spot_at}
+use Rattle.lay_flow.specs.Blocks.Boxes.{box_at}
+use Rattle.lay_flow.specs.Blocks.BlockFloats.{Spot, no_place, place_at, spot_at}
 use Rattle.lay_flow.specs.declared.pass.Pass.{Pass}
-use Rattle.lay_blocks.specs.Weights.{weight}
+use Rattle.lay_flow.specs.Blocks.Weights.{weight}
 use Rattle.lay_floats.specs.declared.requests.NodePlace.{NodePlace}
 use Rattle.lay_floats.specs.Within.{IsWithin}
 use Rattle.lay_lines.specs.declared.row.Ended.{Ended}
 use Rattle.lay_lines.specs.Lines.{LinesValue, LinesWithin, NodePlaceWithin, RowWithin}
-use Rattle.lay_blocks.specs.FlowBoxes.{AreFlowBoxes}
-use Rattle.lay_blocks.specs.FlowPlaces.{AreNearRows, IsFlowOf, border_box, border_box_in, box_place_at, line_places, own_place, place_in_lines, place_or, AreCorners, corner_at, joined}
+use Rattle.lay_flow.specs.Blocks.FlowBoxes.{AreFlowBoxes}
+use Rattle.lay_flow.specs.Blocks.FlowPlaces.{AreNearRows, IsFlowOf, border_box, border_box_in, box_place_at, line_places, own_place, place_in_lines, place_or, AreCorners, corner_at, joined}
 use Rattle.lay_flow.specs.Pass.Columns.{AreBorderBoxes, AreColumnsOf, AreNearColumns, IsFarPlace}
-use Rattle.lay_blocks.specs.Lengths.{length_at}
+use Rattle.lay_flow.specs.Blocks.Lengths.{length_at}
 use Rattle.lay_flow.specs.Pass.Bounds.{AreBoxHeights, AreNear, reach}
 use Rattle.lay_flow.specs.Pass.Known.{IsFinished}
 use Rattle.lay_flow.specs.Pass.Placed.{IsPlaceNear}

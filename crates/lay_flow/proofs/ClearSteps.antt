@@ -1,8 +1,8 @@
 -- What is known once it is decided whether a box has clearance.
 use Rattle.std.proofs.Common.{◌≡◌, ◌⊎◌, ℕ, ◌+◌, ◌<◌, ◌≤◌, not, nat_lt, Bool, true, false, ℤ, ◌-ℤ◌, List, [], length, refl, sym, ap, ◌∙◌, arith, inl, inr, Option, Some, None, subst}
 use Rattle.std.proofs.lemmas.Bool.{cases_lt, cases_eq}
-use Rattle.lay_blocks.specs.declared.flow_box.FlowBox.{FlowBox}
-use Rattle.lay_blocks.specs.Boxes.{box_at, parent_at, parents_of}
+use Rattle.lay_flow.specs.declared.blocks.flow_box.FlowBox.{FlowBox}
+use Rattle.lay_flow.specs.Blocks.Boxes.{box_at, parent_at, parents_of}
 use Rattle.lay_units.specs.declared.length.Unit.{Unit as Length}
 use Rattle.lay_units.specs.Units.{IsUsed}
 use Rattle.lay_margins.specs.StrutValue.{StrutValue}
@@ -12,13 +12,13 @@ use Rattle.lay_floats.specs.declared.requests.Clear.{Clear}
 use Rattle.lay_floats.specs.declared.requests.Clear.TheVariants.{None as clear_none}
 use Rattle.lay_floats.specs.ClearEdge.{Clears, IsClearEdge}
 use Rattle.lay_doc.specs.Tree.{IsTree}
-use Rattle.lay_blocks.specs.Lengths.{length_at}
-use Rattle.lay_blocks.specs.Children.{flag_at}
-use Rattle.lay_blocks.specs.MarginRuns.{block_at, margins, has_top, run_at, run_before}
-use Rattle.lay_blocks.specs.BlockLayout.{BlockLayout}
-use Rattle.lay_blocks.specs.BlockPositions.{IsBlockLayout, is_lines, start_before}
-use Rattle.lay_blocks.specs.BlockFloats.{Spot, shape_at, floats_before}
-use Rattle.lay_blocks.specs.Clearance.{IsHypothetical, HasClearedFloat, IsAbove, lower_of, HasClearance}
+use Rattle.lay_flow.specs.Blocks.Lengths.{length_at}
+use Rattle.lay_flow.specs.Blocks.Children.{flag_at}
+use Rattle.lay_flow.specs.Blocks.MarginRuns.{block_at, margins, has_top, run_at, run_before}
+use Rattle.lay_flow.specs.Blocks.BlockLayout.{BlockLayout}
+use Rattle.lay_flow.specs.Blocks.BlockPositions.{IsBlockLayout, is_lines, start_before}
+use Rattle.lay_flow.specs.Blocks.BlockFloats.{Spot, shape_at, floats_before}
+use Rattle.lay_flow.specs.Blocks.Clearance.{IsHypothetical, HasClearedFloat, IsAbove, lower_of, HasClearance}
 use Rattle.lay_flow.specs.Pass.State.{PassState, IsAt, Settled, columns_of, Clearances, clearances_of, ended_run}
 use Rattle.lay_flow.specs.Pass.Bounds.{IsEdgeNear}
 use Rattle.lay_flow.specs.Pass.Struts.{StrutFits}
@@ -26,23 +26,23 @@ use Rattle.lay_flow.specs.Pass.Placed.{Placing, PlacesTo}
 use Rattle.lay_flow.specs.Pass.Knows.{Knows, IsReady, MayBe, IsCandidate, AreExtentsKept, ArePlacesKept}
 use Rattle.lay_flow.specs.Pass.Clears.{HasWaitingFloat, IsAboveFloats}
 use Rattle.lay_flow.proofs.ClearedFloats.{edge_of_more, higher_with_more}
-use Rattle.lay_blocks.proofs.HangingRuns.{hangs_at_edge}
-use Rattle.lay_blocks.proofs.Hypotheticals.{some_hypothetical_lem}
+use Rattle.lay_flow.proofs.BlocksLemmas.HangingRuns.{hangs_at_edge}
+use Rattle.lay_flow.proofs.BlocksLemmas.Hypotheticals.{some_hypothetical_lem}
 use Rattle.lay_flow.proofs.Openings.{opened_cleared}
 use Rattle.lay_flow.proofs.PassFits.{fits_cleared, start_edge_near}
 use Rattle.lay_flow.proofs.PlacedOn.{IsMarkWithout}
 use Rattle.lay_flow.proofs.PassSteps.{may_before, no_extents_kept, places_before, decided_placed}
-use Rattle.lay_blocks.proofs.FloatLists.{floats_same}
-use Rattle.lay_blocks.proofs.RunFacts.{lead_goes_on}
+use Rattle.lay_flow.proofs.BlocksLemmas.FloatLists.{floats_same}
+use Rattle.lay_flow.proofs.BlocksLemmas.RunFacts.{lead_goes_on}
 use Rattle.lay_flow.proofs.RunReach.{RunEnds}
 use Rattle.lay_flow.proofs.SoFar.{Wrote}
-use Rattle.lay_blocks.proofs.Truths.{true_false, true_or, low_not, low_yes}
-use Rattle.lay_blocks.specs.FlowBoxes.{IsFlowTree, is_in_lines}
-use Rattle.lay_blocks.specs.Weights.{weight}
-use Rattle.lay_blocks.proofs.BlockKinds.{placed_none}
-use Rattle.lay_blocks.proofs.FlowBoxFacts.{in_lines_unclear}
-use Rattle.lay_blocks.proofs.PlacedInRuns.{placed_in_run}
-use Rattle.lay_blocks.specs.MarginPlace.{margin_place}
+use Rattle.lay_flow.proofs.BlocksLemmas.Truths.{true_false, true_or, low_not, low_yes}
+use Rattle.lay_flow.specs.Blocks.FlowBoxes.{IsFlowTree, is_in_lines}
+use Rattle.lay_flow.specs.Blocks.Weights.{weight}
+use Rattle.lay_flow.proofs.BlocksLemmas.BlockKinds.{placed_none}
+use Rattle.lay_flow.proofs.BlocksLemmas.FlowBoxFacts.{in_lines_unclear}
+use Rattle.lay_flow.proofs.BlocksLemmas.PlacedInRuns.{placed_in_run}
+use Rattle.lay_flow.specs.Blocks.MarginPlace.{margin_place}
 
 no_some : {A : Type 0} (v : A) → None ≡ Some v → ⊥
 no_some v e = grind (arith, e)

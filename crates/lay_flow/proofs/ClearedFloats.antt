@@ -2,21 +2,21 @@
 use Rattle.std.proofs.Common.{◌≡◌, true, false, ℕ, zero, suc, ◌<◌, ◌≤◌, ℤ, List, [], ◌++◌, refl, sym, ap, arith, inl, inr, Option, Some, None, subst}
 use Rattle.std.proofs.lemmas.Bool.{cases_lt}
 use Rattle.std.proofs.lemmas.Int.{ints}
-use Rattle.lay_blocks.specs.declared.flow_box.FlowBox.{FlowBox}
+use Rattle.lay_flow.specs.declared.blocks.flow_box.FlowBox.{FlowBox}
 use Rattle.lay_units.specs.declared.length.Unit.{Unit as Length}
 use Rattle.lay_floats.specs.declared.placed.Placed.{Placed}
 use Rattle.lay_floats.specs.declared.requests.Side.{Side}
 use Rattle.lay_floats.specs.declared.requests.Clear.{Clear}
-use Rattle.lay_blocks.specs.declared.block.Inside.{Inside}
-use Rattle.lay_blocks.specs.declared.block.Inside.TheVariants.{Blocks as blocks_inside, Lines as lines_inside, Solid as solid_inside}
-use Rattle.lay_blocks.specs.MarginRuns.{block_at}
-use Rattle.lay_blocks.specs.BlockPositions.{is_lines}
-use Rattle.lay_blocks.proofs.Truths.{true_false}
+use Rattle.lay_flow.specs.declared.blocks.block.Inside.{Inside}
+use Rattle.lay_flow.specs.declared.blocks.block.Inside.TheVariants.{Blocks as blocks_inside, Lines as lines_inside, Solid as solid_inside}
+use Rattle.lay_flow.specs.Blocks.MarginRuns.{block_at}
+use Rattle.lay_flow.specs.Blocks.BlockPositions.{is_lines}
+use Rattle.lay_flow.proofs.BlocksLemmas.Truths.{true_false}
 use Rattle.lay_floats.specs.ClearEdge.{Clears, IsClearEdge}
-use Rattle.lay_blocks.specs.BlockFloats.{Spot, float_of, floats_after, floats_before, place_at, spot_at, shape_at}
-use Rattle.lay_blocks.specs.Clearance.{IsAbove}
-use Rattle.lay_blocks.proofs.FloatLists.{nothing_more}
-use Rattle.lay_blocks.proofs.FloatLists.{Has, has_there, has_back}
+use Rattle.lay_flow.specs.Blocks.BlockFloats.{Spot, float_of, floats_after, floats_before, place_at, spot_at, shape_at}
+use Rattle.lay_flow.specs.Blocks.Clearance.{IsAbove}
+use Rattle.lay_flow.proofs.BlocksLemmas.FloatLists.{nothing_more}
+use Rattle.lay_flow.proofs.BlocksLemmas.FloatLists.{Has, has_there, has_back}
 
 has_nothing : (xs : List Placed) (f : Placed) → Has (xs ++ []) f → Has xs f
 has_nothing xs f w = subst (λ (zs : List Placed). Has zs f) (nothing_more xs) w

@@ -1,28 +1,28 @@
 -- A box is closed.
 use Rattle.std.proofs.Common.{◌≡◌, ℕ, ◌<◌, ◌≤◌, ◌==◌, ◌&&◌, ◌||◌, not, nat_lt, Bool, true, false, ℤ, pos, ◌+ℤ◌, ◌-ℤ◌, List, [], ◌∷◌, ◌++◌, length, refl, sym, ap, ◌∙◌, arith, inl, inr}
 use Rattle.std.proofs.lemmas.Bool.{cases_eq}
-use Rattle.lay_blocks.specs.declared.flow_box.FlowBox.{FlowBox}
-use Rattle.lay_blocks.specs.Boxes.{parent_at, parents_of}
+use Rattle.lay_flow.specs.declared.blocks.flow_box.FlowBox.{FlowBox}
+use Rattle.lay_flow.specs.Blocks.Boxes.{parent_at, parents_of}
 use Rattle.lay_units.specs.declared.length.Unit.{Unit as Length}
 use Rattle.lay_margins.specs.StrutValue.{StrutValue}
 use Rattle.lay_margins.specs.Collapse.{Holds, collapse}
 use Rattle.lay_doc.specs.Tree.{IsTree}
-use Rattle.lay_blocks.specs.Lengths.{length_at}
-use Rattle.lay_blocks.specs.Children.{flag_at}
-use Rattle.lay_blocks.specs.MarginRuns.{Entry, margin, margins, has_top, is_barred, block_at, run_at, run_before, run_across, joins_bottom, may_collapse_through, may_join_bottoms}
-use Rattle.lay_blocks.specs.BlockLayout.{BlockLayout}
-use Rattle.lay_blocks.specs.BlockPositions.{IsBlockLayout, start_before, start_below}
+use Rattle.lay_flow.specs.Blocks.Lengths.{length_at}
+use Rattle.lay_flow.specs.Blocks.Children.{flag_at}
+use Rattle.lay_flow.specs.Blocks.MarginRuns.{Entry, margin, margins, has_top, is_barred, block_at, run_at, run_before, run_across, joins_bottom, may_collapse_through, may_join_bottoms}
+use Rattle.lay_flow.specs.Blocks.BlockLayout.{BlockLayout}
+use Rattle.lay_flow.specs.Blocks.BlockPositions.{IsBlockLayout, start_before, start_below}
 use Rattle.lay_flow.specs.Pass.State.{Settled, PassState, IsAt, columns_of, ended_run}
-use Rattle.lay_blocks.proofs.CollapsedThrough.{through_inside}
-use Rattle.lay_blocks.proofs.GatheredRuns.{comes_here, comes_up, last_up, childless_on, passes_here, close_joined as gathered_joined, close_parted as gathered_parted}
-use Rattle.lay_blocks.proofs.LayoutFacts.{start_next, start_clears_through, mark_through}
-use Rattle.lay_blocks.specs.MarginPlace.{IsPlace, margin_place}
+use Rattle.lay_flow.proofs.BlocksLemmas.CollapsedThrough.{through_inside}
+use Rattle.lay_flow.proofs.BlocksLemmas.GatheredRuns.{comes_here, comes_up, last_up, childless_on, passes_here, close_joined as gathered_joined, close_parted as gathered_parted}
+use Rattle.lay_flow.proofs.BlocksLemmas.LayoutFacts.{start_next, start_clears_through, mark_through}
+use Rattle.lay_flow.specs.Blocks.MarginPlace.{IsPlace, margin_place}
 use Rattle.lay_flow.proofs.Openings.{WithMargin}
-use Rattle.lay_blocks.proofs.RunEntries.{margins-append}
-use Rattle.lay_blocks.proofs.RunFacts.{ends_inside, to_bottom_is, joins_is}
+use Rattle.lay_flow.proofs.BlocksLemmas.RunEntries.{margins-append}
+use Rattle.lay_flow.proofs.BlocksLemmas.RunFacts.{ends_inside, to_bottom_is, joins_is}
 use Rattle.lay_flow.proofs.RunReach.{RunEnds, sum_two, starts_here, mark_here, waiting_open, tops_here, reach_is}
 use Rattle.lay_flow.proofs.SoFar.{Wrote, so_far_settled, so_far_closed, so_far_through}
-use Rattle.lay_blocks.proofs.Truths.{true_false, true_or, low_not}
+use Rattle.lay_flow.proofs.BlocksLemmas.Truths.{true_false, true_or, low_not}
 
 module _ (boxes : List FlowBox) (y : BlockLayout) (is : IsBlockLayout boxes y) (tree : IsTree (parents_of boxes))
     (now : PassState) (p m : ℕ) (positive : 0 < p) (was : IsAt boxes y now (margin_place p m)) (ends : m < length boxes → parent_at boxes m < p) where

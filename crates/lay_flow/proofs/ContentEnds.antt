@@ -2,26 +2,26 @@
 use Rattle.std.proofs.Common.{◌≡◌, ℕ, ◌<◌, ◌≤◌, Bool, true, false, ℤ, pos, ◌+ℤ◌, ◌-ℤ◌, List, [], length, refl, sym, ap, ◌∙◌, arith, inl, inr, Option, Some, None}
 use Rattle.std.proofs.lemmas.Bool.{cases_lt}
 use Rattle.std.proofs.lemmas.Int.{ints}
-use Rattle.lay_blocks.specs.declared.flow_box.FlowBox.{FlowBox}
-use Rattle.lay_blocks.specs.Boxes.{parent_at, parents_of}
+use Rattle.lay_flow.specs.declared.blocks.flow_box.FlowBox.{FlowBox}
+use Rattle.lay_flow.specs.Blocks.Boxes.{parent_at, parents_of}
 use Rattle.lay_margins.specs.Collapse.{collapse}
 use Rattle.lay_doc.specs.Tree.{IsTree}
-use Rattle.lay_blocks.specs.Lengths.{length_at}
-use Rattle.lay_blocks.specs.Children.{last_child, flag_at}
-use Rattle.lay_blocks.specs.MarginRuns.{Entry, margins, has_top, block_at, run_at, parts_tops, to_top, run_before, joins_bottom}
-use Rattle.lay_blocks.specs.BlockLayout.{BlockLayout}
-use Rattle.lay_blocks.specs.BlockPositions.{IsBlockLayout, content_height, border_height, start_below, start_before}
+use Rattle.lay_flow.specs.Blocks.Lengths.{length_at}
+use Rattle.lay_flow.specs.Blocks.Children.{last_child, flag_at}
+use Rattle.lay_flow.specs.Blocks.MarginRuns.{Entry, margins, has_top, block_at, run_at, parts_tops, to_top, run_before, joins_bottom}
+use Rattle.lay_flow.specs.Blocks.BlockLayout.{BlockLayout}
+use Rattle.lay_flow.specs.Blocks.BlockPositions.{IsBlockLayout, content_height, border_height, start_below, start_before}
 use Rattle.lay_flow.specs.Pass.State.{PassState, IsAt}
-use Rattle.lay_blocks.proofs.BlockKinds.{no_edge}
+use Rattle.lay_flow.proofs.BlocksLemmas.BlockKinds.{no_edge}
 use Rattle.lay_flow.proofs.Closings.{place_below, out_parted}
-use Rattle.lay_blocks.proofs.ContentHeights.{content_bottom, content_inner, margin_end}
-use Rattle.lay_blocks.proofs.GatheredRuns.{last_over}
-use Rattle.lay_blocks.proofs.LayoutFacts.{start_first, start_next}
-use Rattle.lay_blocks.proofs.RunEntries.{top_here}
-use Rattle.lay_blocks.proofs.RunFacts.{first_comes, next_comes}
+use Rattle.lay_flow.proofs.BlocksLemmas.ContentHeights.{content_bottom, content_inner, margin_end}
+use Rattle.lay_flow.proofs.BlocksLemmas.GatheredRuns.{last_over}
+use Rattle.lay_flow.proofs.BlocksLemmas.LayoutFacts.{start_first, start_next}
+use Rattle.lay_flow.proofs.BlocksLemmas.RunEntries.{top_here}
+use Rattle.lay_flow.proofs.BlocksLemmas.RunFacts.{first_comes, next_comes}
 use Rattle.lay_flow.proofs.RunReach.{mark_here}
-use Rattle.lay_blocks.proofs.Truths.{true_false}
-use Rattle.lay_blocks.specs.MarginPlace.{margin_place}
+use Rattle.lay_flow.proofs.BlocksLemmas.Truths.{true_false}
+use Rattle.lay_flow.specs.Blocks.MarginPlace.{margin_place}
 
 module _ (boxes : List FlowBox) (y : BlockLayout) (is : IsBlockLayout boxes y) (tree : IsTree (parents_of boxes))
     (now : PassState) (p m : ℕ) (positive : 0 < p) (was : IsAt boxes y now (margin_place p m)) (ends : m < length boxes → parent_at boxes m < p) where

@@ -8,10 +8,10 @@ use Rattle.lay_units.specs.Lengths.{no_length}
 use Rattle.lay_floats.specs.declared.placed.Placed.{Placed}
 use Rattle.lay_floats.specs.declared.requests.Place.{Place}
 use Rattle.lay_floats.specs.Within.{BoxWithin}
-use Rattle.lay_blocks.specs.declared.flow_box.FlowBox.{FlowBox}
+use Rattle.lay_flow.specs.declared.blocks.flow_box.FlowBox.{FlowBox}
 use Rattle.lay_flow.specs.declared.placement.Placing.{Placing as PlacingState}
-use Rattle.lay_blocks.specs.Lengths.{length_at}
-use Rattle.lay_blocks.specs.Weights.{weight}
+use Rattle.lay_flow.specs.Blocks.Lengths.{length_at}
+use Rattle.lay_flow.specs.Blocks.Weights.{weight}
 use Rattle.lay_flow.specs.Pass.Bounds.{IsMarkNear, reach}
 use Rattle.lay_flow.specs.Pass.Placed.{PlacesTo}
 use Rattle.lay_flow.specs.Pass.Knows.{AreExtentsKept, HaveNoExtent}

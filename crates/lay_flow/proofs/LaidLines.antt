@@ -6,24 +6,24 @@ use Rattle.lay_units.specs.Units.{IsPosition, IsNear}
 use Rattle.lay_units.specs.declared.length.Unit.{Unit as Length}
 use Rattle.lay_floats.specs.declared.placed.Placed.{Placed}
 use Rattle.lay_floats.specs.Within.{BoxWithin, IsWithin}
-use Rattle.lay_line_content.specs.LineContents.{lines_weight}
+use Rattle.lay_lines.specs.Content.LineContents.{lines_weight}
 use Rattle.lay_lines.specs.Lines.{AreLines, LinesValue, LinesWithin, growth}
-use Rattle.lay_blocks.specs.declared.flow_box.FlowBox.{FlowBox}
-use Rattle.lay_blocks.specs.declared.flow_box.FlowKind.{FlowKind}
-use Rattle.lay_blocks.specs.declared.flow_box.FlowKind.TheVariants.{Block as block, Lines as lines, Solid as solid, Float as float, LineFloat as line_float, Inline as inline}
-use Rattle.lay_blocks.specs.Boxes.{box_at}
-use Rattle.lay_blocks.specs.Lengths.{length_at}
-use Rattle.lay_blocks.specs.BlockFloats.{content_of, line_content_of}
-use Rattle.lay_blocks.specs.BlockPositions.{is_lines}
-use Rattle.lay_blocks.specs.BlockSizes.{IsInset}
-use Rattle.lay_blocks.specs.FlowBoxes.{AreFlowBoxes}
-use Rattle.lay_blocks.specs.MarginRuns.{block_at, block_of}
-use Rattle.lay_blocks.specs.Weights.{weight, weight_of}
+use Rattle.lay_flow.specs.declared.blocks.flow_box.FlowBox.{FlowBox}
+use Rattle.lay_flow.specs.declared.blocks.flow_box.FlowKind.{FlowKind}
+use Rattle.lay_flow.specs.declared.blocks.flow_box.FlowKind.TheVariants.{Block as block, Lines as lines, Solid as solid, Float as float, LineFloat as line_float, Inline as inline}
+use Rattle.lay_flow.specs.Blocks.Boxes.{box_at}
+use Rattle.lay_flow.specs.Blocks.Lengths.{length_at}
+use Rattle.lay_flow.specs.Blocks.BlockFloats.{content_of, line_content_of}
+use Rattle.lay_flow.specs.Blocks.BlockPositions.{is_lines}
+use Rattle.lay_flow.specs.Blocks.BlockSizes.{IsInset}
+use Rattle.lay_flow.specs.Blocks.FlowBoxes.{AreFlowBoxes}
+use Rattle.lay_flow.specs.Blocks.MarginRuns.{block_at, block_of}
+use Rattle.lay_flow.specs.Blocks.Weights.{weight, weight_of}
 use Rattle.lay_flow.specs.Pass.Bounds.{IsMarkNear, reach}
-use Rattle.lay_blocks.proofs.FlowBoxFacts.{block_fits}
+use Rattle.lay_flow.proofs.BlocksLemmas.FlowBoxFacts.{block_fits}
 use Rattle.lay_flow.proofs.PlaceSteps.{lines_wider, wider}
-use Rattle.lay_blocks.proofs.Truths.{true_false}
-use Rattle.lay_blocks.proofs.WeightFacts.{light_at, weight_next}
+use Rattle.lay_flow.proofs.BlocksLemmas.Truths.{true_false}
+use Rattle.lay_flow.proofs.BlocksLemmas.WeightFacts.{light_at, weight_next}
 
 lines_weigh : (kind : FlowKind) → is_lines (block_of kind).inside ≡ true → weight_of kind ≡ 1 + lines_weight (line_content_of kind)
 lines_weigh (block b) e = absurd (true_false false e refl)

@@ -1,3 +1,4 @@
+pub mod BlocksLemmas
 pub mod ColumnWrites
 pub mod SoFar
 pub mod SettleSteps

@@ -1,28 +1,28 @@
 -- A look ahead reads margins in which the box stands as high as one that is open yet.
 use Rattle.std.proofs.Common.{◌≡◌, ℕ, ◌+◌, ◌<◌, ◌≤◌, ◌&&◌, Bool, true, false, ℤ, ◌+ℤ◌, List, [], ◌∷◌, ◌++◌, length, refl, sym, ap, ◌∙◌, arith, inl, inr, subst}
 use Rattle.std.proofs.lemmas.Bool.{cases_lt, cases_eq}
-use Rattle.lay_blocks.specs.declared.flow_box.FlowBox.{FlowBox}
-use Rattle.lay_blocks.specs.Boxes.{parent_at, parents_of}
-use Rattle.lay_blocks.proofs.BoxTrees.{parent_before, parents_together}
+use Rattle.lay_flow.specs.declared.blocks.flow_box.FlowBox.{FlowBox}
+use Rattle.lay_flow.specs.Blocks.Boxes.{parent_at, parents_of}
+use Rattle.lay_flow.proofs.BlocksLemmas.BoxTrees.{parent_before, parents_together}
 use Rattle.lay_doc.specs.Tree.{IsTree}
 use Rattle.lay_margins.specs.StrutValue.{StrutValue}
 use Rattle.lay_margins.specs.Collapse.{Holds, collapse}
-use Rattle.lay_blocks.specs.Lengths.{length_at}
-use Rattle.lay_blocks.specs.Children.{flag_at}
-use Rattle.lay_blocks.specs.MarginRuns.{Entry, margin, mark, margins, has_top, block_at, run_at, parts_tops, to_top, run_before, joins_bottom, may_collapse_through}
-use Rattle.lay_blocks.specs.BlockLayout.{BlockLayout}
-use Rattle.lay_blocks.specs.BlockPositions.{IsBlockLayout, start_before}
-use Rattle.lay_blocks.specs.Gathered.{Gathered}
-use Rattle.lay_blocks.specs.MarginPlace.{IsPlace, IsAround, margin_place}
+use Rattle.lay_flow.specs.Blocks.Lengths.{length_at}
+use Rattle.lay_flow.specs.Blocks.Children.{flag_at}
+use Rattle.lay_flow.specs.Blocks.MarginRuns.{Entry, margin, mark, margins, has_top, block_at, run_at, parts_tops, to_top, run_before, joins_bottom, may_collapse_through}
+use Rattle.lay_flow.specs.Blocks.BlockLayout.{BlockLayout}
+use Rattle.lay_flow.specs.Blocks.BlockPositions.{IsBlockLayout, start_before}
+use Rattle.lay_flow.specs.Blocks.Gathered.{Gathered}
+use Rattle.lay_flow.specs.Blocks.MarginPlace.{IsPlace, IsAround, margin_place}
 use Rattle.lay_flow.specs.Pass.LookAhead.{ComesTo, IsOutermost, IsOutset, Reads, ReadsAll, reading}
 use Rattle.lay_flow.specs.declared.hypothetical_edge.Outset.{Outset}
-use Rattle.lay_blocks.proofs.Truths.{true_false, true_or, low_not, low_yes}
-use Rattle.lay_blocks.proofs.RunEntries.{margins-append, top_there, top_here, bottom_same}
-use Rattle.lay_blocks.proofs.RunFacts.{goes_in, ends_inside, joins_is, lead_goes_on, top_run_is, to_bottom_is, parting_stands}
-use Rattle.lay_blocks.proofs.LayoutFacts.{mark_standing, mark_inherits, mark_through, start_flows}
-use Rattle.lay_blocks.proofs.GatheredRuns.{gathers, one_first, next_here, joined_through, comes_here, comes_up, childless_on, passes_here, opened_top}
-use Rattle.lay_blocks.proofs.CollapsedThrough.{through_inside, one_start}
-use Rattle.lay_blocks.proofs.MarginWalk.{place_before}
+use Rattle.lay_flow.proofs.BlocksLemmas.Truths.{true_false, true_or, low_not, low_yes}
+use Rattle.lay_flow.proofs.BlocksLemmas.RunEntries.{margins-append, top_there, top_here, bottom_same}
+use Rattle.lay_flow.proofs.BlocksLemmas.RunFacts.{goes_in, ends_inside, joins_is, lead_goes_on, top_run_is, to_bottom_is, parting_stands}
+use Rattle.lay_flow.proofs.BlocksLemmas.LayoutFacts.{mark_standing, mark_inherits, mark_through, start_flows}
+use Rattle.lay_flow.proofs.BlocksLemmas.GatheredRuns.{gathers, one_first, next_here, joined_through, comes_here, comes_up, childless_on, passes_here, opened_top}
+use Rattle.lay_flow.proofs.BlocksLemmas.CollapsedThrough.{through_inside, one_start}
+use Rattle.lay_flow.proofs.BlocksLemmas.MarginWalk.{place_before}
 
 sum_same : (a b : ℤ) (xs zs : List Entry) → a ≡ b → xs ≡ zs → (a +ℤ collapse (margins xs)) ≡ (b +ℤ collapse (margins zs))
 sum_same a b xs zs e f = rw (e, f) refl

@@ -1,18 +1,18 @@
 -- The steps of a look ahead.
 use Rattle.std.proofs.Common.{◌≡◌, ℕ, zero, suc, ◌+◌, ◌<◌, ◌≤◌, ◌==◌, ◌||◌, not, ap, Bool, true, false, List, length, refl, sym, ◌∙◌, arith, inl, inr}
 use Rattle.std.proofs.lemmas.Bool.{cases_lt, ne_eqb}
-use Rattle.lay_blocks.specs.declared.flow_box.FlowBox.{FlowBox}
-use Rattle.lay_blocks.specs.Boxes.{parent_at, parents_of}
-use Rattle.lay_blocks.proofs.BoxTrees.{parent_before, parents_together}
+use Rattle.lay_flow.specs.declared.blocks.flow_box.FlowBox.{FlowBox}
+use Rattle.lay_flow.specs.Blocks.Boxes.{parent_at, parents_of}
+use Rattle.lay_flow.proofs.BlocksLemmas.BoxTrees.{parent_before, parents_together}
 use Rattle.lay_doc.specs.Tree.{IsTree}
 use Rattle.lay_margins.specs.StrutValue.{StrutValue}
 use Rattle.lay_flow.specs.declared.hypothetical_edge.Outset.{Outset}
-use Rattle.lay_blocks.specs.MarginRuns.{block_at, is_zero, parts_tops, may_collapse_through}
-use Rattle.lay_blocks.specs.MarginPlace.{IsPlace, IsAround}
+use Rattle.lay_flow.specs.Blocks.MarginRuns.{block_at, is_zero, parts_tops, may_collapse_through}
+use Rattle.lay_flow.specs.Blocks.MarginPlace.{IsPlace, IsAround}
 use Rattle.lay_flow.specs.Pass.Struts.{StrutFits}
 use Rattle.lay_flow.specs.Pass.LookAhead.{IsOutset, IsReading, HasRead, reading}
-use Rattle.lay_blocks.proofs.Truths.{true_or, low_not}
-use Rattle.lay_blocks.proofs.MarginWalk.{inside_up}
+use Rattle.lay_flow.proofs.BlocksLemmas.Truths.{true_or, low_not}
+use Rattle.lay_flow.proofs.BlocksLemmas.MarginWalk.{inside_up}
 use Rattle.lay_flow.proofs.Openings.{WithMargin}
 use Rattle.lay_flow.proofs.LookAhead.{reads_top, ends_below_top, ends_inside_box, ends_before_bottom, reads_bottom}
 

@@ -2,29 +2,29 @@
 use Rattle.std.proofs.Common.{◌≡◌, ℕ, ◌+◌, ◌<◌, ◌≤◌, not, nat_lt, Bool, true, false, ℤ, ◌+ℤ◌, ◌-ℤ◌, List, [], ◌∷◌, ◌++◌, length, refl, sym, ap, ◌∙◌, arith, inl, inr, subst}
 use Rattle.std.proofs.lemmas.Bool.{cases_lt}
 use Rattle.std.proofs.lemmas.Int.{ints}
-use Rattle.lay_blocks.specs.declared.flow_box.FlowBox.{FlowBox}
-use Rattle.lay_blocks.specs.Boxes.{parent_at, parents_of}
-use Rattle.lay_blocks.proofs.BoxTrees.{parent_before}
+use Rattle.lay_flow.specs.declared.blocks.flow_box.FlowBox.{FlowBox}
+use Rattle.lay_flow.specs.Blocks.Boxes.{parent_at, parents_of}
+use Rattle.lay_flow.proofs.BlocksLemmas.BoxTrees.{parent_before}
 use Rattle.lay_units.specs.declared.length.Unit.{Unit as Length}
 use Rattle.lay_margins.specs.StrutValue.{StrutValue}
 use Rattle.lay_margins.specs.Collapse.{Holds, collapse}
 use Rattle.lay_doc.specs.Tree.{IsTree}
-use Rattle.lay_blocks.specs.Lengths.{length_at}
-use Rattle.lay_blocks.specs.Children.{flag_at}
-use Rattle.lay_blocks.specs.MarginRuns.{Entry, margin, mark, margins, has_top, block_at, run_at, parts_tops, to_top, run_before, run_across}
-use Rattle.lay_blocks.specs.Gathered.{Gathered}
-use Rattle.lay_blocks.specs.BlockLayout.{BlockLayout}
-use Rattle.lay_blocks.specs.BlockPositions.{IsBlockLayout, start_before}
+use Rattle.lay_flow.specs.Blocks.Lengths.{length_at}
+use Rattle.lay_flow.specs.Blocks.Children.{flag_at}
+use Rattle.lay_flow.specs.Blocks.MarginRuns.{Entry, margin, mark, margins, has_top, block_at, run_at, parts_tops, to_top, run_before, run_across}
+use Rattle.lay_flow.specs.Blocks.Gathered.{Gathered}
+use Rattle.lay_flow.specs.Blocks.BlockLayout.{BlockLayout}
+use Rattle.lay_flow.specs.Blocks.BlockPositions.{IsBlockLayout, start_before}
 use Rattle.lay_flow.specs.Pass.State.{Settled, PassState, IsInRun, IsAt, BeginsRun, IsBefore, columns_of, ended_run}
-use Rattle.lay_blocks.proofs.CollapsedThrough.{through_inside}
-use Rattle.lay_blocks.proofs.GatheredRuns.{childless, next_here, open_plain, open_cleared, open_parting}
-use Rattle.lay_blocks.proofs.LayoutFacts.{start_first, start_flows, start_clears, mark_standing}
-use Rattle.lay_blocks.specs.MarginPlace.{IsPlace, IsAround, margin_place}
-use Rattle.lay_blocks.proofs.RunEntries.{margins-append}
-use Rattle.lay_blocks.proofs.RunFacts.{first_comes, goes_in, ends_above, lead_goes_on, lead_begins, top_run_is, parting_stands}
+use Rattle.lay_flow.proofs.BlocksLemmas.CollapsedThrough.{through_inside}
+use Rattle.lay_flow.proofs.BlocksLemmas.GatheredRuns.{childless, next_here, open_plain, open_cleared, open_parting}
+use Rattle.lay_flow.proofs.BlocksLemmas.LayoutFacts.{start_first, start_flows, start_clears, mark_standing}
+use Rattle.lay_flow.specs.Blocks.MarginPlace.{IsPlace, IsAround, margin_place}
+use Rattle.lay_flow.proofs.BlocksLemmas.RunEntries.{margins-append}
+use Rattle.lay_flow.proofs.BlocksLemmas.RunFacts.{first_comes, goes_in, ends_above, lead_goes_on, lead_begins, top_run_is, parting_stands}
 use Rattle.lay_flow.proofs.RunReach.{RunEnds, mark_here, waiting_open, tops_here, reach_is}
 use Rattle.lay_flow.proofs.SoFar.{so_far_opened, so_far_settled}
-use Rattle.lay_blocks.proofs.Truths.{true_false, true_or, low_not, low_yes}
+use Rattle.lay_flow.proofs.BlocksLemmas.Truths.{true_false, true_or, low_not, low_yes}
 
 abbrev pub pushed : PassState → StrutValue → PassState
 pushed now strut = record now { strut = strut }

@@ -2,7 +2,7 @@
 use Rattle.std.proofs.Common.{◌≡◌, ℕ, zero, suc, Bool, false, ℤ, pos, ◌+ℤ◌, List, [], ◌∷◌, length, slice_index_or, replicate, refl, sym, ap, ◌∙◌, arith, inl, inr, Option, Some, None, subst}
 use Rattle.std.proofs.lemmas.Bool.{cases_eq}
 use Rattle.std.proofs.lemmas.Int.{ints}
-use Rattle.lay_blocks.specs.declared.flow_box.FlowBox.{FlowBox}
+use Rattle.lay_flow.specs.declared.blocks.flow_box.FlowBox.{FlowBox}
 use Rattle.lay_units.specs.declared.length.Unit.{Unit as Length}
 use Rattle.lay_units.specs.Units.{IsBoxSize}
 use Rattle.lay_units.specs.Lengths.{no_length}
@@ -11,30 +11,30 @@ use Rattle.lay_floats.specs.declared.placed.Placed.{Placed}
 use Rattle.lay_floats.specs.declared.requests.Clear.TheVariants.{Both as clear_both}
 use Rattle.lay_floats.specs.ClearEdge.{IsClearEdge}
 use Rattle.lay_heights.specs.AutoHeights.{root_height_of}
-use Rattle.lay_blocks.specs.Lengths.{length_at}
-use Rattle.lay_blocks.specs.Children.{last_child, flag_at}
-use Rattle.lay_blocks.specs.MarginRuns.{Entry, margins, block_at, run_at, run_before}
-use Rattle.lay_blocks.specs.BlockLayout.{BlockLayout, Extents}
-use Rattle.lay_blocks.specs.BlockPositions.{IsBlockLayout, content_top, start_below, start_before, border_height, content_height, is_solid, held_end}
-use Rattle.lay_blocks.specs.ContextFlow.{AreContextPlaces}
+use Rattle.lay_flow.specs.Blocks.Lengths.{length_at}
+use Rattle.lay_flow.specs.Blocks.Children.{last_child, flag_at}
+use Rattle.lay_flow.specs.Blocks.MarginRuns.{Entry, margins, block_at, run_at, run_before}
+use Rattle.lay_flow.specs.Blocks.BlockLayout.{BlockLayout, Extents}
+use Rattle.lay_flow.specs.Blocks.BlockPositions.{IsBlockLayout, content_top, start_below, start_before, border_height, content_height, is_solid, held_end}
+use Rattle.lay_flow.specs.Blocks.ContextFlow.{AreContextPlaces}
 use Rattle.lay_flow.specs.Pass.State.{PassState, Settled, columns_of, clearances_of, ended_run}
-use Rattle.lay_blocks.specs.FlowBoxes.{AreFlowBoxes}
+use Rattle.lay_flow.specs.Blocks.FlowBoxes.{AreFlowBoxes}
 use Rattle.lay_flow.specs.Pass.Bounds.{clears_of, clear_edges_of, StateFits, AreBoxHeights}
 use Rattle.lay_flow.specs.Pass.Struts.{StrutFits}
-use Rattle.lay_blocks.proofs.WeightFacts.{weight_up}
+use Rattle.lay_flow.proofs.BlocksLemmas.WeightFacts.{weight_up}
 use Rattle.lay_flow.specs.Pass.Placed.{Placing, PlacesTo}
 use Rattle.lay_flow.specs.Pass.Knows.{Knows, MayBe, HaveNoExtent, IsCandidate, AreExtentsKept, ArePlacesKept}
-use Rattle.lay_blocks.proofs.FlowBoxFacts.{block_fits, root_not_solid}
-use Rattle.lay_blocks.proofs.ContentHeights.{content_bottom, content_root, held_same, margin_end, same_border_height}
-use Rattle.lay_blocks.proofs.BlockLayoutLaws.{layout_there, same_lengths}
-use Rattle.lay_blocks.proofs.LayoutFacts.{start_first, start_next}
+use Rattle.lay_flow.proofs.BlocksLemmas.FlowBoxFacts.{block_fits, root_not_solid}
+use Rattle.lay_flow.proofs.BlocksLemmas.ContentHeights.{content_bottom, content_root, held_same, margin_end, same_border_height}
+use Rattle.lay_flow.proofs.BlocksLemmas.BlockLayoutLaws.{layout_there, same_lengths}
+use Rattle.lay_flow.proofs.BlocksLemmas.LayoutFacts.{start_first, start_next}
 use Rattle.lay_flow.proofs.PassSteps.{no_extents_kept}
-use Rattle.lay_blocks.proofs.RunFacts.{first_comes, next_comes}
+use Rattle.lay_flow.proofs.BlocksLemmas.RunFacts.{first_comes, next_comes}
 use Rattle.lay_flow.proofs.RunReach.{RunEnds}
 use Rattle.lay_flow.proofs.SoFar.{Wrote}
-use Rattle.lay_blocks.proofs.Truths.{true_false}
+use Rattle.lay_flow.proofs.BlocksLemmas.Truths.{true_false}
 use Rattle.lay_flow.proofs.WholePass.{begins, all_marks, all_heights, reach_end}
-use Rattle.lay_blocks.specs.MarginPlace.{margin_place}
+use Rattle.lay_flow.specs.Blocks.MarginPlace.{margin_place}
 
 pub flags_at : (n k : ℕ) → flag_at (replicate n false) k ≡ false
 flags_at zero k = refl

@@ -2,27 +2,27 @@
 use Rattle.std.proofs.Common.{◌≡◌, ℕ, zero, suc, ◌+◌, ◌<◌, ◌≤◌, Bool, true, false, ℤ, pos, neg_ℤ, ◌≤ℤ◌, ◌+ℤ◌, ◌-ℤ◌, List, length, refl, sym, ◌∙◌, arith, inl, inr, subst}
 use Rattle.std.proofs.lemmas.Bool.{cases_lt, cases_eq}
 use Rattle.std.proofs.lemmas.Int.{ints}
-use Rattle.lay_blocks.specs.declared.flow_box.FlowBox.{FlowBox}
-use Rattle.lay_blocks.specs.Boxes.{parent_at, parents_of}
-use Rattle.lay_blocks.proofs.BoxTrees.{parent_before}
+use Rattle.lay_flow.specs.declared.blocks.flow_box.FlowBox.{FlowBox}
+use Rattle.lay_flow.specs.Blocks.Boxes.{parent_at, parents_of}
+use Rattle.lay_flow.proofs.BlocksLemmas.BoxTrees.{parent_before}
 use Rattle.lay_units.specs.Units.{IsPosition, IsBoxSize, IsNear, IsUsed}
 use Rattle.lay_units.specs.declared.length.Unit.{Unit as Length}
 use Rattle.lay_margins.specs.StrutValue.{StrutValue}
 use Rattle.lay_doc.specs.Tree.{IsTree}
-use Rattle.lay_blocks.specs.Lengths.{length_at}
-use Rattle.lay_blocks.specs.BlockSizes.{IsInset}
-use Rattle.lay_blocks.specs.Children.{flag_at}
-use Rattle.lay_blocks.specs.MarginRuns.{block_at, parts_tops}
-use Rattle.lay_blocks.specs.BlockPositions.{is_solid}
+use Rattle.lay_flow.specs.Blocks.Lengths.{length_at}
+use Rattle.lay_flow.specs.Blocks.BlockSizes.{IsInset}
+use Rattle.lay_flow.specs.Blocks.Children.{flag_at}
+use Rattle.lay_flow.specs.Blocks.MarginRuns.{block_at, parts_tops}
+use Rattle.lay_flow.specs.Blocks.BlockPositions.{is_solid}
 use Rattle.lay_flow.specs.Pass.State.{PassState, RunEnd, Settled, columns_of, ended_run}
 use Rattle.lay_flow.specs.Pass.Bounds.{StateFits, IsStartNear, IsRunNear, IsEdgeNear, IsMarkNear, reach}
 use Rattle.lay_flow.specs.Pass.Struts.{StrutFits}
 use Rattle.lay_flow.proofs.Openings.{pushed}
 use Rattle.lay_flow.proofs.SoFar.{Wrote}
-use Rattle.lay_blocks.specs.Weights.{weight}
-use Rattle.lay_blocks.proofs.Truths.{true_false, true_or}
-use Rattle.lay_blocks.specs.FlowBoxes.{AreFlowBoxes}
-use Rattle.lay_blocks.proofs.WeightFacts.{light_at, weight_up}
+use Rattle.lay_flow.specs.Blocks.Weights.{weight}
+use Rattle.lay_flow.proofs.BlocksLemmas.Truths.{true_false, true_or}
+use Rattle.lay_flow.specs.Blocks.FlowBoxes.{AreFlowBoxes}
+use Rattle.lay_flow.proofs.BlocksLemmas.WeightFacts.{light_at, weight_up}
 
 pub start_is_near : (k : ℕ) (v : ℤ) → k ≤ 16711680 → IsRunNear k v → IsNear v
 start_is_near k v few near = let a = near.0 in let b = near.1 in (omega (arith, ints, few, a), omega (arith, ints, few, b))

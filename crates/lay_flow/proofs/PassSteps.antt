@@ -1,9 +1,9 @@
 -- What is known after each step of the pass.
 use Rattle.std.proofs.Common.{◌≡◌, ℕ, ◌+◌, ◌<◌, ◌≤◌, ◌==◌, ◌&&◌, ◌||◌, not, nat_lt, Bool, true, false, ℤ, pos, ◌+ℤ◌, ◌-ℤ◌, List, [], ◌∷◌, length, refl, sym, ap, ◌∙◌, arith, inl, inr, subst}
 use Rattle.std.proofs.lemmas.Bool.{cases_lt}
-use Rattle.lay_blocks.specs.declared.flow_box.FlowBox.{FlowBox}
-use Rattle.lay_blocks.specs.Boxes.{box_at, parent_at, parents_of}
-use Rattle.lay_blocks.proofs.BoxTrees.{parent_before}
+use Rattle.lay_flow.specs.declared.blocks.flow_box.FlowBox.{FlowBox}
+use Rattle.lay_flow.specs.Blocks.Boxes.{box_at, parent_at, parents_of}
+use Rattle.lay_flow.proofs.BlocksLemmas.BoxTrees.{parent_before}
 use Rattle.lay_units.specs.declared.length.Unit.{Unit as Length}
 use Rattle.lay_units.specs.Units.{IsBoxSize, IsUsed}
 use Rattle.lay_margins.specs.StrutValue.{StrutValue}
@@ -13,31 +13,31 @@ use Rattle.lay_floats.specs.FloatPlace.{IsFloatPlace}
 use Rattle.lay_floats.specs.SolidPlace.{IsSolidPlace}
 use Rattle.lay_floats.specs.Within.{IsWithin}
 use Rattle.lay_doc.specs.Tree.{IsTree}
-use Rattle.lay_blocks.specs.Lengths.{length_at}
-use Rattle.lay_blocks.specs.Children.{flag_at}
-use Rattle.lay_blocks.specs.MarginRuns.{block_at, parts_tops, joins_bottom, may_collapse_through, may_join_bottoms}
-use Rattle.lay_blocks.specs.BlockLayout.{BlockLayout, Extents}
-use Rattle.lay_blocks.specs.BlockPositions.{border_height, is_placed, is_solid, held_end, held_height}
-use Rattle.lay_blocks.specs.BlockFloats.{Spot, content_of, line_content_of, lines_at, shape_at, place_at, floats_before, float_request, solid_request, ceiling}
+use Rattle.lay_flow.specs.Blocks.Lengths.{length_at}
+use Rattle.lay_flow.specs.Blocks.Children.{flag_at}
+use Rattle.lay_flow.specs.Blocks.MarginRuns.{block_at, parts_tops, joins_bottom, may_collapse_through, may_join_bottoms}
+use Rattle.lay_flow.specs.Blocks.BlockLayout.{BlockLayout, Extents}
+use Rattle.lay_flow.specs.Blocks.BlockPositions.{border_height, is_placed, is_solid, held_end, held_height}
+use Rattle.lay_flow.specs.Blocks.BlockFloats.{Spot, content_of, line_content_of, lines_at, shape_at, place_at, floats_before, float_request, solid_request, ceiling}
 use Rattle.lay_flow.specs.Pass.State.{PassState, IsAt, Settled, columns_of, Clearances, clearances_of, ended_run}
-use Rattle.lay_blocks.specs.FlowBoxes.{AreFlowBoxes}
+use Rattle.lay_flow.specs.Blocks.FlowBoxes.{AreFlowBoxes}
 use Rattle.lay_flow.specs.Pass.Bounds.{IsStartNear, IsMarkNear, is_barred, reach}
 use Rattle.lay_flow.specs.Pass.Struts.{StrutFits}
 use Rattle.lay_flow.specs.Pass.Placed.{Placing, PlacesTo}
 use Rattle.lay_flow.specs.Pass.Knows.{Knows, IsReady, MayBe, IsCandidate, HaveNoExtent, AreClears, AreDecided, AreExtentsKept, ArePlacesKept}
-use Rattle.lay_blocks.proofs.FlowBoxFacts.{block_fits}
-use Rattle.lay_blocks.proofs.ContentHeights.{content_margin, held_between, held_same, same_border_height}
-use Rattle.lay_blocks.proofs.BlockKinds.{joined_passes, joins_flow, placed_none, solid_placed}
+use Rattle.lay_flow.proofs.BlocksLemmas.FlowBoxFacts.{block_fits}
+use Rattle.lay_flow.proofs.BlocksLemmas.ContentHeights.{content_margin, held_between, held_same, same_border_height}
+use Rattle.lay_flow.proofs.BlocksLemmas.BlockKinds.{joined_passes, joins_flow, placed_none, solid_placed}
 use Rattle.lay_flow.proofs.Openings.{WithMargin, pushed, opened, opened_wall}
 use Rattle.lay_flow.proofs.Closings.{passes_is, joined_here, code_open, not_hanging, started, close_passing, close_joined, close_parted, mark_parted, reach_parted}
 use Rattle.lay_flow.proofs.ContentEnds.{bottom_joined, bottom_parted, height_there}
 use Rattle.lay_flow.proofs.PassFits.{fits_opened, fits_parting, fits_started, fits_through, fits_joined, fits_parted, marks_near, end_near, below_near, inset_height, later_near, edge_later_near, run_later_near, above_near}
 use Rattle.lay_flow.proofs.RunReach.{RunEnds}
 use Rattle.lay_flow.proofs.SoFar.{Wrote}
-use Rattle.lay_blocks.proofs.Truths.{true_false, true_or, low_yes}
-use Rattle.lay_blocks.specs.Weights.{weight}
-use Rattle.lay_blocks.proofs.WeightFacts.{weight_up, weight_over}
-use Rattle.lay_blocks.specs.MarginPlace.{margin_place}
+use Rattle.lay_flow.proofs.BlocksLemmas.Truths.{true_false, true_or, low_yes}
+use Rattle.lay_flow.specs.Blocks.Weights.{weight}
+use Rattle.lay_flow.proofs.BlocksLemmas.WeightFacts.{weight_up, weight_over}
+use Rattle.lay_flow.specs.Blocks.MarginPlace.{margin_place}
 
 -- boxes stay placed where the marks before them are the same
 pub placed_kept : (boxes : List FlowBox) (old new : List Length) (now : Placing) (n : ℕ) → IsTree (parents_of boxes) → n ≤ length boxes

@@ -6,7 +6,7 @@ use Rattle.std.specs.Int.{int_max}
 use Rattle.lay_units.specs.Units.{IsPosition}
 use Rattle.std.proofs.lemmas.Grind.{elements}
 use Rattle.std.proofs.lemmas.List.Elements.{All-nil, All-push, All-same, All-weaker}
-use Rattle.lay_blocks.specs.declared.flow_box.FlowBox.{FlowBox}
+use Rattle.lay_flow.specs.declared.blocks.flow_box.FlowBox.{FlowBox}
 use Rattle.lay_units.specs.declared.length.Unit.{Unit as Length}
 use Rattle.lay_floats.specs.declared.placed.Placed.{Placed}
 use Rattle.lay_floats.specs.declared.requests.Side.{Side}
@@ -21,26 +21,26 @@ use Rattle.lay_floats.specs.FloatPlace.{IsFloatPlace, placed_at}
 use Rattle.lay_floats.specs.SolidPlace.{IsSolidPlace}
 use Rattle.lay_floats.specs.Within.{IsWithin, BoxWithin, RequestWithin}
 use Rattle.lay_floats.proofs.Bounds.{place_within_lem}
-use Rattle.lay_blocks.specs.declared.shape.Shape.{Shape}
-use Rattle.lay_blocks.specs.Lengths.{length_at}
-use Rattle.lay_blocks.specs.MarginRuns.{block_at}
-use Rattle.lay_blocks.specs.BlockPositions.{is_lines, is_placed, is_solid}
-use Rattle.lay_blocks.specs.Boxes.{box_at}
-use Rattle.lay_blocks.specs.Weights.{weight}
-use Rattle.lay_blocks.specs.declared.block.Inside.{Inside}
-use Rattle.lay_blocks.specs.declared.block.Inside.TheVariants.{Blocks as blocks_inside, Lines as lines_inside, Solid as solid_inside}
+use Rattle.lay_flow.specs.declared.blocks.shape.Shape.{Shape}
+use Rattle.lay_flow.specs.Blocks.Lengths.{length_at}
+use Rattle.lay_flow.specs.Blocks.MarginRuns.{block_at}
+use Rattle.lay_flow.specs.Blocks.BlockPositions.{is_lines, is_placed, is_solid}
+use Rattle.lay_flow.specs.Blocks.Boxes.{box_at}
+use Rattle.lay_flow.specs.Blocks.Weights.{weight}
+use Rattle.lay_flow.specs.declared.blocks.block.Inside.{Inside}
+use Rattle.lay_flow.specs.declared.blocks.block.Inside.TheVariants.{Blocks as blocks_inside, Lines as lines_inside, Solid as solid_inside}
 use Rattle.lay_lines.specs.Lines.{LinesValue, AreLines, LinesWithin, RowWithin, NodePlaceWithin}
-use Rattle.lay_blocks.specs.BlockFloats.{AreLinesAt, Spot, spot_at, no_spot, shape_at, place_at, no_place, lines_at, no_lines, line_content_of, content_of, float_of, floats_after, floats_before, float_request, solid_request, ceiling}
-use Rattle.lay_blocks.specs.Clearance.{lower_of}
+use Rattle.lay_flow.specs.Blocks.BlockFloats.{AreLinesAt, Spot, spot_at, no_spot, shape_at, place_at, no_place, lines_at, no_lines, line_content_of, content_of, float_of, floats_after, floats_before, float_request, solid_request, ceiling}
+use Rattle.lay_flow.specs.Blocks.Clearance.{lower_of}
 use Rattle.lay_flow.specs.Pass.Bounds.{reach, IsMarkNear, IsEdgeNear}
 use Rattle.lay_flow.specs.Pass.Placed.{IsPlaceNear, Placing, PlacesTo, IsCeilingNear}
-use Rattle.lay_blocks.specs.BlockSizes.{ShapeFits}
+use Rattle.lay_flow.specs.Blocks.BlockSizes.{ShapeFits}
 use Rattle.lay_flow.proofs.SoFar.{Wrote}
-use Rattle.lay_blocks.proofs.BlockKinds.{placed_none, lines_placed, lines_not_solid, solid_not_lines}
-use Rattle.lay_blocks.proofs.FlowBoxFacts.{placed_flows}
-use Rattle.lay_blocks.proofs.Truths.{true_false}
-use Rattle.lay_blocks.proofs.WeightFacts.{weight_up, weight_one_more}
-use Rattle.lay_blocks.proofs.FloatLists.{floats_same, nothing_more}
+use Rattle.lay_flow.proofs.BlocksLemmas.BlockKinds.{placed_none, lines_placed, lines_not_solid, solid_not_lines}
+use Rattle.lay_flow.proofs.BlocksLemmas.FlowBoxFacts.{placed_flows}
+use Rattle.lay_flow.proofs.BlocksLemmas.Truths.{true_false}
+use Rattle.lay_flow.proofs.BlocksLemmas.WeightFacts.{weight_up, weight_one_more}
+use Rattle.lay_flow.proofs.BlocksLemmas.FloatLists.{floats_same, nothing_more}
 
 -- an element of which all have a property
 all_at : (P : Placed → Type 0) (floats : List Placed) (i : ℕ) (f : Placed) → All P floats → slice_get floats i ≡ Some f → P f

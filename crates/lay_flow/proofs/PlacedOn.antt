@@ -4,23 +4,23 @@ use Rattle.std.proofs.lemmas.Grind.{elements}
 use Rattle.std.proofs.lemmas.Int.{ints}
 use Rattle.lay_doc.specs.Tree.{IsTree}
 use Rattle.lay_units.specs.declared.length.Unit.{Unit as Length}
-use Rattle.lay_blocks.specs.declared.flow_box.FlowBox.{FlowBox}
+use Rattle.lay_flow.specs.declared.blocks.flow_box.FlowBox.{FlowBox}
 use Rattle.lay_flow.specs.declared.placement.Placing.{Placing as PlacingState}
-use Rattle.lay_blocks.specs.Boxes.{parents_of}
-use Rattle.lay_blocks.specs.Lengths.{length_at}
-use Rattle.lay_blocks.specs.BlockFloats.{Spot}
+use Rattle.lay_flow.specs.Blocks.Boxes.{parents_of}
+use Rattle.lay_flow.specs.Blocks.Lengths.{length_at}
+use Rattle.lay_flow.specs.Blocks.BlockFloats.{Spot}
 use Rattle.lay_flow.specs.Pass.State.{PassState, clearances_of}
-use Rattle.lay_blocks.specs.BlockLayout.{BlockLayout}
-use Rattle.lay_blocks.specs.Children.{flag_at}
+use Rattle.lay_flow.specs.Blocks.BlockLayout.{BlockLayout}
+use Rattle.lay_flow.specs.Blocks.Children.{flag_at}
 use Rattle.lay_flow.specs.Pass.Knows.{IsCandidate, MayBe}
 use Rattle.lay_flow.specs.Pass.Clears.{IsEdgeWithout}
-use Rattle.lay_blocks.specs.FlowBoxes.{AreFlowBoxes}
-use Rattle.lay_blocks.specs.MarginRuns.{block_at}
-use Rattle.lay_blocks.specs.BlockPositions.{is_lines}
+use Rattle.lay_flow.specs.Blocks.FlowBoxes.{AreFlowBoxes}
+use Rattle.lay_flow.specs.Blocks.MarginRuns.{block_at}
+use Rattle.lay_flow.specs.Blocks.BlockPositions.{is_lines}
 use Rattle.lay_flow.specs.Pass.Bounds.{state_of}
-use Rattle.lay_blocks.specs.BlockSizes.{IsLineDepth}
+use Rattle.lay_flow.specs.Blocks.BlockSizes.{IsLineDepth}
 use Rattle.lay_flow.specs.Pass.Placed.{Placing, PlacesTo}
-use Rattle.lay_blocks.proofs.WeightFacts.{light_at}
+use Rattle.lay_flow.proofs.BlocksLemmas.WeightFacts.{light_at}
 use Rattle.lay_flow.specs.declared.pass.Pass.{Pass}
 use Rattle.lay_flow.specs.Pass.Known.{ArePlaced, ArePlacedOn, AreSpots, GoesOn, IsKnown, placing_of}
 use Rattle.lay_flow.proofs.PassSteps.{placed_kept}

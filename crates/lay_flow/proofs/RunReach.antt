@@ -2,22 +2,22 @@
 use Rattle.std.proofs.Common.{◌≡◌, ℕ, ◌<◌, ◌≤◌, not, nat_lt, true, false, ℤ, ◌+ℤ◌, ◌-ℤ◌, List, length, refl, sym, ap, ◌∙◌, arith, inl, inr}
 use Rattle.std.proofs.lemmas.Bool.{cases_lt}
 use Rattle.std.proofs.lemmas.Int.{ints}
-use Rattle.lay_blocks.specs.declared.flow_box.FlowBox.{FlowBox}
-use Rattle.lay_blocks.specs.Boxes.{parent_at, parents_of}
-use Rattle.lay_blocks.proofs.BoxTrees.{parent_before}
+use Rattle.lay_flow.specs.declared.blocks.flow_box.FlowBox.{FlowBox}
+use Rattle.lay_flow.specs.Blocks.Boxes.{parent_at, parents_of}
+use Rattle.lay_flow.proofs.BlocksLemmas.BoxTrees.{parent_before}
 use Rattle.lay_margins.specs.StrutValue.{StrutValue}
 use Rattle.lay_margins.specs.Collapse.{Holds, collapse}
 use Rattle.lay_doc.specs.Tree.{IsTree}
-use Rattle.lay_blocks.specs.Lengths.{length_at}
-use Rattle.lay_blocks.specs.Children.{flag_at}
-use Rattle.lay_blocks.specs.MarginRuns.{margins, has_top, run_at, run_across}
-use Rattle.lay_blocks.specs.BlockLayout.{BlockLayout}
-use Rattle.lay_blocks.specs.BlockPositions.{IsBlockLayout, start_before}
+use Rattle.lay_flow.specs.Blocks.Lengths.{length_at}
+use Rattle.lay_flow.specs.Blocks.Children.{flag_at}
+use Rattle.lay_flow.specs.Blocks.MarginRuns.{margins, has_top, run_at, run_across}
+use Rattle.lay_flow.specs.Blocks.BlockLayout.{BlockLayout}
+use Rattle.lay_flow.specs.Blocks.BlockPositions.{IsBlockLayout, start_before}
 use Rattle.lay_flow.specs.Pass.State.{PassState, IsSoFar, IsInRun, columns_of}
-use Rattle.lay_blocks.proofs.CollapsedThrough.{one_start}
-use Rattle.lay_blocks.proofs.LayoutFacts.{mark_standing, start_clears}
-use Rattle.lay_blocks.specs.MarginPlace.{IsPlace, IsAround, margin_place}
-use Rattle.lay_blocks.proofs.Truths.{true_false, true_or}
+use Rattle.lay_flow.proofs.BlocksLemmas.CollapsedThrough.{one_start}
+use Rattle.lay_flow.proofs.BlocksLemmas.LayoutFacts.{mark_standing, start_clears}
+use Rattle.lay_flow.specs.Blocks.MarginPlace.{IsPlace, IsAround, margin_place}
+use Rattle.lay_flow.proofs.BlocksLemmas.Truths.{true_false, true_or}
 
 -- where the run ends: at its clear edge, if it hangs
 pub record RunEnds (now : PassState) (end : ℤ) : Type 0 where

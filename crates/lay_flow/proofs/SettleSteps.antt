@@ -3,14 +3,14 @@ use Rattle.std.proofs.Common.{◌≡◌, ℕ, ◌+◌, ◌<◌, ◌≤◌, true,
 use Rattle.std.proofs.lemmas.Bool.{cases_lt}
 use Rattle.lay_units.specs.declared.length.Unit.{Unit as Length}
 use Rattle.lay_doc.specs.Tree.{IsTree}
-use Rattle.lay_blocks.specs.declared.flow_box.FlowBox.{FlowBox}
-use Rattle.lay_blocks.specs.Boxes.{parent_at, parents_of}
-use Rattle.lay_blocks.specs.Children.{flag_at}
-use Rattle.lay_blocks.specs.Lengths.{length_at}
+use Rattle.lay_flow.specs.declared.blocks.flow_box.FlowBox.{FlowBox}
+use Rattle.lay_flow.specs.Blocks.Boxes.{parent_at, parents_of}
+use Rattle.lay_flow.specs.Blocks.Children.{flag_at}
+use Rattle.lay_flow.specs.Blocks.Lengths.{length_at}
 use Rattle.lay_flow.specs.Pass.State.{RunEnd, Settled}
-use Rattle.lay_blocks.proofs.BoxTrees.{parent_before}
+use Rattle.lay_flow.proofs.BlocksLemmas.BoxTrees.{parent_before}
 use Rattle.lay_flow.proofs.SoFar.{Wrote}
-use Rattle.lay_blocks.proofs.Truths.{true_false}
+use Rattle.lay_flow.proofs.BlocksLemmas.Truths.{true_false}
 
 module _ (boxes : List FlowBox) (tree : IsTree (parents_of boxes)) (run : RunEnd) (before old new : List Length) (k : ℕ) (v : ℤ)
     (positive : 0 < run.first) (order : run.first ≤ k) (within : k < length boxes) (wrote : Wrote length_at old new k v) (was : Settled boxes (record run { next = k }) before old) where

@@ -1,18 +1,18 @@
 -- The columns of a pass at the next place of the sequence of margins.
 use Rattle.std.proofs.Common.{◌≡◌, ◌≢◌, ℕ, zero, suc, ◌+◌, ◌<◌, ◌≤◌, not, nat_lt, true, false, ℤ, pos, List, length, refl, sym, ap, ◌∙◌, arith, inl, inr, subst}
 use Rattle.std.proofs.lemmas.Bool.{cases_lt, cases_eq}
-use Rattle.lay_blocks.specs.declared.flow_box.FlowBox.{FlowBox}
-use Rattle.lay_blocks.specs.Boxes.{parent_at, parents_of}
-use Rattle.lay_blocks.proofs.BoxTrees.{root_parent, parent_before}
+use Rattle.lay_flow.specs.declared.blocks.flow_box.FlowBox.{FlowBox}
+use Rattle.lay_flow.specs.Blocks.Boxes.{parent_at, parents_of}
+use Rattle.lay_flow.proofs.BlocksLemmas.BoxTrees.{root_parent, parent_before}
 use Rattle.lay_units.specs.declared.length.Unit.{Unit as Length}
 use Rattle.lay_doc.specs.Tree.{IsTree}
-use Rattle.lay_blocks.specs.Lengths.{length_at}
-use Rattle.lay_blocks.specs.Children.{flag_at}
-use Rattle.lay_blocks.specs.MarginRuns.{has_top, run_at}
-use Rattle.lay_blocks.specs.BlockLayout.{BlockLayout}
+use Rattle.lay_flow.specs.Blocks.Lengths.{length_at}
+use Rattle.lay_flow.specs.Blocks.Children.{flag_at}
+use Rattle.lay_flow.specs.Blocks.MarginRuns.{has_top, run_at}
+use Rattle.lay_flow.specs.Blocks.BlockLayout.{BlockLayout}
 use Rattle.lay_flow.specs.Pass.State.{Settled, IsDone, IsSoFar, Columns, ended_run}
-use Rattle.lay_blocks.proofs.Truths.{true_false, not_low, low_not}
-use Rattle.lay_blocks.specs.MarginPlace.{IsAround, margin_place}
+use Rattle.lay_flow.proofs.BlocksLemmas.Truths.{true_false, not_low, low_not}
+use Rattle.lay_flow.specs.Blocks.MarginPlace.{IsAround, margin_place}
 
 -- one entry was changed
 pub record Wrote {A B : Type 0} (read : List A → ℕ → B) (old new : List A) (k : ℕ) (v : B) : Type 0 where

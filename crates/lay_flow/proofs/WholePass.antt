@@ -1,25 +1,25 @@
 -- All boxes are closed.
 use Rattle.std.proofs.Common.{◌≡◌, ℕ, zero, suc, ◌<◌, ◌≤◌, true, false, ℤ, ◌+ℤ◌, List, [], length, refl, sym, ap, ◌∙◌, arith}
-use Rattle.lay_blocks.specs.declared.flow_box.FlowBox.{FlowBox}
-use Rattle.lay_blocks.specs.Boxes.{parent_at, parents_of}
-use Rattle.lay_blocks.proofs.BoxTrees.{parent_before}
+use Rattle.lay_flow.specs.declared.blocks.flow_box.FlowBox.{FlowBox}
+use Rattle.lay_flow.specs.Blocks.Boxes.{parent_at, parents_of}
+use Rattle.lay_flow.proofs.BlocksLemmas.BoxTrees.{parent_before}
 use Rattle.lay_units.specs.declared.length.Unit.{Unit as Length}
 use Rattle.lay_margins.specs.Collapse.{Holds, collapse}
 use Rattle.lay_doc.specs.Tree.{IsTree}
-use Rattle.lay_blocks.specs.Lengths.{length_at}
-use Rattle.lay_blocks.specs.Children.{flag_at}
-use Rattle.lay_blocks.specs.MarginRuns.{Entry, block_at, margins, has_top, run_at, run_before, run_across}
-use Rattle.lay_blocks.specs.BlockLayout.{BlockLayout}
-use Rattle.lay_blocks.specs.BlockPositions.{IsBlockLayout, start_before}
+use Rattle.lay_flow.specs.Blocks.Lengths.{length_at}
+use Rattle.lay_flow.specs.Blocks.Children.{flag_at}
+use Rattle.lay_flow.specs.Blocks.MarginRuns.{Entry, block_at, margins, has_top, run_at, run_before, run_across}
+use Rattle.lay_flow.specs.Blocks.BlockLayout.{BlockLayout}
+use Rattle.lay_flow.specs.Blocks.BlockPositions.{IsBlockLayout, start_before}
 use Rattle.lay_flow.specs.Pass.State.{Marked, Settled, PassState, IsAt, Columns, columns_of, ended_run}
-use Rattle.lay_blocks.proofs.ChildPlaces.{next_none}
-use Rattle.lay_blocks.proofs.GatheredRuns.{begins as gathered_begins}
-use Rattle.lay_blocks.proofs.LayoutFacts.{mark_inherits}
-use Rattle.lay_blocks.specs.MarginPlace.{IsPlace, margin_place}
-use Rattle.lay_blocks.proofs.RunFacts.{ends_inside}
+use Rattle.lay_flow.proofs.BlocksLemmas.ChildPlaces.{next_none}
+use Rattle.lay_flow.proofs.BlocksLemmas.GatheredRuns.{begins as gathered_begins}
+use Rattle.lay_flow.proofs.BlocksLemmas.LayoutFacts.{mark_inherits}
+use Rattle.lay_flow.specs.Blocks.MarginPlace.{IsPlace, margin_place}
+use Rattle.lay_flow.proofs.BlocksLemmas.RunFacts.{ends_inside}
 use Rattle.lay_flow.proofs.RunReach.{RunEnds, mark_here, waiting_open, tops_here, reach_is}
 use Rattle.lay_flow.proofs.SoFar.{so_far_settled}
-use Rattle.lay_blocks.proofs.Truths.{true_false, true_or}
+use Rattle.lay_flow.proofs.BlocksLemmas.Truths.{true_false, true_or}
 
 module _ (boxes : List FlowBox) (y : BlockLayout) (is : IsBlockLayout boxes y) (tree : IsTree (parents_of boxes)) where
   -- the marks, once every run has ended

@@ -3,12 +3,12 @@ use Rattle.std.proofs.Common.{ℕ, ◌≡◌, ◌<◌, Bool, true, List, length,
 use Rattle.std.proofs.lemmas.Grind.{elements}
 use Rattle.std.proofs.lemmas.List.{length-map, map-set}
 use Rattle.lay_units.specs.declared.length.Unit.{Unit as Length}
-use Rattle.lay_blocks.specs.declared.flow_box.FlowBox.{FlowBox}
-use Rattle.lay_blocks.specs.Lengths.{length_at}
-use Rattle.lay_blocks.specs.MarginRuns.{block_at}
-use Rattle.lay_blocks.specs.BlockPositions.{is_placed}
+use Rattle.lay_flow.specs.declared.blocks.flow_box.FlowBox.{FlowBox}
+use Rattle.lay_flow.specs.Blocks.Lengths.{length_at}
+use Rattle.lay_flow.specs.Blocks.MarginRuns.{block_at}
+use Rattle.lay_flow.specs.Blocks.BlockPositions.{is_placed}
 use Rattle.lay_flow.specs.Pass.Knows.{AreExtentsKept}
-use Rattle.lay_blocks.specs.Children.{flag_at}
+use Rattle.lay_flow.specs.Blocks.Children.{flag_at}
 use Rattle.lay_flow.specs.Pass.Bounds.{clears_of, clear_edges_of, edge_or_none}
 use Rattle.lay_flow.proofs.ColumnWrites.{set_same, set_other, length-set'}
 use Rattle.lay_flow.proofs.SoFar.{Wrote}

@@ -3,15 +3,15 @@
 ghost use Rattle.std.specs.Prelude.{◌≡◌, ◌<◌, ◌+ℤ◌, pos, IfOk};
 ghost use Rattle.lay_units.specs.Units.{IsUsed, IsNear};
 ghost use Rattle.lay_floats.specs.Within.{IsWithin};
-ghost use Rattle.lay_blocks.specs.Boxes.{box_at};
-ghost use Rattle.lay_blocks.specs.FlowBoxes.{FloatBoxFits};
-ghost use Rattle.lay_blocks.specs.FlowPlaces.{AreNearPlaces, IsFlowOf, IsNearPlace, border_box, float_box, own_place, corner_at};
+ghost use Rattle.lay_flow.specs.Blocks.Boxes.{box_at};
+ghost use Rattle.lay_flow.specs.Blocks.FlowBoxes.{FloatBoxFits};
+ghost use Rattle.lay_flow.specs.Blocks.FlowPlaces.{AreNearPlaces, IsFlowOf, IsNearPlace, border_box, float_box, own_place, corner_at};
 ghost use Rattle.lay_flow.specs.Pass.Columns.{AreBorderBoxes, AreNearColumns, IsFarPlace};
-ghost use Rattle.lay_blocks.specs.Lengths.{length_at};
+ghost use Rattle.lay_flow.specs.Blocks.Lengths.{length_at};
 
+use crate::blocks::{BoxAt, BoxPlace, Boxes, FloatBox, FlowBox, FlowBoxes, FlowKind, FlowPlaces};
 use crate::columns::{length_at, place_at};
 use crate::flow_columns::{FlowColumns, flow_columns};
-use lay_blocks::{BoxAt, BoxPlace, Boxes, FloatBox, FlowBox, FlowBoxes, FlowKind, FlowPlaces};
 use lay_floats::Place;
 use lay_units::{NoMemory, Unit};
 use std::alloc::Global;

@@ -4,14 +4,15 @@ ghost use Rattle.std.specs.Prelude.{◌≡◌, ◌<◌, ◌⊎◌, true, false, 
 ghost use Rattle.lay_units.specs.declared.length.Unit.{Unit};
 ghost use Rattle.lay_floats.specs.ClearEdge.{Clears};
 ghost use Rattle.lay_floats.specs.declared.requests.Clear.TheVariants.{None as clear_none};
-ghost use Rattle.lay_blocks.specs.Boxes.{parent_at};
-ghost use Rattle.lay_blocks.specs.BlockFloats.{shape_at};
-ghost use Rattle.lay_blocks.specs.Clearance.{IsAbove, lower_of};
+ghost use Rattle.lay_flow.specs.Blocks.Boxes.{parent_at};
+ghost use Rattle.lay_flow.specs.Blocks.BlockFloats.{shape_at};
+ghost use Rattle.lay_flow.specs.Blocks.Clearance.{IsAbove, lower_of};
 ghost use Rattle.lay_flow.specs.Pass.Clears.{HasWaitingFloat, IsAboveFloats, IsEdgeWithout, IsSideToClear};
 ghost use Rattle.lay_flow.specs.Pass.Bounds.{IsEdgeNear};
 ghost use Rattle.lay_flow.specs.Pass.Known.{IsKnown, IsReadyAt};
-ghost use Rattle.lay_blocks.specs.Weights.{weight};
+ghost use Rattle.lay_flow.specs.Blocks.Weights.{weight};
 
+use crate::blocks::{BoxAt, ChildAt, Near};
 use crate::columns::write_edge;
 use crate::hypothetical_edge::hypothetical_edge;
 use crate::margin_place::BoxInRun;
@@ -20,7 +21,6 @@ use crate::marked_boxes::MarkedBoxes;
 use crate::pass::{Pass, RunStart};
 use crate::placement::place_up_to;
 use crate::settling::EndedRun;
-use lay_blocks::{BoxAt, ChildAt, Near};
 use lay_floats::{Clear, Side};
 use lay_units::{NoMemory, Unit};
 

@@ -1,10 +1,10 @@
 //! Reading and writing a column of lengths.
 
 ghost use Rattle.std.specs.Prelude.{◌≡◌, ◌<◌, length, slice_set};
-ghost use Rattle.lay_blocks.specs.Lengths.{length_at};
+ghost use Rattle.lay_flow.specs.Blocks.Lengths.{length_at};
 ghost use Rattle.lay_flow.specs.Pass.Bounds.{clears_of};
-ghost use Rattle.lay_blocks.specs.FlowPlaces.{corner_at};
-ghost use Rattle.lay_blocks.specs.Children.{flag_at};
+ghost use Rattle.lay_flow.specs.Blocks.FlowPlaces.{corner_at};
+ghost use Rattle.lay_flow.specs.Blocks.Children.{flag_at};
 
 use lay_floats::Place;
 use lay_units::Unit;

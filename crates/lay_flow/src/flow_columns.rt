@@ -2,11 +2,12 @@
 
 ghost use Rattle.std.specs.Prelude.{◌≡◌, ◌+◌, ◌-◌, ◌<◌, ◌≤◌, [], length, replicate, IfOk, OnOk};
 ghost use Rattle.lay_units.specs.Lengths.{no_length};
-ghost use Rattle.lay_blocks.specs.Boxes.{parent_at};
+ghost use Rattle.lay_flow.specs.Blocks.Boxes.{parent_at};
 ghost use Rattle.lay_flow.specs.Pass.Bounds.{AreBoxHeights, AreNear};
 ghost use Rattle.lay_flow.specs.Pass.Columns.{AreColumnsOf, AreNearColumns};
 ghost use Rattle.lay_flow.specs.Pass.Known.{IsFinished, IsKnown};
 
+use crate::blocks::{BoxAt, Boxes, ChildAt, Near, StandingBlock, line_corners};
 use crate::columns::{length_at, write_at};
 use crate::margin_place::EndingBox;
 use crate::margin_run::{end_of, no_margin};
@@ -15,7 +16,6 @@ use crate::marked_boxes::MarkedBoxes;
 use crate::pass::{Pass, RunStart};
 use crate::placement::{Placing, place_up_to};
 use crate::settling::EndedRun;
-use lay_blocks::{BoxAt, Boxes, ChildAt, Near, StandingBlock, line_corners};
 use lay_floats::{Clear, Floats, Place};
 use lay_lines::RowList;
 use lay_units::{NoMemory, Unit};

@@ -5,19 +5,19 @@ ghost use Rattle.lay_units.specs.declared.length.Unit.{Unit};
 ghost use Rattle.lay_units.specs.Units.{IsUsed};
 ghost use Rattle.lay_margins.specs.Collapse.{Holds};
 ghost use Rattle.lay_flow.specs.declared.hypothetical_edge.Outset.{Outset};
-ghost use Rattle.lay_blocks.specs.Boxes.{parent_at};
-ghost use Rattle.lay_blocks.specs.Children.{flag_at};
-ghost use Rattle.lay_blocks.specs.Lengths.{length_at};
-ghost use Rattle.lay_blocks.specs.BlockLayout.{BlockLayout};
-ghost use Rattle.lay_blocks.specs.BlockPositions.{IsBlockLayout, start_before};
+ghost use Rattle.lay_flow.specs.Blocks.Boxes.{parent_at};
+ghost use Rattle.lay_flow.specs.Blocks.Children.{flag_at};
+ghost use Rattle.lay_flow.specs.Blocks.Lengths.{length_at};
+ghost use Rattle.lay_flow.specs.Blocks.BlockLayout.{BlockLayout};
+ghost use Rattle.lay_flow.specs.Blocks.BlockPositions.{IsBlockLayout, start_before};
 ghost use Rattle.lay_flow.specs.Pass.LookAhead.{HasRead, IsOutermost, IsOutset, IsReading, reading};
-ghost use Rattle.lay_blocks.specs.MarginRuns.{block_at, has_top, margins, may_collapse_through, run_before};
+ghost use Rattle.lay_flow.specs.Blocks.MarginRuns.{block_at, has_top, margins, may_collapse_through, run_before};
 ghost use Rattle.lay_flow.specs.Pass.Struts.{StrutFits};
 
+use crate::blocks::{BoxAt, Boxes, Near};
 use crate::margin_place::BoxInRun;
 use crate::margin_run::{run_end, with_margin};
 use crate::used_strut::UsedStrut;
-use lay_blocks::{BoxAt, Boxes, Near};
 use lay_margins::Strut;
 use lay_units::Unit;
 

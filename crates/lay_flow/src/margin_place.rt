@@ -1,11 +1,11 @@
 //! The places of the sequence of margins of a context (CSS 2.2, 8.3.1).
 
 ghost use Rattle.std.specs.Prelude.{◌≡◌, ◌<◌, ◌≤◌, length};
-ghost use Rattle.lay_blocks.specs.Boxes.{parent_at};
-ghost use Rattle.lay_blocks.specs.BlockSizes.{BlockFits};
-ghost use Rattle.lay_blocks.specs.MarginRuns.{block_at};
+ghost use Rattle.lay_flow.specs.Blocks.Boxes.{parent_at};
+ghost use Rattle.lay_flow.specs.Blocks.BlockSizes.{BlockFits};
+ghost use Rattle.lay_flow.specs.Blocks.MarginRuns.{block_at};
 
-use lay_blocks::{Block, BoxAt};
+use crate::blocks::{Block, BoxAt};
 
 /// The innermost open box, which ends before the box at `next`.
 #[derive(Clone, Copy)]

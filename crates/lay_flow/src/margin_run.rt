@@ -5,9 +5,9 @@ ghost use Rattle.lay_units.specs.Units.{IsUsed, IsNear};
 ghost use Rattle.lay_margins.specs.Collapse.{Holds, collapse};
 ghost use Rattle.lay_flow.specs.Pass.Bounds.{is_hanging, position_of};
 
+use crate::blocks::Near;
 use crate::pass::RunStart;
 use crate::used_strut::UsedStrut;
-use lay_blocks::Near;
 use lay_margins::Strut;
 use lay_units::{Unit, sum_of};
 

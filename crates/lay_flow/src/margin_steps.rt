@@ -1,11 +1,12 @@
 //! The steps of the pass: a box is opened or closed, and its top or bottom margin is read.
 
 ghost use Rattle.std.specs.Prelude.{◌≡◌, ◌+◌, ◌<◌, ◌≤◌, ◌&&◌, not, true, false, length, OnOk};
-ghost use Rattle.lay_blocks.specs.Boxes.{parent_at};
-ghost use Rattle.lay_blocks.specs.MarginRuns.{block_at, may_collapse_through, may_join_bottoms, parts_tops};
+ghost use Rattle.lay_flow.specs.Blocks.Boxes.{parent_at};
+ghost use Rattle.lay_flow.specs.Blocks.MarginRuns.{block_at, may_collapse_through, may_join_bottoms, parts_tops};
 ghost use Rattle.lay_flow.specs.Pass.Bounds.{is_barred, is_hanging, state_of};
 ghost use Rattle.lay_flow.specs.Pass.Known.{IsKnown, IsReadyAt};
 
+use crate::blocks::{ChildAt, Near, StandingBlock};
 use crate::clearance::clear;
 use crate::columns::{is_cleared, length_at, write_at, write_flag};
 use crate::margin_place::EndingBox;
@@ -14,7 +15,6 @@ use crate::marked_boxes::MarkedBoxes;
 use crate::pass::{Pass, RunStart};
 use crate::placement::place_up_to;
 use crate::settling::EndedRun;
-use lay_blocks::{ChildAt, Near, StandingBlock};
 use lay_units::{NoMemory, Unit, sum_of};
 
 /// Reads the clearance and the top margin of the box, which is then the innermost open one.

@@ -1,11 +1,11 @@
 //! The boxes of a flow with their marks.
 
 ghost use Rattle.std.specs.Prelude.{◌≡◌, ℕ, length};
-ghost use Rattle.lay_blocks.specs.Lengths.{length_at};
-ghost use Rattle.lay_blocks.specs.Weights.{weight};
+ghost use Rattle.lay_flow.specs.Blocks.Lengths.{length_at};
+ghost use Rattle.lay_flow.specs.Blocks.Weights.{weight};
 ghost use Rattle.lay_flow.specs.Pass.Bounds.{IsMarkNear};
 
-use lay_blocks::{BoxAt, Boxes};
+use crate::blocks::{BoxAt, Boxes};
 use lay_units::Unit;
 
 /// The boxes of a flow, and their marks as far as they are known.

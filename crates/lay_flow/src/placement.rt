@@ -2,17 +2,17 @@
 
 ghost use Rattle.std.specs.Prelude.{◌≡◌, ◌+◌, ◌<◌, ◌≤◌, ◌++◌, ◌∷◌, [], length, true, OnOk, Some};
 ghost use Rattle.std.specs.Int.{int_max};
-ghost use Rattle.lay_blocks.specs.BlockFloats.{ceiling, float_request, solid_request, no_place, shape_at};
-ghost use Rattle.lay_blocks.specs.BlockPositions.{is_lines, is_solid};
-ghost use Rattle.lay_blocks.specs.Weights.{weight};
-ghost use Rattle.lay_blocks.specs.MarginRuns.{block_at};
+ghost use Rattle.lay_flow.specs.Blocks.BlockFloats.{ceiling, float_request, solid_request, no_place, shape_at};
+ghost use Rattle.lay_flow.specs.Blocks.BlockPositions.{is_lines, is_solid};
+ghost use Rattle.lay_flow.specs.Blocks.Weights.{weight};
+ghost use Rattle.lay_flow.specs.Blocks.MarginRuns.{block_at};
 ghost use Rattle.lay_flow.specs.Pass.Knows.{AreExtentsKept};
 ghost use Rattle.lay_flow.specs.Pass.Known.{ArePlaced, GoesOn};
 ghost use Rattle.lay_flow.specs.Pass.Placed.{IsCeilingNear};
 
+use crate::blocks::{BoxAt, Near, Shape};
 use crate::columns::{length_at, write_at};
 use crate::marked_boxes::{MarkedBox, MarkedBoxes};
-use lay_blocks::{BoxAt, Near, Shape};
 use lay_floats::{FloatReq, Floats, Place, Side, SolidReq};
 use lay_lines::{NodePlaceList, RowList};
 use lay_units::{NoMemory, Unit, sum_of};

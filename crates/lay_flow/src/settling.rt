@@ -4,8 +4,8 @@ ghost use Rattle.std.specs.Prelude.{◌≡◌, ◌+◌, ◌<◌, ◌≤◌, leng
 ghost use Rattle.lay_units.specs.declared.length.Unit.{Unit};
 ghost use Rattle.lay_flow.specs.Pass.State.{Settled};
 
+use crate::blocks::{BoxAt, Boxes};
 use crate::columns::{flag_at, length_at, write_at};
-use lay_blocks::{BoxAt, Boxes};
 use lay_units::Unit;
 
 /// A run that ended at a mark. It has the top margins of the boxes from `first` to before `end`.

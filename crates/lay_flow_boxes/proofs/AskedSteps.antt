@@ -4,10 +4,10 @@ use Rattle.std.specs.List.{list_any}
 use Rattle.std.proofs.lemmas.Bool.{cases_eq, cases_lt}
 use Rattle.lay_face.specs.FaceValue.{FaceValue}
 use Rattle.lay_box_tree.specs.declared.box_tree.BoxNode.{BoxNode}
-use Rattle.lay_blocks.specs.Children.{flag_at}
+use Rattle.lay_flow.specs.Blocks.Children.{flag_at}
 use Rattle.lay_box_tree.specs.Containing.{container_of}
-use Rattle.lay_items.specs.InlineContents.{AreContents, AreMarkedContents, KeptSegments, kept_at, kept_where}
-use Rattle.lay_items.specs.InlineSegments.{segments_in}
+use Rattle.lay_line_items.specs.InlineContents.{AreContents, AreMarkedContents, KeptSegments, kept_at, kept_where}
+use Rattle.lay_line_items.specs.InlineSegments.{segments_in}
 use Rattle.lay_space.specs.declared.segment.Segment.{Segment}
 use Rattle.lay_flow_boxes.specs.declared.asked_contents.Asked.{Asked}
 use Rattle.lay_flow_boxes.specs.AskedContents.{AreAskedContents, AreHolders, HoldsAsked, is_any_asked, is_asked, is_asked_at}

@@ -16,20 +16,20 @@ use Rattle.lay_box_tree.proofs.BoxForests.{length-parents}
 use Rattle.lay_box_tree.proofs.NearestContainers.{containers_are_a_tree}
 use Rattle.lay_floats.specs.declared.requests.Side.{Side}
 use Rattle.lay_floats.specs.declared.requests.Clear.{Clear as Cleared}
-use Rattle.lay_blocks.specs.declared.flow_box.FlowBox.{FlowBox}
-use Rattle.lay_blocks.specs.declared.flow_box.FlowKind.{FlowKind}
-use Rattle.lay_blocks.specs.declared.flow_box.BlockBox.{BlockBox}
-use Rattle.lay_blocks.specs.declared.flow_box.HeightRule.{HeightRule}
-use Rattle.lay_blocks.specs.declared.flow_box.FlowKind.TheVariants.{Block as block, Lines as lines}
-use Rattle.lay_blocks.specs.BlockPositions.{given_or_auto}
-use Rattle.lay_blocks.specs.Boxes.{box_at, empty_block, parent_at, parents_of}
-use Rattle.lay_blocks.specs.FlowBoxes.{AreFlowBoxes, BlockBoxFits, FloatBoxFits, IsFlowTree, KindFits, is_block, is_in_lines as is_line_kind, may_hold}
-use Rattle.lay_blocks.specs.FlowPlaces.{AreNearPlaces, FlowPlacesValue, IsFlowOf, box_place_at}
-use Rattle.lay_blocks.specs.Lengths.{length_at}
-use Rattle.lay_blocks.specs.Weights.{weight}
-use Rattle.lay_blocks.proofs.BoxTrees.{parent_is, parents_length}
-use Rattle.lay_line_content.specs.LineContents.{LineContentValue}
-use Rattle.lay_content.specs.BoxMeasuresValue.{BoxMeasuresValue}
+use Rattle.lay_flow.specs.declared.blocks.flow_box.FlowBox.{FlowBox}
+use Rattle.lay_flow.specs.declared.blocks.flow_box.FlowKind.{FlowKind}
+use Rattle.lay_flow.specs.declared.blocks.flow_box.BlockBox.{BlockBox}
+use Rattle.lay_flow.specs.declared.blocks.flow_box.HeightRule.{HeightRule}
+use Rattle.lay_flow.specs.declared.blocks.flow_box.FlowKind.TheVariants.{Block as block, Lines as lines}
+use Rattle.lay_flow.specs.Blocks.BlockPositions.{given_or_auto}
+use Rattle.lay_flow.specs.Blocks.Boxes.{box_at, empty_block, parent_at, parents_of}
+use Rattle.lay_flow.specs.Blocks.FlowBoxes.{AreFlowBoxes, BlockBoxFits, FloatBoxFits, IsFlowTree, KindFits, is_block, is_in_lines as is_line_kind, may_hold}
+use Rattle.lay_flow.specs.Blocks.FlowPlaces.{AreNearPlaces, FlowPlacesValue, IsFlowOf, box_place_at}
+use Rattle.lay_flow.specs.Blocks.Lengths.{length_at}
+use Rattle.lay_flow.specs.Blocks.Weights.{weight}
+use Rattle.lay_flow.proofs.BlocksLemmas.BoxTrees.{parent_is, parents_length}
+use Rattle.lay_lines.specs.Content.LineContents.{LineContentValue}
+use Rattle.lay_line_measures.specs.BoxMeasuresValue.{BoxMeasuresValue}
 use Rattle.lay_sizes.specs.declared.sizing.BoxSizes.{BoxSizes}
 use Rattle.lay_sizes.specs.declared.own_boxes.OwnBox.{OwnBox}
 use Rattle.lay_sizes.specs.OwnBoxes.{OwnBoxFits, OwnBoxesFit, own_box_at}

@@ -11,9 +11,9 @@ use Rattle.lay_box_tree.specs.declared.box_tree.BoxNode.{BoxNode}
 use Rattle.lay_box_tree.proofs.BoxForests.{length-parents}
 use Rattle.lay_space.specs.declared.item.Item.{Item}
 use Rattle.lay_space.specs.declared.item.Item.TheVariants as item
-use Rattle.lay_items.specs.InlineItems.{items_as, items_at, items_below}
-use Rattle.lay_items.specs.InlineStarts.{takes_room}
-use Rattle.lay_items.specs.OpenBoxes.{is_inline}
+use Rattle.lay_line_items.specs.InlineItems.{items_as, items_at, items_below}
+use Rattle.lay_line_items.specs.InlineStarts.{takes_room}
+use Rattle.lay_line_items.specs.OpenBoxes.{is_inline}
 use Rattle.lay_flow_boxes.specs.LineItems.{Sort, anchor, atomic, end, float, named, sorts_of, start, text}
 
 -- what a box of this role is

@@ -1,3 +1,4 @@
+pub mod WordsLemmas
 pub mod AloneSteps
 pub mod AskedSteps
 pub mod FlowBoxSteps

@@ -19,9 +19,9 @@ use Rattle.lay_style.specs.declared.style_words.Float.{Float}
 use Rattle.lay_style.specs.declared.style_words.Float.TheVariants as floating
 use Rattle.lay_space.specs.declared.item.Item.{Item}
 use Rattle.lay_space.specs.declared.item.Item.TheVariants as item
-use Rattle.lay_items.specs.InlineItems.{items_as, items_at, items_below, items_of}
-use Rattle.lay_items.specs.InlineStarts.{takes_room}
-use Rattle.lay_items.specs.OpenBoxes.{is_inline}
+use Rattle.lay_line_items.specs.InlineItems.{items_as, items_at, items_below, items_of}
+use Rattle.lay_line_items.specs.InlineStarts.{takes_room}
+use Rattle.lay_line_items.specs.OpenBoxes.{is_inline}
 use Rattle.lay_box_tree.specs.Containing.{container_of}
 use Rattle.lay_box_tree.specs.ContextBoxes.{AreContextBoxes}
 use Rattle.lay_box_tree.proofs.ContainerSteps.{containers_are_nearest_lem}

@@ -7,11 +7,11 @@ use Rattle.lay_doc.proofs.OneStyles.{same_list}
 use Rattle.lay_box_tree.specs.declared.box_tree.BoxNode.{BoxNode}
 use Rattle.lay_box_tree.specs.declared.inline_part.InlinePart.{InlinePart}
 use Rattle.lay_box_tree.specs.InlineParts.{AreInlineParts, no_part}
-use Rattle.lay_blocks.specs.declared.flow_box.FlowBox.{FlowBox}
-use Rattle.lay_blocks.specs.declared.flow_box.HeightRule.{HeightRule}
-use Rattle.lay_blocks.specs.Boxes.{no_box}
-use Rattle.lay_blocks.specs.Lengths.{length_at}
-use Rattle.lay_content.specs.BoxMeasuresValue.{BoxMeasuresValue}
+use Rattle.lay_flow.specs.declared.blocks.flow_box.FlowBox.{FlowBox}
+use Rattle.lay_flow.specs.declared.blocks.flow_box.HeightRule.{HeightRule}
+use Rattle.lay_flow.specs.Blocks.Boxes.{no_box}
+use Rattle.lay_flow.specs.Blocks.Lengths.{length_at}
+use Rattle.lay_line_measures.specs.BoxMeasuresValue.{BoxMeasuresValue}
 use Rattle.lay_sizes.specs.declared.sizing.BoxSizes.{BoxSizes}
 use Rattle.lay_sizes.specs.declared.own_boxes.OwnBox.{OwnBox}
 use Rattle.lay_sizes.specs.SizeColumns.{sizes_at}

@@ -6,10 +6,10 @@ use Rattle.lay_face.specs.FaceValue.{FaceValue}
 use Rattle.lay_box_tree.specs.declared.box_tree.BoxKind.{BoxKind}
 use Rattle.lay_box_tree.specs.declared.box_tree.BoxKind.TheVariants as kind
 use Rattle.lay_box_tree.specs.declared.box_tree.BoxNode.{BoxNode}
-use Rattle.lay_blocks.specs.Children.{flag_at}
+use Rattle.lay_flow.specs.Blocks.Children.{flag_at}
 use Rattle.lay_box_tree.specs.Containing.{container_of}
-use Rattle.lay_items.specs.InlineContents.{KeptSegments, kept_at}
-use Rattle.lay_items.specs.InlineSegments.{segments_in}
+use Rattle.lay_line_items.specs.InlineContents.{KeptSegments, kept_at}
+use Rattle.lay_line_items.specs.InlineSegments.{segments_in}
 use Rattle.lay_flow_boxes.specs.declared.asked_contents.Asked.{Asked}
 use Rattle.lay_flow_boxes.specs.declared.asked_contents.Asked.TheVariants.{Texts as texts, Anchors as anchors}
 

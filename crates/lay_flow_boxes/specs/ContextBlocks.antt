@@ -23,22 +23,22 @@ use Rattle.lay_floats.specs.declared.requests.Side.{Side}
 use Rattle.lay_floats.specs.declared.requests.Side.TheVariants as side
 use Rattle.lay_floats.specs.declared.requests.Clear.{Clear as Cleared}
 use Rattle.lay_floats.specs.declared.requests.Clear.TheVariants as sides
-use Rattle.lay_blocks.specs.declared.flow_box.Across.{Across}
-use Rattle.lay_blocks.specs.declared.flow_box.BlockBox.{BlockBox}
-use Rattle.lay_blocks.specs.declared.flow_box.FloatBox.{FloatBox}
-use Rattle.lay_blocks.specs.declared.flow_box.FlowBox.{FlowBox}
-use Rattle.lay_blocks.specs.declared.flow_box.FlowKind.{FlowKind}
-use Rattle.lay_blocks.specs.declared.flow_box.HeightRule.{HeightRule}
-use Rattle.lay_blocks.specs.declared.flow_box.FlowKind.TheVariants.{Block as block, Lines as lines, Solid as solid}
-use Rattle.lay_blocks.specs.declared.flow_box.FlowKind.TheVariants.{Float as float, LineFloat as line_float, Inline as inline}
-use Rattle.lay_items.specs.InlineSegments.{segments_in}
-use Rattle.lay_line_content.specs.LineContents.{LineContentValue}
-use Rattle.lay_content.specs.declared.container.Container.{Container}
-use Rattle.lay_content.specs.BoxMeasuresValue.{BoxMeasuresValue}
-use Rattle.lay_content.specs.Contents.{content_in}
-use Rattle.lay_content.specs.SeenLines.{has_seen_line}
-use Rattle.lay_blocks.specs.Lengths.{length_at}
-use Rattle.lay_blocks.specs.Boxes.{box_at, empty_block}
+use Rattle.lay_flow.specs.declared.blocks.flow_box.Across.{Across}
+use Rattle.lay_flow.specs.declared.blocks.flow_box.BlockBox.{BlockBox}
+use Rattle.lay_flow.specs.declared.blocks.flow_box.FloatBox.{FloatBox}
+use Rattle.lay_flow.specs.declared.blocks.flow_box.FlowBox.{FlowBox}
+use Rattle.lay_flow.specs.declared.blocks.flow_box.FlowKind.{FlowKind}
+use Rattle.lay_flow.specs.declared.blocks.flow_box.HeightRule.{HeightRule}
+use Rattle.lay_flow.specs.declared.blocks.flow_box.FlowKind.TheVariants.{Block as block, Lines as lines, Solid as solid}
+use Rattle.lay_flow.specs.declared.blocks.flow_box.FlowKind.TheVariants.{Float as float, LineFloat as line_float, Inline as inline}
+use Rattle.lay_line_items.specs.InlineSegments.{segments_in}
+use Rattle.lay_lines.specs.Content.LineContents.{LineContentValue}
+use Rattle.lay_line_measures.specs.declared.container.Container.{Container}
+use Rattle.lay_line_measures.specs.BoxMeasuresValue.{BoxMeasuresValue}
+use Rattle.lay_line_measures.specs.Contents.{content_in}
+use Rattle.lay_line_measures.specs.SeenLines.{has_seen_line}
+use Rattle.lay_flow.specs.Blocks.Lengths.{length_at}
+use Rattle.lay_flow.specs.Blocks.Boxes.{box_at, empty_block}
 use Rattle.lay_sizes.specs.declared.sizing.BoxSizes.{BoxSizes}
 use Rattle.lay_sizes.specs.declared.own_boxes.OwnBox.{OwnBox}
 use Rattle.lay_box_tree.specs.Containing.{container_of}

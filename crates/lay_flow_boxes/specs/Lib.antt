@@ -1,3 +1,4 @@
+pub mod Words
 pub mod AloneInLines
 pub mod AskedContents
 pub mod ContextBlocks

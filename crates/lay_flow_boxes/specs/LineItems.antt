@@ -10,7 +10,7 @@ use Rattle.lay_space.specs.declared.item.Item.{Item}
 use Rattle.lay_space.specs.declared.item.Item.TheVariants as item
 use Rattle.lay_box_tree.specs.Containing.{container_of}
 use Rattle.lay_box_tree.specs.ContextBoxes.{AreContextBoxes}
-use Rattle.lay_items.specs.InlineItems.{items_of}
+use Rattle.lay_line_items.specs.InlineItems.{items_of}
 use Rattle.lay_flow_boxes.specs.InlineContainers.{is_inline_container}
 
 pub data Sort : Type 0 where

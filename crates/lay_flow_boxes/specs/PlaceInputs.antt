@@ -7,14 +7,14 @@ use Rattle.lay_units.specs.Units.{IsUsedSize}
 use Rattle.lay_frag.specs.declared.frag.Frag.{Frag}
 use Rattle.lay_box_tree.specs.declared.box_tree.BoxNode.{BoxNode}
 use Rattle.lay_face.specs.FaceValue.{FaceValue}
-use Rattle.lay_blocks.specs.declared.flow_box.HeightRule.{HeightRule}
+use Rattle.lay_flow.specs.declared.blocks.flow_box.HeightRule.{HeightRule}
 use Rattle.lay_sizes.specs.declared.sizing.BoxSizes.{BoxSizes}
 use Rattle.lay_sizes.specs.declared.own_boxes.OwnBox.{OwnBox}
 use Rattle.lay_sizes.specs.SizeBounds.{IsUsedSizeOrAuto}
 use Rattle.lay_sizes.specs.SizeColumns.{HaveSizeBounds}
 use Rattle.lay_sizes.specs.OwnBoxes.{OwnBoxesFit}
 use Rattle.lay_box_tree.specs.ContextBoxes.{AreContextBoxes}
-use Rattle.lay_pieces.specs.InnerPieces.{AreNearInnerPieces}
+use Rattle.lay_placements.specs.InnerPieces.{AreNearInnerPieces}
 
 pub record PlaceInput : Type 0 where
   pub boxes : List BoxNode

@@ -1,12 +1,12 @@
 //! The content of lines that is asked for more than once.
 
 ghost use Rattle.std.specs.Prelude.{◌≡◌, ◌<◌, length, IfOk};
-ghost use Rattle.lay_items.specs.InlineContents.{AreContents};
+ghost use Rattle.lay_line_items.specs.InlineContents.{AreContents};
 ghost use Rattle.lay_flow_boxes.specs.AskedContents.{AreAskedContents, AreHolders, is_any_asked, is_asked, is_asked_at};
 
 use lay_box_tree::{BoxKind, BoxNode, ContextBoxes};
 use lay_face::Face;
-use lay_items::InlineContents;
+use lay_line_items::InlineContents;
 use lay_units::NoMemory;
 use std::alloc::Global;
 

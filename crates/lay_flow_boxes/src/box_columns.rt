@@ -3,7 +3,7 @@
 ghost use Rattle.std.specs.Prelude.{◌≡◌, ◌<◌, length};
 ghost use Rattle.lay_style.specs.ComputedStyle.{style_at};
 ghost use Rattle.lay_box_tree.specs.BoxColumns.{box_styles};
-ghost use Rattle.lay_blocks.specs.Lengths.{length_at};
+ghost use Rattle.lay_flow.specs.Blocks.Lengths.{length_at};
 ghost use Rattle.lay_sizes.specs.SizeColumns.{HaveSizeBounds, sizes_at};
 ghost use Rattle.lay_sizes.specs.OwnBoxes.{OwnBoxFits, OwnBoxesFit, own_box_at};
 ghost use Rattle.lay_flow_boxes.specs.Outside.{outside};

@@ -3,7 +3,7 @@
 ghost use Rattle.std.specs.Prelude.{ℕ, ◌≡◌, ◌<◌, ◌≤◌, length, IfOk};
 ghost use Rattle.lay_sizes.specs.SizeBounds.{SizeFits};
 ghost use Rattle.lay_box_tree.specs.InlineParts.{AreInlineParts};
-ghost use Rattle.lay_blocks.specs.Boxes.{box_at};
+ghost use Rattle.lay_flow.specs.Blocks.Boxes.{box_at};
 ghost use Rattle.lay_sizes.specs.OwnBoxes.{own_box_at};
 ghost use Rattle.lay_flow_boxes.specs.ContextBlocks.{AreFlowBoxesOf, block_box, cleared_by, cleared_sides, float_box};
 ghost use Rattle.lay_flow_boxes.specs.ContextBlocks.{float_side, flow_box_of, has_lines, height_rule, inner_box};
@@ -18,11 +18,11 @@ use crate::context_blocks::{content_right, inside_edge};
 use crate::inline_containers::inline_containers;
 use crate::line_boxes::{Shaping, lines_in};
 use crate::place_input::{PlaceInput, height_rule_of};
-use lay_blocks::{
-    Across, BlockBox, FloatBox, FlowBox, FlowKind, HeightRule, LinesBox, SolidBox, Vertical,
-};
 use lay_box_tree::{InlinePart, Role};
 use lay_floats::{Clear, Side};
+use lay_flow::blocks::{
+    Across, BlockBox, FloatBox, FlowBox, FlowKind, HeightRule, LinesBox, SolidBox, Vertical,
+};
 use lay_sizes::{BoxSizes, OwnBox};
 use lay_style::Float;
 use lay_units::{Len, NoMemory, Unit};

@@ -1,7 +1,7 @@
 //! Which boxes of a context hold lines and nothing else in flow (CSS 2.2, 9.2.1).
 
 ghost use Rattle.std.specs.Prelude.{ℕ, ◌≡◌, ◌<◌, length, IfOk};
-ghost use Rattle.lay_blocks.specs.Children.{flag_at};
+ghost use Rattle.lay_flow.specs.Blocks.Children.{flag_at};
 ghost use Rattle.lay_flow_boxes.specs.AloneInLines.{AreAlone};
 ghost use Rattle.lay_flow_boxes.specs.InlineContainers.{holds, is_beside_lines, is_block_box, is_inline_container, is_of, is_own_container};
 

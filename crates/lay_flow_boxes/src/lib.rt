@@ -5,6 +5,8 @@
 //! hold lines alone) and `specs/ContextBlocks.antt` (blocks, lines, solid boxes and floats). There is one such shape
 //! (`specs/Laws.antt`). `specs/LineItems.antt` says that the boxes in lines are the items of these, each once, and
 //! `specs/OneLevel.antt` that preferred widths agree with the flow on which boxes hold lines.
+//!
+//! - `words`: laws of words, lines and preferred widths.
 #![tactic(auto)]
 
 mod asked_contents;
@@ -16,6 +18,7 @@ mod laws;
 mod line_boxes;
 mod place_input;
 mod shape;
+pub mod words;
 
 pub use asked_contents::{Asked, contents_of, is_any_asked};
 pub use laws::{

@@ -1,8 +1,8 @@
 //! The boxes of one context that hold lines.
 
 ghost use Rattle.std.specs.Prelude.{◌≡◌, ◌<◌, Some, None, length, IfOk, IfSome};
-ghost use Rattle.lay_items.specs.InlineSegments.{segments_in};
-ghost use Rattle.lay_content.specs.SeenLines.{has_seen_line};
+ghost use Rattle.lay_line_items.specs.InlineSegments.{segments_in};
+ghost use Rattle.lay_line_measures.specs.SeenLines.{has_seen_line};
 ghost use Rattle.lay_flow_boxes.specs.ContextBlocks.{content_of_box, line_container, lines_in};
 ghost use Rattle.lay_flow_boxes.specs.FlowShapes.{measures_in};
 ghost use Rattle.lay_flow_boxes.specs.LineBoxes.{IsShaping};
@@ -11,9 +11,11 @@ use crate::box_columns::{length_at, sizes_at};
 use crate::context_blocks::{content_right, inside_edge};
 use crate::place_input::PlaceInput;
 use lay_box_tree::InlinePart;
-use lay_content::{BoxMeasures, Container, has_seen_line, line_content, line_content_of_items};
-use lay_items::measured_items;
-use lay_line_content::LineContent;
+use lay_line_items::measured_items;
+use lay_line_measures::{
+    BoxMeasures, Container, has_seen_line, line_content, line_content_of_items,
+};
+use lay_lines::content::LineContent;
 use lay_space::Segment;
 use lay_units::{NoMemory, Unit};
 use std::alloc::Global;

@@ -5,15 +5,15 @@ ghost use Rattle.lay_box_tree.specs.Roles.{clear_at, role_at};
 ghost use Rattle.lay_sizes.specs.SizeColumns.{sizes_at};
 ghost use Rattle.lay_box_tree.specs.Containing.{container_of};
 ghost use Rattle.lay_box_tree.specs.ContextBoxes.{is_float};
-ghost use Rattle.lay_items.specs.InlineContents.{AreContents};
-ghost use Rattle.lay_items.specs.InlineSegments.{segments_in};
+ghost use Rattle.lay_line_items.specs.InlineContents.{AreContents};
+ghost use Rattle.lay_line_items.specs.InlineSegments.{segments_in};
 ghost use Rattle.lay_flow_boxes.specs.PlaceInputs.{HeightRuleFits, PlaceInputFits, height_rule_of};
 
-use lay_blocks::HeightRule;
 use lay_box_tree::{BoxNode, ContextBoxes, Role};
 use lay_face::Face;
-use lay_items::InlineContents;
-use lay_pieces::{ContextSizes, InnerPieces, OwnBoxes};
+use lay_flow::blocks::HeightRule;
+use lay_line_items::InlineContents;
+use lay_placements::{ContextSizes, InnerPieces, OwnBoxes};
 use lay_sizes::{BoxSizes, OwnBox};
 use lay_space::Segment;
 use lay_style::Clear;
@@ -35,7 +35,7 @@ pub struct PlaceInput {
 }
 
 impl Model for PlaceInput {
-    ghost use Rattle.lay_items.specs.InlineContents.{AreContents};
+    ghost use Rattle.lay_line_items.specs.InlineContents.{AreContents};
     ghost use Rattle.lay_flow_boxes.specs.PlaceInputs.{PlaceInput as Plain, PlaceInputFits};
 
     ghost Value = { Plain };

@@ -1,10 +1,10 @@
 -- The accepted lists of edits of a history are some of those that its calls gave, and all where none was refused.
 use Rattle.std.proofs.Common.{◌≡◌, ℕ, suc, ◌≤◌, List, [], ◌∷◌, length, slice_get, Some, refl, ap, arith}
 use Rattle.lay_doc.specs.declared.edit.Edit.{Edit as Change}
-use Rattle.lay_edits.specs.declared.command.Reply.{Reply}
-use Rattle.lay_edits.specs.declared.command.Reply.TheVariants.{Accepted, NoMemory, Refused, Shown}
-use Rattle.lay_edits.specs.declared.history.Entry.{Entry}
-use Rattle.lay_edits.specs.declared.history.Entry.TheVariants.{Edit, Publish, Latest, Sync}
+use Rattle.lay_history.specs.declared.edits.command.Reply.{Reply}
+use Rattle.lay_history.specs.declared.edits.command.Reply.TheVariants.{Accepted, NoMemory, Refused, Shown}
+use Rattle.lay_history.specs.declared.edits.history.Entry.{Entry}
+use Rattle.lay_history.specs.declared.edits.history.Entry.TheVariants.{Edit, Publish, Latest, Sync}
 use Rattle.lay_history.specs.Calls.{calls}
 use Rattle.lay_history.specs.Histories.{lists}
 use Rattle.lay_generator.proofs.EditorOrder.{given}

@@ -10,8 +10,8 @@ use Rattle.std.proofs.lemmas.List.Concat.{flat_map-append}
 use Rattle.std.proofs.lemmas.List.FromFn.{length-map-range_with_len}
 use Rattle.std.proofs.lemmas.List.Sums.{sum_by-append}
 use Rattle.lay_doc.specs.declared.edit.Edit.{Edit}
-use Rattle.lay_edits.specs.declared.command.Cmd.{Cmd}
-use Rattle.lay_edits.specs.declared.command.Cmd.TheVariants.{Edits, Latest, Sync}
+use Rattle.lay_history.specs.declared.edits.command.Cmd.{Cmd}
+use Rattle.lay_history.specs.declared.edits.command.Cmd.TheVariants.{Edits, Latest, Sync}
 use Rattle.lay_run.specs.Scripts.{is_read, reads_of}
 use Rattle.lay_generator.specs.Commands.{batch_at, batches}
 use Rattle.lay_generator.specs.Batches.{IsBegun, IsFull, IsInBatches, edits_in, edits_of, last_edits}

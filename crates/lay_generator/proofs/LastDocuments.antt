@@ -7,12 +7,12 @@ use Rattle.lay_doc.specs.declared.edit.EditFault.{EditFault}
 use Rattle.lay_doc.specs.Document.{Document}
 use Rattle.lay_doc.specs.Changes.{style_fault}
 use Rattle.lay_doc.specs.Edits.{after, fault}
-use Rattle.lay_edits.specs.EditLists.{after_all, first}
-use Rattle.lay_edits.specs.declared.command.Cmd.TheVariants as command
-use Rattle.lay_edits.specs.declared.command.Reply.{Reply}
-use Rattle.lay_edits.specs.declared.command.Reply.TheVariants.{Accepted, NoMemory, Refused, Shown}
-use Rattle.lay_edits.specs.declared.history.Entry.{Entry}
-use Rattle.lay_edits.specs.declared.history.Entry.TheVariants.{Edit, Publish, Latest, Sync}
+use Rattle.lay_history.specs.Edits.EditLists.{after_all, first}
+use Rattle.lay_history.specs.declared.edits.command.Cmd.TheVariants as command
+use Rattle.lay_history.specs.declared.edits.command.Reply.{Reply}
+use Rattle.lay_history.specs.declared.edits.command.Reply.TheVariants.{Accepted, NoMemory, Refused, Shown}
+use Rattle.lay_history.specs.declared.edits.history.Entry.{Entry}
+use Rattle.lay_history.specs.declared.edits.history.Entry.TheVariants.{Edit, Publish, Latest, Sync}
 use Rattle.lay_history.specs.Calls.{AnswersScripts, Call, calls, calls_of}
 use Rattle.lay_history.specs.Histories.{list_if_accepted, lists}
 use Rattle.lay_history.specs.Legal.{IsLegal, doc_after}

@@ -10,7 +10,7 @@ use Rattle.lay_doc.specs.NewNodes.{NewNodeValue}
 use Rattle.lay_doc.specs.Document.{Document}
 use Rattle.lay_doc.specs.declared.edit.EditFault.{EditFault}
 use Rattle.lay_doc.specs.Edits.{insert_fault, last_index}
-use Rattle.lay_edits.specs.declared.command.Cmd.{Cmd}
+use Rattle.lay_history.specs.declared.edits.command.Cmd.{Cmd}
 use Rattle.lay_doc.specs.declared.edit.Edit.{Edit}
 use Rattle.lay_json.specs.Nodes.{without_fault}
 use Rattle.lay_face.specs.FaceValue.{FaceValue}

@@ -2,8 +2,8 @@
 use Rattle.std.specs.Prelude.{◌≡◌, ◌≤◌, ◌<◌, List, [], ◌++◌, flat_map, length, Option, Some, None, IfSome}
 use Rattle.std.specs.List.{All}
 use Rattle.lay_doc.specs.declared.edit.Edit.{Edit}
-use Rattle.lay_edits.specs.declared.command.Cmd.{Cmd}
-use Rattle.lay_edits.specs.declared.command.Cmd.TheVariants.{Edits, Latest, Sync}
+use Rattle.lay_history.specs.declared.edits.command.Cmd.{Cmd}
+use Rattle.lay_history.specs.declared.edits.command.Cmd.TheVariants.{Edits, Latest, Sync}
 use Rattle.lay_generator.specs.Commands.{batch_size}
 
 abbrev pub edits_in : Cmd → List Edit

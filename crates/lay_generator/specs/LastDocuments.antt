@@ -3,9 +3,9 @@
 use Rattle.std.specs.Prelude.{ℕ, List, [], ◌∷◌, flat_map, fold, length}
 use Rattle.lay_doc.specs.declared.edit.Edit.{Edit}
 use Rattle.lay_doc.specs.Document.{Document}
-use Rattle.lay_edits.specs.declared.command.Cmd.{Cmd}
-use Rattle.lay_edits.specs.declared.command.Cmd.TheVariants.{Edits, Latest, Sync}
-use Rattle.lay_edits.specs.EditLists.{after_all}
+use Rattle.lay_history.specs.declared.edits.command.Cmd.{Cmd}
+use Rattle.lay_history.specs.declared.edits.command.Cmd.TheVariants.{Edits, Latest, Sync}
+use Rattle.lay_history.specs.Edits.EditLists.{after_all}
 use Rattle.lay_run.specs.Runs.{Run}
 
 -- the list of edits that a command gives

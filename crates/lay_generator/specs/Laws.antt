@@ -7,10 +7,10 @@ use Rattle.lay_doc.specs.declared.node.NodeId.{NodeId}
 use Rattle.lay_doc.specs.NewNodes.{NewNodeValue}
 use Rattle.lay_doc.specs.Document.{Document, root_document}
 use Rattle.lay_doc.specs.Edits.{insert_fault, last_index, root_fault}
-use Rattle.lay_edits.specs.EditLists.{first}
-use Rattle.lay_edits.specs.declared.command.Reply.TheVariants.{NoMemory, Refused}
-use Rattle.lay_edits.specs.declared.history.Entry.{Entry}
-use Rattle.lay_edits.specs.declared.history.Entry.TheVariants.{Edit}
+use Rattle.lay_history.specs.Edits.EditLists.{first}
+use Rattle.lay_history.specs.declared.edits.command.Reply.TheVariants.{NoMemory, Refused}
+use Rattle.lay_history.specs.declared.edits.history.Entry.{Entry}
+use Rattle.lay_history.specs.declared.edits.history.Entry.TheVariants.{Edit}
 use Rattle.lay_history.specs.Calls.{AnswersScripts}
 use Rattle.lay_history.specs.Histories.{accepted}
 use Rattle.lay_history.specs.Legal.{IsLegal, doc_after}

@@ -4,7 +4,7 @@ ghost use Rattle.std.specs.Prelude.{◌≡◌, ◌++◌, ◌∷◌, [], IfOk, On
 ghost use Rattle.lay_generator.specs.Commands.{batches};
 
 use lay_doc::Edit;
-use lay_edits::{Cmd, CmdList, Edits};
+use lay_history::edits::{Cmd, CmdList, Edits};
 use lay_units::NoMemory;
 use std::alloc::Global;
 use std::marker::Model;

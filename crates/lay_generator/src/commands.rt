@@ -10,7 +10,7 @@ use crate::batches::Batches;
 use crate::draws::Draws;
 use crate::nodes::{decl, px};
 use lay_doc::{Edit, NodeId};
-use lay_edits::{Cmd, CmdList};
+use lay_history::edits::{Cmd, CmdList};
 use lay_run::ScriptList;
 use lay_style::Property;
 use lay_units::NoMemory;

@@ -1,3 +1,4 @@
+pub mod AutomaticLemmas
 pub mod Places
 pub mod Standing
 pub mod OneGrid

@@ -1,3 +1,4 @@
+pub mod Automatic
 pub mod Lengths
 pub mod Areas
 pub mod Places

@@ -5,8 +5,11 @@
 //! of `specs/Heights.antt` and `AreRowBaselines` of `specs/RowBaselines.antt`. They are relations,
 //! and have one value each. Rows have a grid and heights, and columns have widths, whatever is
 //! asked of them (`specs/Laws.antt`).
+//!
+//! - `automatic`: the widths of columns in the automatic table layout (17.5.2.2).
 #![tactic(auto)]
 
+pub mod automatic;
 mod baselines;
 mod cells;
 mod columns;

@@ -1,3 +1,4 @@
+pub mod EditsLemmas
 pub mod Lists
 pub mod OneMore
 pub mod Versions

@@ -3,8 +3,8 @@ use Rattle.std.proofs.Common.{◌≡◌, ◌≤◌, ℕ, ◌+◌, zero, suc, Lis
 use Rattle.std.proofs.lemmas.List.Concat.{flat_map-append}
 use Rattle.std.proofs.lemmas.List.Sums.{fold-append}
 use Rattle.lay_doc.specs.Document.{Document}
-use Rattle.lay_edits.specs.EditLists.{after_all}
-use Rattle.lay_edits.specs.declared.history.Entry.{Entry}
+use Rattle.lay_history.specs.Edits.EditLists.{after_all}
+use Rattle.lay_history.specs.declared.edits.history.Entry.{Entry}
 use Rattle.lay_history.specs.Histories.{accepted, doc_at, list_in, lists, last_or, published, version_in}
 use Rattle.lay_history.specs.Legal.{IsLegal, MayFollow, doc_after}
 use Rattle.lay_history.specs.Calls.{call_in, calls}

@@ -2,10 +2,10 @@
 -- one from 0. A call is one command of an editor, with its index.
 use Rattle.std.specs.Prelude.{ℕ, zero, suc, ◌≡◌, ◌+◌, ◌<◌, ◌⊎◌, ◌==◌, List, [], ◌∷◌}
 use Rattle.std.specs.Prelude.{flat_map, slice_get, slice_index_or, Some, if◌then◌else◌}
-use Rattle.lay_edits.specs.declared.command.Cmd.{Cmd}
-use Rattle.lay_edits.specs.declared.command.Cmd.TheVariants as command
-use Rattle.lay_edits.specs.declared.history.Entry.{Entry}
-use Rattle.lay_edits.specs.declared.history.Entry.TheVariants.{Edit, Publish, Latest, Sync}
+use Rattle.lay_history.specs.declared.edits.command.Cmd.{Cmd}
+use Rattle.lay_history.specs.declared.edits.command.Cmd.TheVariants as command
+use Rattle.lay_history.specs.declared.edits.history.Entry.{Entry}
+use Rattle.lay_history.specs.declared.edits.history.Entry.TheVariants.{Edit, Publish, Latest, Sync}
 
 pub record Call : Type 0 where
   pub editor : ℕ

@@ -7,11 +7,11 @@ use Rattle.std.specs.Prelude.{ℕ, ◌≡◌, ◌+◌, ◌<◌, ⊤, List, lengt
 use Rattle.std.specs.List.{All}
 use Rattle.lay_doc.specs.declared.edit.Edit.{Edit as Change}
 use Rattle.lay_doc.specs.Document.{Document}
-use Rattle.lay_edits.specs.EditLists.{fault_at, first}
-use Rattle.lay_edits.specs.declared.command.Reply.{Reply}
-use Rattle.lay_edits.specs.declared.command.Reply.TheVariants.{Accepted, Refused, Shown, NoMemory}
-use Rattle.lay_edits.specs.declared.history.Entry.{Entry}
-use Rattle.lay_edits.specs.declared.history.Entry.TheVariants.{Edit, Publish, Latest, Sync}
+use Rattle.lay_history.specs.Edits.EditLists.{fault_at, first}
+use Rattle.lay_history.specs.declared.edits.command.Reply.{Reply}
+use Rattle.lay_history.specs.declared.edits.command.Reply.TheVariants.{Accepted, Refused, Shown, NoMemory}
+use Rattle.lay_history.specs.declared.edits.history.Entry.{Entry}
+use Rattle.lay_history.specs.declared.edits.history.Entry.TheVariants.{Edit, Publish, Latest, Sync}
 use Rattle.lay_history.specs.Histories.{accepted, doc_at, last_published, published}
 
 -- the reply answers a list of edits of a document, before which so many lists were accepted

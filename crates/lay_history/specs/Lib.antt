@@ -1,3 +1,4 @@
+pub mod Edits
 pub mod Histories
 pub mod Legal
 pub mod Calls

@@ -1,6 +1,6 @@
 -- The trees of the versions that a history publishes.
 use Rattle.std.specs.Prelude.{ℕ, ◌≡◌, ◌==◌, List, map, find, Option, option_map}
-use Rattle.lay_edits.specs.declared.history.Entry.{Entry}
+use Rattle.lay_history.specs.declared.edits.history.Entry.{Entry}
 use Rattle.lay_frag.specs.Pieces.{Context}
 use Rattle.lay_history.specs.Histories.{published}
 

@@ -4,8 +4,11 @@
 //! it was then (`specs/Legal.antt`); it answers the commands of editors, and in turn where they take turns
 //! (`specs/Calls.antt`). The versions that it publishes have trees (`specs/Trees.antt`). `specs/Laws.antt` says what
 //! follows of these definitions.
+//!
+//! - `edits`: lists of edits, the commands of editors that hold them, and the replies to these.
 #![tactic(auto)]
 
+pub mod edits;
 mod laws;
 mod published_tree;
 

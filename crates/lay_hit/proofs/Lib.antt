@@ -1,3 +1,4 @@
+pub mod PaintedLemmas
 pub mod Orders
 pub mod Rising
 pub mod Buckets

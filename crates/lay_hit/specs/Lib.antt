@@ -1,3 +1,4 @@
+pub mod Painted
 pub mod PaintKinds
 pub mod Groups
 pub mod Sorting

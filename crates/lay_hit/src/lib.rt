@@ -4,6 +4,8 @@
 //! as a whole (`specs/Groups.antt`). `specs/Painting.antt` lists the boxes and texts of a whole tree from back to front,
 //! step by step, and `hit` answers the last of them that holds the point (`specs/Hits.antt`). `hit_line` is the line that
 //! says so.
+//!
+//! - `painted`: laws that a solved document is painted once.
 #![tactic(auto)]
 
 mod fronts;
@@ -13,6 +15,7 @@ mod laws;
 mod line;
 mod node_pieces;
 mod noted;
+pub mod painted;
 mod point;
 mod question;
 mod rank;

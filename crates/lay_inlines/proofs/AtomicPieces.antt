@@ -1,12 +1,12 @@
 -- Each atomic box has one piece.
 use Rattle.std.proofs.Common.{◌≡◌, ◌∙◌, ℕ, ◌==◌, ◌&&◌, ℤ, Bool, true, false, if◌then◌else◌, List, [], ◌∷◌, ◌++◌, length, drop, map, refl, ap}
 use Rattle.lay_units.specs.declared.length.Unit.{Unit}
-use Rattle.lay_line_content.specs.declared.content.InlineArea.{InlineArea}
-use Rattle.lay_line_content.specs.declared.content.Part.{Part}
-use Rattle.lay_line_content.specs.declared.content.Part.TheVariants.{Space, PreservedSpace, Tab, Linefeed, Text, Start, End, Atomic}
-use Rattle.lay_line_content.specs.declared.frame.Frame.{Frame}
-use Rattle.lay_line_content.specs.declared.pen.Pen.{Pen}
-use Rattle.lay_line_content.specs.Pens.{over, start_of}
+use Rattle.lay_lines.specs.declared.content.content.InlineArea.{InlineArea}
+use Rattle.lay_lines.specs.declared.content.content.Part.{Part}
+use Rattle.lay_lines.specs.declared.content.content.Part.TheVariants.{Space, PreservedSpace, Tab, Linefeed, Text, Start, End, Atomic}
+use Rattle.lay_lines.specs.declared.content.frame.Frame.{Frame}
+use Rattle.lay_lines.specs.declared.content.pen.Pen.{Pen}
+use Rattle.lay_lines.specs.Content.Pens.{over, start_of}
 use Rattle.lay_inlines.specs.declared.line_piece.LinePieceKind.{LinePieceKind}
 use Rattle.lay_inlines.specs.declared.line_piece.LinePieceKind.TheVariants as on_line
 use Rattle.lay_inlines.specs.declared.spans.Span.{Span}

@@ -3,7 +3,7 @@ use Rattle.std.proofs.Common.{◌≡◌, ◌∙◌, ℕ, ◌+◌, ℤ, Bool, Lis
 use Rattle.std.proofs.lemmas.List.{drop_more, drop-drop, get_or-drop}
 use Rattle.lay_units.specs.declared.length.Unit.{Unit}
 use Rattle.lay_units.specs.Lengths.{no_length}
-use Rattle.lay_line_content.specs.declared.content.InlineArea.{InlineArea}
+use Rattle.lay_lines.specs.declared.content.content.InlineArea.{InlineArea}
 use Rattle.lay_inlines.specs.declared.spans.Span.{Span}
 use Rattle.lay_inlines.specs.declared.strokes.Stroke.{Stroke}
 use Rattle.lay_inlines.specs.declared.line_piece.LinePieceKind.TheVariants.{Inline}

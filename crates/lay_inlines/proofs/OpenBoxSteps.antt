@@ -1,11 +1,11 @@
 -- Open boxes, content after content.
 use Rattle.std.proofs.Common.{◌≡◌, ◌∙◌, ℕ, zero, suc, ◌<◌, Bool, IsTrue, IsFalse, List, [], ◌∷◌, ◌++◌, inl, inr, take, drop, refl, ap, arith}
 use Rattle.std.proofs.lemmas.Bool.{cases_lt}
-use Rattle.lay_line_content.specs.declared.content.Part.{Part}
-use Rattle.lay_line_content.specs.declared.content.Part.TheVariants.{Space, PreservedSpace, Tab, Linefeed, Text, Start, End, Atomic}
-use Rattle.lay_line_content.specs.declared.content.Stretch.{Stretch}
-use Rattle.lay_line_content.specs.LineContents.{boxes_of, boxes_of_part, total}
-use Rattle.lay_line_content.proofs.Outcomes.{not_both}
+use Rattle.lay_lines.specs.declared.content.content.Part.{Part}
+use Rattle.lay_lines.specs.declared.content.content.Part.TheVariants.{Space, PreservedSpace, Tab, Linefeed, Text, Start, End, Atomic}
+use Rattle.lay_lines.specs.declared.content.content.Stretch.{Stretch}
+use Rattle.lay_lines.specs.Content.LineContents.{boxes_of, boxes_of_part, total}
+use Rattle.lay_lines.proofs.ContentLemmas.Outcomes.{not_both}
 use Rattle.lay_inlines.specs.OpenBoxes.{open_after, open_after_part}
 use Rattle.lay_inlines.specs.Strokes.{parts_of}
 

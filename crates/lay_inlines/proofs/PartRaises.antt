@@ -4,11 +4,11 @@ use Rattle.std.proofs.lemmas.List.{append-nil, append_assoc, drop-drop, get_or-d
 use Rattle.lay_units.specs.declared.length.Unit.{Unit}
 use Rattle.lay_units.specs.Lengths.{no_length}
 use Rattle.lay_valign.specs.declared.parts.Shift.{Shift}
-use Rattle.lay_line_content.specs.declared.content.InlineStart.{InlineStart}
-use Rattle.lay_line_content.specs.declared.content.Part.{Part}
-use Rattle.lay_line_content.specs.declared.content.Part.TheVariants.{Space, PreservedSpace, Tab, Linefeed, Text, Start, End, Atomic}
-use Rattle.lay_line_content.specs.declared.frame.Extent.{Extent}
-use Rattle.lay_line_content.specs.Extents.{LineParts, Reading, closed, innermost, opened, opened_all, part_by, read, read_all, reading_of, stood, strut_alone}
+use Rattle.lay_lines.specs.declared.content.content.InlineStart.{InlineStart}
+use Rattle.lay_lines.specs.declared.content.content.Part.{Part}
+use Rattle.lay_lines.specs.declared.content.content.Part.TheVariants.{Space, PreservedSpace, Tab, Linefeed, Text, Start, End, Atomic}
+use Rattle.lay_lines.specs.declared.content.frame.Extent.{Extent}
+use Rattle.lay_lines.specs.Content.Extents.{LineParts, Reading, closed, innermost, opened, opened_all, part_by, read, read_all, reading_of, stood, strut_alone}
 use Rattle.lay_inlines.specs.Laws.{RaisesAreShiftsOfParts, raises_in}
 use Rattle.lay_inlines.specs.Raises.{RaisesValue, raise_at, one_closed, one_opened, one_passed, raises_after, raises_after_all}
 

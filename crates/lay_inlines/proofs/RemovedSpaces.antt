@@ -1,14 +1,14 @@
 -- Collapsible spaces at the end of a line, and the end of its content.
 use Rattle.std.proofs.Common.{◌≡◌, ◌∙◌, ℕ, zero, suc, ℤ, Bool, true, false, ◌&&◌, ◌||◌, if◌then◌else◌, List, [], ◌∷◌, ◌++◌, length, take, slice_get, map, refl, sym, ap}
 use Rattle.std.proofs.lemmas.List.{append-nil}
-use Rattle.lay_line_content.specs.declared.content.Advance.{Advance}
-use Rattle.lay_line_content.specs.declared.content.InlineArea.{InlineArea}
-use Rattle.lay_line_content.specs.declared.content.Part.{Part}
-use Rattle.lay_line_content.specs.declared.content.Part.TheVariants.{Space}
-use Rattle.lay_line_content.specs.declared.content.Stretch.{Stretch}
-use Rattle.lay_line_content.specs.declared.frame.Frame.{Frame}
-use Rattle.lay_line_content.specs.declared.pen.Pen.{Pen}
-use Rattle.lay_line_content.specs.Pens.{blank, over, over_all, past_at, pen_to, start_of}
+use Rattle.lay_lines.specs.declared.content.content.Advance.{Advance}
+use Rattle.lay_lines.specs.declared.content.content.InlineArea.{InlineArea}
+use Rattle.lay_lines.specs.declared.content.content.Part.{Part}
+use Rattle.lay_lines.specs.declared.content.content.Part.TheVariants.{Space}
+use Rattle.lay_lines.specs.declared.content.content.Stretch.{Stretch}
+use Rattle.lay_lines.specs.declared.content.frame.Frame.{Frame}
+use Rattle.lay_lines.specs.declared.content.pen.Pen.{Pen}
+use Rattle.lay_lines.specs.Content.Pens.{blank, over, over_all, past_at, pen_to, start_of}
 use Rattle.lay_lines.specs.declared.row.Ended.{Ended}
 use Rattle.lay_inlines.specs.declared.spans.Span.{Span}
 use Rattle.lay_inlines.specs.Laws.{ContentEndsWithItsPen, SpacesAtTheEndAreRemoved}

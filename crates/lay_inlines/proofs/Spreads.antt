@@ -4,13 +4,13 @@ use Rattle.std.proofs.lemmas.Int.{ints}
 use Rattle.lay_units.specs.Units.{IsUsed}
 use Rattle.lay_units.specs.declared.length.Unit.{Unit}
 use Rattle.lay_floats.specs.Within.{IsWithin}
-use Rattle.lay_line_content.specs.declared.content.Part.{Part}
-use Rattle.lay_line_content.specs.declared.content.Stretch.{Stretch}
-use Rattle.lay_line_content.specs.declared.frame.Frame.{Frame}
-use Rattle.lay_line_content.specs.declared.pen.Pen.{Pen}
-use Rattle.lay_line_content.specs.LineContents.{spread_of_part, spread_of_parts, spread_of}
-use Rattle.lay_line_content.specs.Pens.{start_of, blank, over}
-use Rattle.lay_line_content.proofs.PensWithin.{all_within, wider, PenWithin as IsNear}
+use Rattle.lay_lines.specs.declared.content.content.Part.{Part}
+use Rattle.lay_lines.specs.declared.content.content.Stretch.{Stretch}
+use Rattle.lay_lines.specs.declared.content.frame.Frame.{Frame}
+use Rattle.lay_lines.specs.declared.content.pen.Pen.{Pen}
+use Rattle.lay_lines.specs.Content.LineContents.{spread_of_part, spread_of_parts, spread_of}
+use Rattle.lay_lines.specs.Content.Pens.{start_of, blank, over}
+use Rattle.lay_lines.proofs.ContentLemmas.PensWithin.{all_within, wider, PenWithin as IsNear}
 use Rattle.lay_inlines.specs.Bounds.{IsPlace, PenWithin, PensWithin}
 use Rattle.lay_inlines.specs.Strokes.{parts_of}
 

@@ -1,7 +1,7 @@
 -- The atomic boxes of a line by number, in order: those among its content, and those that its pieces are of (CSS 2.2, 9.2.2).
 use Rattle.std.specs.Prelude.{ℕ, Bool, true, false, if◌then◌else◌, List, [], ◌∷◌, ◌++◌}
-use Rattle.lay_line_content.specs.declared.content.Part.{Part}
-use Rattle.lay_line_content.specs.declared.content.Part.TheVariants.{Space, PreservedSpace, Tab, Linefeed, Text, Start, End, Atomic}
+use Rattle.lay_lines.specs.declared.content.content.Part.{Part}
+use Rattle.lay_lines.specs.declared.content.content.Part.TheVariants.{Space, PreservedSpace, Tab, Linefeed, Text, Start, End, Atomic}
 use Rattle.lay_inlines.specs.declared.line_piece.LinePiece.{LinePiece}
 use Rattle.lay_inlines.specs.declared.line_piece.LinePieceKind.{LinePieceKind}
 use Rattle.lay_inlines.specs.declared.line_piece.LinePieceKind.TheVariants as on_line

@@ -3,11 +3,11 @@
 use Rattle.std.specs.Prelude.{◌≡◌, ℤ, pos, ◌^◌, ◌+◌, List, [], ◌∷◌, All}
 use Rattle.lay_units.specs.declared.length.Unit.{Unit}
 use Rattle.lay_floats.specs.Within.{IsWithin}
-use Rattle.lay_line_content.specs.declared.content.InlineArea.{InlineArea}
-use Rattle.lay_line_content.specs.declared.content.Part.{Part}
-use Rattle.lay_line_content.specs.declared.frame.Frame.{Frame}
-use Rattle.lay_line_content.specs.declared.pen.Pen.{Pen}
-use Rattle.lay_line_content.specs.Pens.{over}
+use Rattle.lay_lines.specs.declared.content.content.InlineArea.{InlineArea}
+use Rattle.lay_lines.specs.declared.content.content.Part.{Part}
+use Rattle.lay_lines.specs.declared.content.frame.Frame.{Frame}
+use Rattle.lay_lines.specs.declared.content.pen.Pen.{Pen}
+use Rattle.lay_lines.specs.Content.Pens.{over}
 use Rattle.lay_lines.specs.declared.row.Ended.{Ended}
 use Rattle.lay_inlines.specs.declared.lines.Container.{Container}
 use Rattle.lay_inlines.specs.declared.spans.Span.{Span}

@@ -5,14 +5,14 @@
 -- place of the inline box or the atomic box among the line's parts (10.8.1).
 use Rattle.std.specs.Prelude.{ℕ, ◌≡◌, ◌<◌, List, [], ◌∷◌, ◌++◌, length, take, drop, map}
 use Rattle.lay_units.specs.declared.length.Unit.{Unit}
-use Rattle.lay_line_content.specs.declared.content.Advance.{Advance}
-use Rattle.lay_line_content.specs.declared.content.InlineArea.{InlineArea}
-use Rattle.lay_line_content.specs.declared.content.InlineStart.{InlineStart}
-use Rattle.lay_line_content.specs.declared.content.Part.{Part}
-use Rattle.lay_line_content.specs.declared.content.Part.TheVariants.{Space}
-use Rattle.lay_line_content.specs.declared.frame.Extent.{Extent}
-use Rattle.lay_line_content.specs.declared.frame.Frame.{Frame}
-use Rattle.lay_line_content.specs.Extents.{LineParts, opened_all, read_all, reading_of, strut_alone}
+use Rattle.lay_lines.specs.declared.content.content.Advance.{Advance}
+use Rattle.lay_lines.specs.declared.content.content.InlineArea.{InlineArea}
+use Rattle.lay_lines.specs.declared.content.content.InlineStart.{InlineStart}
+use Rattle.lay_lines.specs.declared.content.content.Part.{Part}
+use Rattle.lay_lines.specs.declared.content.content.Part.TheVariants.{Space}
+use Rattle.lay_lines.specs.declared.content.frame.Extent.{Extent}
+use Rattle.lay_lines.specs.declared.content.frame.Frame.{Frame}
+use Rattle.lay_lines.specs.Content.Extents.{LineParts, opened_all, read_all, reading_of, strut_alone}
 use Rattle.lay_lines.specs.declared.row.Ended.{Ended}
 use Rattle.lay_lines.specs.Rows.{Position, Row, IsFilled, ended_of}
 use Rattle.lay_inlines.specs.declared.lines.Container.{Container}

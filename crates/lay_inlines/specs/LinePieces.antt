@@ -7,13 +7,13 @@ use Rattle.std.specs.Prelude.{ℕ, ℤ, pos, ◌+ℤ◌, ◌-ℤ◌, if◌then�
 use Rattle.std.specs.Int.{int_max}
 use Rattle.lay_units.specs.Units.{half_of}
 use Rattle.lay_units.specs.declared.records.Rect.{Rect}
-use Rattle.lay_line_content.specs.declared.content.InlineArea.{InlineArea}
-use Rattle.lay_line_content.specs.declared.content.Part.{Part}
-use Rattle.lay_line_content.specs.declared.content.Stretch.{Stretch}
-use Rattle.lay_line_content.specs.declared.frame.Frame.{Frame}
-use Rattle.lay_line_content.specs.declared.pen.Pen.{Pen}
-use Rattle.lay_line_content.specs.LineContents.{LineContentValue}
-use Rattle.lay_line_content.specs.Pens.{blank, start_of, over_all}
+use Rattle.lay_lines.specs.declared.content.content.InlineArea.{InlineArea}
+use Rattle.lay_lines.specs.declared.content.content.Part.{Part}
+use Rattle.lay_lines.specs.declared.content.content.Stretch.{Stretch}
+use Rattle.lay_lines.specs.declared.content.frame.Frame.{Frame}
+use Rattle.lay_lines.specs.declared.content.pen.Pen.{Pen}
+use Rattle.lay_lines.specs.Content.LineContents.{LineContentValue}
+use Rattle.lay_lines.specs.Content.Pens.{blank, start_of, over_all}
 use Rattle.lay_lines.specs.declared.row.Ended.{Ended}
 use Rattle.lay_lines.specs.Lines.{frame_of}
 use Rattle.lay_lines.specs.Rows.{next_frame}

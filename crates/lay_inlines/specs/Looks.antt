@@ -1,7 +1,7 @@
 -- Strokes that are drawn as one. Bits of a text that stand side by side on a line show nothing else than one bit that reaches
 -- over them all.
 use Rattle.std.specs.Prelude.{◌≡◌, ℤ, List, ◌++◌, All}
-use Rattle.lay_line_content.specs.declared.content.InlineArea.{InlineArea}
+use Rattle.lay_lines.specs.declared.content.content.InlineArea.{InlineArea}
 use Rattle.lay_inlines.specs.declared.strokes.Stroke.{Stroke}
 use Rattle.lay_inlines.specs.Bounds.{StrokeWithin}
 use Rattle.lay_inlines.specs.Spans.{right_edges, spans_of}

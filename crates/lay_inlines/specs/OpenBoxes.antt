@@ -1,8 +1,8 @@
 -- The inline boxes that are open after some content, by number, outermost first: on a line that begins there they have a
 -- part too (CSS 2.2, 9.4.2).
 use Rattle.std.specs.Prelude.{ℕ, ◌-◌, List, [], ◌∷◌, ◌++◌, length, take}
-use Rattle.lay_line_content.specs.declared.content.Part.{Part}
-use Rattle.lay_line_content.specs.declared.content.Part.TheVariants.{Space, PreservedSpace, Tab, Linefeed, Text, Start, End, Atomic}
+use Rattle.lay_lines.specs.declared.content.content.Part.{Part}
+use Rattle.lay_lines.specs.declared.content.content.Part.TheVariants.{Space, PreservedSpace, Tab, Linefeed, Text, Start, End, Atomic}
 
 abbrev pub open_after_part : List ℕ → Part → List ℕ
 open_after_part ns (Space w) = ns

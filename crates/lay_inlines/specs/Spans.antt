@@ -6,7 +6,7 @@
 use Rattle.std.specs.Prelude.{ℕ, ◌==◌, ℤ, pos, ◌+ℤ◌, ◌-ℤ◌, Bool, true, false, ◌&&◌}
 use Rattle.std.specs.Prelude.{if◌then◌else◌, List, [], ◌∷◌, length, drop, slice_index_or}
 use Rattle.lay_units.specs.declared.length.Unit.{Unit}
-use Rattle.lay_line_content.specs.declared.content.InlineArea.{InlineArea}
+use Rattle.lay_lines.specs.declared.content.content.InlineArea.{InlineArea}
 use Rattle.lay_inlines.specs.declared.line_piece.LinePieceKind.{LinePieceKind}
 use Rattle.lay_inlines.specs.declared.line_piece.LinePieceKind.TheVariants.{Line, Inline, Text, Atomic}
 use Rattle.lay_inlines.specs.declared.spans.Span.{Span}

@@ -2,12 +2,12 @@
 -- passes over collapsible spaces at a line's start, which are removed. Those at its end are removed too, and what
 -- follows them there, as the end of an inline box, stands as if they weren't there.
 use Rattle.std.specs.Prelude.{ℤ, Bool, true, false, ◌||◌, ◌&&◌, if◌then◌else◌, List, [], ◌∷◌, ◌++◌}
-use Rattle.lay_line_content.specs.declared.content.Part.{Part}
-use Rattle.lay_line_content.specs.declared.content.Part.TheVariants.{Space, PreservedSpace, Tab, Linefeed, Text, Start, End, Atomic}
-use Rattle.lay_line_content.specs.declared.content.Stretch.{Stretch}
-use Rattle.lay_line_content.specs.declared.frame.Frame.{Frame}
-use Rattle.lay_line_content.specs.declared.pen.Pen.{Pen}
-use Rattle.lay_line_content.specs.Pens.{over}
+use Rattle.lay_lines.specs.declared.content.content.Part.{Part}
+use Rattle.lay_lines.specs.declared.content.content.Part.TheVariants.{Space, PreservedSpace, Tab, Linefeed, Text, Start, End, Atomic}
+use Rattle.lay_lines.specs.declared.content.content.Stretch.{Stretch}
+use Rattle.lay_lines.specs.declared.content.frame.Frame.{Frame}
+use Rattle.lay_lines.specs.declared.content.pen.Pen.{Pen}
+use Rattle.lay_lines.specs.Content.Pens.{over}
 use Rattle.lay_units.specs.declared.length.Unit.{Unit}
 use Rattle.lay_inlines.specs.declared.strokes.Stroke.{Stroke}
 use Rattle.lay_inlines.specs.declared.strokes.Shown.{Shown}

@@ -4,8 +4,8 @@ ghost use Rattle.std.specs.Prelude.{◌↔◌, ◌^◌, pos, All, IsTrue};
 ghost use Rattle.lay_floats.specs.Within.{IsWithin};
 ghost use Rattle.lay_inlines.specs.Bounds.{AreaWithin, IsReach, RaiseWithin, RowWithin};
 
-use lay_line_content::InlineArea;
 use lay_lines::Ended;
+use lay_lines::content::InlineArea;
 use lay_units::Unit;
 
 /// A line: its top and its room are at most 2^61 units of 1/64 px from the origin, its extents at most 2^59 units and its

@@ -14,8 +14,8 @@ use crate::raises::{Raises, behind_strut};
 use crate::spans::{Behind, Ends, OpenBoxes, Span, area_at};
 use crate::stroke_list::StrokeList;
 use crate::strokes::draw;
-use lay_line_content::{Frame, InlineArea, Pen, Stretch};
 use lay_lines::Ended;
+use lay_lines::content::{Frame, InlineArea, Pen, Stretch};
 use lay_units::{NoMemory, Rect, Unit};
 use std::alloc::Global;
 

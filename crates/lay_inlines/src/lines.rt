@@ -1,7 +1,7 @@
 //! The pieces of the lines of a block container.
 
 ghost use Rattle.std.specs.Prelude.{◌≡◌, ◌++◌, [], IsFalse, IfOk, OnOk};
-ghost use Rattle.lay_line_content.specs.LineContents.{boxes_of};
+ghost use Rattle.lay_lines.specs.Content.LineContents.{boxes_of};
 ghost use Rattle.lay_lines.specs.Lines.{frame_of};
 ghost use Rattle.lay_lines.specs.Rows.{next_frame};
 ghost use Rattle.lay_inlines.specs.Bounds.{GeometryWithin, LineWithin, PensWithin};
@@ -14,8 +14,8 @@ use crate::line::{Line, Sheet};
 use crate::line_piece::{LinePiece, LinePieceList};
 use crate::open_boxes::pass;
 use crate::slices::{back, front};
-use lay_line_content::{Frame, InlineArea, LineContent, Stretch};
 use lay_lines::Ended;
+use lay_lines::content::{Frame, InlineArea, LineContent, Stretch};
 use lay_units::{NoMemory, Unit};
 use std::alloc::Global;
 

@@ -4,7 +4,7 @@ ghost use Rattle.std.specs.Prelude.{◌≡◌, OnOk};
 ghost use Rattle.lay_inlines.specs.OpenBoxes.{open_after, open_after_part};
 ghost use Rattle.lay_inlines.specs.Strokes.{parts_of};
 
-use lay_line_content::{Part, Stretch};
+use lay_lines::content::{Part, Stretch};
 use lay_units::NoMemory;
 
 /// Goes over content: the open boxes are then those after it, outermost first.

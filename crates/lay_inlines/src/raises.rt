@@ -11,7 +11,7 @@ ghost use Rattle.lay_inlines.specs.Raises.{
 };
 
 use crate::slices::{back, front};
-use lay_line_content::Part;
+use lay_lines::content::Part;
 use lay_units::{NoMemory, Unit};
 use std::alloc::Global;
 use std::marker::Model;

@@ -14,7 +14,7 @@ use crate::raises::raise_at;
 use crate::slices::from_end;
 use crate::stroke_list::StrokeList;
 use crate::strokes::{Shown, Stroke, is_content, place, shown_of};
-use lay_line_content::InlineArea;
+use lay_lines::content::InlineArea;
 use lay_units::{NoMemory, Unit};
 use std::alloc::Global;
 

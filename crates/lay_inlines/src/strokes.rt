@@ -5,11 +5,11 @@ ghost use Rattle.lay_inlines.specs.Bounds.{PensWithin};
 ghost use Rattle.lay_inlines.specs.Looks.{LookAs};
 ghost use Rattle.lay_inlines.specs.Raises.{raise_of, raises_after, raises_after_all};
 ghost use Rattle.lay_inlines.specs.Strokes.{is_content, shown_of, place, stroke_of, strokes, parts_of};
-ghost use Rattle.lay_line_content.specs.Pens.{over_all};
+ghost use Rattle.lay_lines.specs.Content.Pens.{over_all};
 
 use crate::raises::Raises;
 use crate::stroke_list::StrokeList;
-use lay_line_content::{Frame, Part, Pen, Stretch};
+use lay_lines::content::{Frame, Part, Pen, Stretch};
 use lay_units::{NoMemory, Unit};
 
 /// A part of a line's content, with how far it is raised, and how far content comes before it and after it.

@@ -5,8 +5,8 @@ use Rattle.std.specs.Prelude.{ℕ, List, [], ◌∷◌, Option, Some, option_map
 use Rattle.std.specs.Str.{bytes_eq}
 use Rattle.serde_json.specs.Data.{Data, Items, no_items, item}
 use Rattle.lay_doc.specs.declared.edit.Edit.{Edit}
-use Rattle.lay_edits.specs.declared.command.Cmd.{Cmd}
-use Rattle.lay_edits.specs.declared.command.Cmd.TheVariants.{Edits as some_edits, Latest as a_latest, Sync as a_sync}
+use Rattle.lay_history.specs.declared.edits.command.Cmd.{Cmd}
+use Rattle.lay_history.specs.declared.edits.command.Cmd.TheVariants.{Edits as some_edits, Latest as a_latest, Sync as a_sync}
 use Rattle.lay_json.specs.declared.fault.Field.TheVariants.{Do, Edits}
 use Rattle.lay_json.specs.declared.fault.Spot.{Spot}
 use Rattle.lay_json.specs.declared.fault.Spot.TheVariants.{Command as in_command}

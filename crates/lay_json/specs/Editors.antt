@@ -5,7 +5,7 @@
 use Rattle.std.specs.Prelude.{◌+◌, ◌&&◌, ◌||◌, List, [], ◌∷◌, ◌++◌, length, nat_le, Bool, true, is_some, Result, Ok, Err, if◌then◌else◌}
 use Rattle.serde_json.specs.Data.{Data, Items, no_items, item}
 use Rattle.serde_json.specs.Find.{as_array}
-use Rattle.lay_edits.specs.declared.command.Cmd.{Cmd}
+use Rattle.lay_history.specs.declared.edits.command.Cmd.{Cmd}
 use Rattle.lay_json.specs.declared.fault.Field.TheVariants.{Editors}
 use Rattle.lay_json.specs.declared.fault.Spot.TheVariants.{Run as in_run}
 use Rattle.lay_json.specs.declared.fault.InputFault.{InputFault}

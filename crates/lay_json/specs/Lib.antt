@@ -1,3 +1,4 @@
+pub mod Styled
 pub mod Fields
 pub mod FaceFields
 pub mod NodeForms

@@ -6,7 +6,7 @@ use Rattle.std.specs.Prelude.{Option, Some, None, unwrap_or, Result, Ok, Err, co
 use Rattle.std.specs.Str.{bytes_eq}
 use Rattle.serde_json.specs.Data.{Data, Items, no_items, item}
 use Rattle.serde_json.specs.Find.{as_str, as_array}
-use Rattle.lay_names.specs.declared.names.Names.{Names}
+use Rattle.lay_cascade.specs.declared.node_names.names.Names.{Names}
 use Rattle.lay_json.specs.declared.fault.Field.{Field}
 use Rattle.lay_json.specs.declared.fault.Field.TheVariants.{Kind, Nodes, Sheet, Tag, Label, Classes}
 use Rattle.lay_json.specs.declared.fault.Spot.{Spot}

@@ -10,7 +10,7 @@ ghost use Rattle.lay_json.specs.Commands.{action_named, action_of, batch_of, com
 use crate::edit::{Change, change_named, edit_for, edit_of};
 use crate::fault::{Field, InputFault, Spot};
 use crate::fields::{has_at_most, list_of, object_of, required, required_text};
-use lay_edits::{Cmd, Edits, MOST_EDITS};
+use lay_history::edits::{Cmd, Edits, MOST_EDITS};
 use serde_json::Value;
 use std::alloc::Global;
 

@@ -10,7 +10,7 @@ ghost use Rattle.lay_json.specs.Editors.{with_script, scripts_from, are_lists, s
 use crate::command::command_of;
 use crate::fault::{Field, InputFault, Spot};
 use crate::fields::{has_at_most, list_of};
-use lay_edits::{Cmd, CmdList};
+use lay_history::edits::{Cmd, CmdList};
 use lay_run::{ScriptList, is_read};
 use lay_units::NoMemory;
 use serde_json::Value;
@@ -33,7 +33,7 @@ struct Script {
 
 impl Model for Script {
     ghost use Rattle.std.specs.Prelude.{List};
-    ghost use Rattle.lay_edits.specs.declared.command.Cmd.{Cmd};
+    ghost use Rattle.lay_history.specs.declared.edits.command.Cmd.{Cmd};
     ghost use Rattle.lay_run.specs.Scripts.{IsScript};
 
     ghost Value = { List Cmd };

@@ -10,6 +10,8 @@
 //! `read_names` answers the style sheet of a run document and what its nodes are called (`specs/SheetNames.antt`), and
 //! `read_input` the run with both, of one reading of the bytes. `read_check` answers these and a report that stands beside the
 //! run document (`specs/CheckDocuments.antt`).
+//!
+//! - `styled`: a run document with its style sheet.
 #![tactic(auto)]
 
 mod check;
@@ -29,6 +31,7 @@ mod reading;
 mod run;
 mod sheet_in;
 mod sheet_names;
+pub mod styled;
 
 pub use check_in::CheckIn;
 pub use fault::{Field, InputFault, Spot};

@@ -10,7 +10,7 @@ use crate::fields::object_of;
 use crate::new_node::new_node;
 use crate::node_form::node_form;
 use lay_doc::{BadDeclaration, Doc, EditFault, NewFault, NewNode, NodeId};
-use lay_gather::Gathered;
+use lay_run::gathered::Gathered;
 use serde_json::Value;
 use std::alloc::Global;
 

@@ -10,7 +10,7 @@ ghost use Rattle.lay_json.specs.SheetNames.{names_at, with_names, names_from, it
 use crate::fault::{Field, InputFault, Spot};
 use crate::fields::{list_of, text_of, value_in};
 use crate::sheet_in::SheetIn;
-use lay_names::{Names, NamesList, TextList};
+use lay_cascade::node_names::{Names, NamesList, TextList};
 use lay_units::{NoMemory, Text};
 use serde_json::Value;
 use std::alloc::Global;

@@ -9,13 +9,13 @@ use Rattle.lay_floats.specs.declared.placed.Placed.{Placed}
 use Rattle.lay_floats.specs.declared.requests.NodePlace.{NodePlace}
 use Rattle.lay_floats.specs.SolidPlace.{IsAlone}
 use Rattle.lay_floats.specs.Within.{IsWithin, BoxWithin, RequestWithin, PlaceWithin}
-use Rattle.lay_line_content.specs.declared.content.LineFloat.{LineFloat}
-use Rattle.lay_line_content.specs.declared.content.Stretch.{Stretch}
-use Rattle.lay_line_content.specs.declared.frame.Frame.{Frame}
-use Rattle.lay_line_content.specs.Pens.{strut_height, start_of}
-use Rattle.lay_line_content.specs.LineContents.{total, spread_of, ExtentWithin, LineFloatWithin, StretchWithin}
-use Rattle.lay_line_content.proofs.PensWithin.{wider, position, content_fits}
-use Rattle.lay_line_content.proofs.Totals.{part_of, total_to, total_next}
+use Rattle.lay_lines.specs.declared.content.content.LineFloat.{LineFloat}
+use Rattle.lay_lines.specs.declared.content.content.Stretch.{Stretch}
+use Rattle.lay_lines.specs.declared.content.frame.Frame.{Frame}
+use Rattle.lay_lines.specs.Content.Pens.{strut_height, start_of}
+use Rattle.lay_lines.specs.Content.LineContents.{total, spread_of, ExtentWithin, LineFloatWithin, StretchWithin}
+use Rattle.lay_lines.proofs.ContentLemmas.PensWithin.{wider, position, content_fits}
+use Rattle.lay_lines.proofs.ContentLemmas.Totals.{part_of, total_to, total_next}
 use Rattle.lay_lines.specs.Meeting.{State, below, IsLineRoom, MeetsFloat, MeetsTo, CanMeetAll, RoomsFit}
 use Rattle.lay_lines.specs.Meeting.MeetsFloat.{stands, waits}
 use Rattle.lay_lines.specs.Filling.{IsTop, Fills, CanFill}

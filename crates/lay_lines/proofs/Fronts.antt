@@ -5,9 +5,9 @@ use Rattle.std.proofs.lemmas.Option.{same_Some}
 use Rattle.lay_floats.specs.declared.placed.Placed.{Placed}
 use Rattle.lay_floats.specs.FloatPlace.{placed_at}
 use Rattle.lay_floats.specs.Laws.{OneFloatPlace}
-use Rattle.lay_line_content.specs.declared.frame.Frame.{Frame}
-use Rattle.lay_line_content.specs.declared.content.LineFloat.{LineFloat}
-use Rattle.lay_line_content.specs.declared.content.Stretch.{Stretch}
+use Rattle.lay_lines.specs.declared.content.frame.Frame.{Frame}
+use Rattle.lay_lines.specs.declared.content.content.LineFloat.{LineFloat}
+use Rattle.lay_lines.specs.declared.content.content.Stretch.{Stretch}
 use Rattle.lay_lines.specs.Meeting.{State, IsFront, MeetsFloat, MeetsAt, MeetsTo, Meets}
 use Rattle.lay_lines.specs.Meeting.MeetsFloat.{stands, waits}
 use Rattle.lay_lines.specs.Filling.{FitsNext, TakesNext, Fills, FitsAll, Reaches, Takes}

@@ -9,12 +9,12 @@ use Rattle.lay_valign.specs.LineShape.{IsShape}
 use Rattle.lay_valign.proofs.OneShape.{one_shape_lem}
 use Rattle.lay_floats.specs.Laws.{OneFloatPlace, OneRoom}
 use Rattle.lay_floats.specs.declared.placed.Placed.{Placed}
-use Rattle.lay_line_content.specs.declared.frame.Frame.{Frame}
-use Rattle.lay_line_content.specs.declared.content.InlineStart.{InlineStart}
-use Rattle.lay_line_content.specs.declared.content.Stretch.{Stretch}
-use Rattle.lay_line_content.specs.declared.frame.Extent.{Extent}
-use Rattle.lay_line_content.specs.Extents.{shape_of, height_of}
-use Rattle.lay_line_content.proofs.LineParts.{are_parts}
+use Rattle.lay_lines.specs.declared.content.frame.Frame.{Frame}
+use Rattle.lay_lines.specs.declared.content.content.InlineStart.{InlineStart}
+use Rattle.lay_lines.specs.declared.content.content.Stretch.{Stretch}
+use Rattle.lay_lines.specs.declared.content.frame.Extent.{Extent}
+use Rattle.lay_lines.specs.Content.Extents.{shape_of, height_of}
+use Rattle.lay_lines.proofs.ContentLemmas.LineParts.{are_parts}
 use Rattle.lay_lines.specs.declared.reach.Reach.{Reach}
 use Rattle.lay_lines.specs.declared.row.Ended.{Ended}
 use Rattle.lay_lines.specs.Meeting.{State, IsFront, Meets}

@@ -6,10 +6,10 @@ use Rattle.lay_floats.specs.Room.{LeftBounds, RightBounds}
 use Rattle.lay_floats.specs.Standing.{IsNext}
 use Rattle.lay_floats.specs.Beside.{IsNextBottom}
 use Rattle.lay_floats.proofs.FirstPlace.{next_further_down}
-use Rattle.lay_line_content.specs.declared.content.Stretch.{Stretch}
-use Rattle.lay_line_content.specs.declared.frame.Frame.{Frame}
-use Rattle.lay_line_content.specs.Pens.{strut_height}
-use Rattle.lay_line_content.proofs.PenOrder.{pen_before}
+use Rattle.lay_lines.specs.declared.content.content.Stretch.{Stretch}
+use Rattle.lay_lines.specs.declared.content.frame.Frame.{Frame}
+use Rattle.lay_lines.specs.Content.Pens.{strut_height}
+use Rattle.lay_lines.proofs.ContentLemmas.PenOrder.{pen_before}
 use Rattle.lay_lines.specs.Meeting.{IsLineRoom}
 use Rattle.lay_lines.specs.Filling.{HasFit, Begins}
 

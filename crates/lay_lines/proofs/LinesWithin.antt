@@ -4,8 +4,8 @@ use Rattle.std.proofs.lemmas.List.Elements.{All-weaker}
 use Rattle.lay_units.specs.declared.length.Unit.{Unit}
 use Rattle.lay_floats.specs.declared.placed.Placed.{Placed}
 use Rattle.lay_floats.specs.Within.{IsWithin, BoxWithin, PlaceWithin}
-use Rattle.lay_line_content.specs.LineContents.{LineContentValue, IsLineContent, hulls_of, weight_of}
-use Rattle.lay_line_content.proofs.PensWithin.{wider}
+use Rattle.lay_lines.specs.Content.LineContents.{LineContentValue, IsLineContent, hulls_of, weight_of}
+use Rattle.lay_lines.proofs.ContentLemmas.PensWithin.{wider}
 use Rattle.lay_lines.specs.Lines.{RowWithin, NodePlaceWithin, first_position, growth}
 use Rattle.lay_lines.specs.Laws.{LinesAreNear}
 use Rattle.lay_lines.specs.Rows.{CanLay}

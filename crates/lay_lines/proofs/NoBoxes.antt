@@ -1,12 +1,12 @@
 -- Lines of content without boxes.
 use Rattle.std.proofs.Common.{◌≡◌, ◌∙◌, ℕ, List, drop, sym, ap, subst, arith}
-use Rattle.lay_line_content.specs.declared.content.InlineStart.{InlineStart}
-use Rattle.lay_line_content.specs.declared.content.Stretch.{Stretch}
-use Rattle.lay_line_content.specs.declared.frame.Frame.{Frame}
-use Rattle.lay_line_content.specs.Extents.{Reading, reading_to}
-use Rattle.lay_line_content.specs.LineContents.{boxes_of, boxes_of_part, total, HasNoBoxes}
-use Rattle.lay_line_content.proofs.TextLines.{text_reading}
-use Rattle.lay_line_content.proofs.Totals.{drop_less, total_next}
+use Rattle.lay_lines.specs.declared.content.content.InlineStart.{InlineStart}
+use Rattle.lay_lines.specs.declared.content.content.Stretch.{Stretch}
+use Rattle.lay_lines.specs.declared.content.frame.Frame.{Frame}
+use Rattle.lay_lines.specs.Content.Extents.{Reading, reading_to}
+use Rattle.lay_lines.specs.Content.LineContents.{boxes_of, boxes_of_part, total, HasNoBoxes}
+use Rattle.lay_lines.proofs.ContentLemmas.TextLines.{text_reading}
+use Rattle.lay_lines.proofs.ContentLemmas.Totals.{drop_less, total_next}
 use Rattle.lay_lines.specs.Rows.{OpensNone}
 
 none_at : (ss : List Stretch) (n : ℕ) → boxes_of ss ≡ 0 → HasNoBoxes ss n

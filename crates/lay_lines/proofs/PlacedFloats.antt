@@ -6,10 +6,10 @@ use Rattle.std.proofs.lemmas.List.Concat.{flat_map_single}
 use Rattle.std.proofs.lemmas.List.Sorted.{IsPermutation-refl, IsPermutation-sym, IsPermutation-trans, IsPermutation-to_front, IsPermutation-middle, IsPermutation-append_left}
 use Rattle.std.proofs.lemmas.Option.{slice_get_within}
 use Rattle.lay_floats.specs.declared.requests.NodePlace.{NodePlace}
-use Rattle.lay_line_content.specs.declared.content.LineFloat.{LineFloat}
-use Rattle.lay_line_content.specs.declared.content.Stretch.{Stretch}
-use Rattle.lay_line_content.specs.declared.frame.Frame.{Frame}
-use Rattle.lay_line_content.proofs.PenOrder.{some_at}
+use Rattle.lay_lines.specs.declared.content.content.LineFloat.{LineFloat}
+use Rattle.lay_lines.specs.declared.content.content.Stretch.{Stretch}
+use Rattle.lay_lines.specs.declared.content.frame.Frame.{Frame}
+use Rattle.lay_lines.proofs.ContentLemmas.PenOrder.{some_at}
 use Rattle.lay_lines.specs.Filling.{TakesNext, Fills, Reaches}
 use Rattle.lay_lines.specs.FloatNumbers.{HeadsBeginLines, floats_in, floats_of_stretch, numbers_of, numbers_placed}
 use Rattle.lay_lines.specs.Laws.{EachFloatHasAPlace}

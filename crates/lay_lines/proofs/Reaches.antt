@@ -5,11 +5,11 @@ use Rattle.lay_units.specs.Units.{IsPosition}
 use Rattle.lay_units.specs.declared.length.Unit.{Unit}
 use Rattle.lay_floats.specs.declared.placed.Placed.{Placed}
 use Rattle.lay_floats.specs.Laws.{OneRoom}
-use Rattle.lay_line_content.specs.declared.content.Stretch.{Stretch}
-use Rattle.lay_line_content.specs.declared.frame.Frame.{Frame}
-use Rattle.lay_line_content.specs.declared.pen.Pen.{Pen}
-use Rattle.lay_line_content.specs.Pens.{past, pen_to, seen_to, PenFits, PensFit}
-use Rattle.lay_line_content.proofs.PenOrder.{pen_next, pen_fits, same_seen}
+use Rattle.lay_lines.specs.declared.content.content.Stretch.{Stretch}
+use Rattle.lay_lines.specs.declared.content.frame.Frame.{Frame}
+use Rattle.lay_lines.specs.declared.content.pen.Pen.{Pen}
+use Rattle.lay_lines.specs.Content.Pens.{past, pen_to, seen_to, PenFits, PensFit}
+use Rattle.lay_lines.proofs.ContentLemmas.PenOrder.{pen_next, pen_fits, same_seen}
 use Rattle.lay_lines.specs.declared.reach.Reach.{Reach}
 use Rattle.lay_lines.specs.Meeting.{IsLineRoom, HasRoom, RoomsFit}
 use Rattle.lay_lines.specs.Filling.{HasFit, TakesNoRoom}

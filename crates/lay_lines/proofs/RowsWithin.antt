@@ -8,17 +8,17 @@ use Rattle.lay_valign.specs.declared.parts.LineShape.{LineShape}
 use Rattle.lay_valign.specs.LineShape.{IsShape}
 use Rattle.lay_valign.specs.PartsFit.{PartsFit}
 use Rattle.lay_floats.specs.Within.{IsWithin, PlaceWithin}
-use Rattle.lay_line_content.specs.declared.content.LineFloat.{LineFloat}
-use Rattle.lay_line_content.specs.declared.content.Stretch.{Stretch}
-use Rattle.lay_line_content.specs.declared.frame.Frame.{Frame}
-use Rattle.lay_line_content.specs.Extents.{reading_to, shape_of, height_of}
-use Rattle.lay_line_content.specs.LineContents.{total, spread_of_parts, spread_of, hulls_of, weight_of_stretch, weight_of, AreNested, InlineStartWithin, StretchWithin}
-use Rattle.lay_line_content.proofs.LineLevels.{ReadingLevels, open_to, nested_drop, to_levels}
-use Rattle.lay_line_content.proofs.LineParts.{strut_part, stretch_boxes, Counted, to_counted}
-use Rattle.lay_line_content.proofs.LineReaches.{ReadingReaches, stretch_hulls, to_reaches}
-use Rattle.lay_line_content.proofs.PartShapes.{ShapeWithin, parts_fit, height_near, shape_within}
-use Rattle.lay_line_content.proofs.PensWithin.{wider, position}
-use Rattle.lay_line_content.proofs.Totals.{part_of, total_to, total_to_most, total_split, drop_less}
+use Rattle.lay_lines.specs.declared.content.content.LineFloat.{LineFloat}
+use Rattle.lay_lines.specs.declared.content.content.Stretch.{Stretch}
+use Rattle.lay_lines.specs.declared.content.frame.Frame.{Frame}
+use Rattle.lay_lines.specs.Content.Extents.{reading_to, shape_of, height_of}
+use Rattle.lay_lines.specs.Content.LineContents.{total, spread_of_parts, spread_of, hulls_of, weight_of_stretch, weight_of, AreNested, InlineStartWithin, StretchWithin}
+use Rattle.lay_lines.proofs.ContentLemmas.LineLevels.{ReadingLevels, open_to, nested_drop, to_levels}
+use Rattle.lay_lines.proofs.ContentLemmas.LineParts.{strut_part, stretch_boxes, Counted, to_counted}
+use Rattle.lay_lines.proofs.ContentLemmas.LineReaches.{ReadingReaches, stretch_hulls, to_reaches}
+use Rattle.lay_lines.proofs.ContentLemmas.PartShapes.{ShapeWithin, parts_fit, height_near, shape_within}
+use Rattle.lay_lines.proofs.ContentLemmas.PensWithin.{wider, position}
+use Rattle.lay_lines.proofs.ContentLemmas.Totals.{part_of, total_to, total_to_most, total_split, drop_less}
 use Rattle.lay_lines.specs.declared.row.Ended.{Ended}
 use Rattle.lay_lines.specs.Meeting.{State, Meets, CanMeetAll, RoomsFit, FrameFits}
 use Rattle.lay_lines.specs.Filling.{IsTop, CanFill}

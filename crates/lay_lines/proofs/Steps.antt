@@ -6,11 +6,11 @@ use Rattle.lay_floats.specs.declared.placed.Placed.{Placed}
 use Rattle.lay_floats.specs.declared.requests.NodePlace.{NodePlace}
 use Rattle.lay_floats.specs.Laws.{OneFloatPlace}
 use Rattle.lay_floats.specs.SolidPlace.{IsAlone}
-use Rattle.lay_line_content.specs.declared.frame.Frame.{Frame}
-use Rattle.lay_line_content.specs.declared.content.LineFloat.{LineFloat}
-use Rattle.lay_line_content.specs.declared.content.Stretch.{Stretch}
-use Rattle.lay_line_content.specs.Pens.{strut_height}
-use Rattle.lay_line_content.proofs.Outcomes.{not_both}
+use Rattle.lay_lines.specs.declared.content.frame.Frame.{Frame}
+use Rattle.lay_lines.specs.declared.content.content.LineFloat.{LineFloat}
+use Rattle.lay_lines.specs.declared.content.content.Stretch.{Stretch}
+use Rattle.lay_lines.specs.Content.Pens.{strut_height}
+use Rattle.lay_lines.proofs.ContentLemmas.Outcomes.{not_both}
 use Rattle.lay_lines.specs.Meeting.{State, below, stood, MeetsFloat, MeetsAt, MeetsTo, Meets, CanMeetAll, RoomsFit}
 use Rattle.lay_lines.specs.Meeting.MeetsFloat.{stands, waits}
 use Rattle.lay_lines.specs.Filling.{HasFit, TakesNoRoom, FitsNext, TakesNext, Fills, FitsAll, Takes, Begins, CanFill}

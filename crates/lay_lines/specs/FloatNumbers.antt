@@ -2,8 +2,8 @@
 use Rattle.std.specs.Prelude.{ℕ, suc, ◌≡◌, List, [], ◌++◌, map, slice_get, Some, IsFalse}
 use Rattle.std.specs.List.{flat_map}
 use Rattle.lay_floats.specs.declared.requests.NodePlace.{NodePlace}
-use Rattle.lay_line_content.specs.declared.content.LineFloat.{LineFloat}
-use Rattle.lay_line_content.specs.declared.content.Stretch.{Stretch}
+use Rattle.lay_lines.specs.declared.content.content.LineFloat.{LineFloat}
+use Rattle.lay_lines.specs.declared.content.content.Stretch.{Stretch}
 
 abbrev pub numbers_of : List LineFloat → List ℕ
 numbers_of fs = map (λ (f : LineFloat). f.node) fs

@@ -1,3 +1,4 @@
+pub mod Content
 pub mod Filling
 pub mod FloatNumbers
 pub mod Laws

@@ -6,8 +6,8 @@ use Rattle.lay_units.specs.declared.length.Unit.{Unit}
 use Rattle.lay_floats.specs.declared.placed.Placed.{Placed}
 use Rattle.lay_floats.specs.declared.requests.NodePlace.{NodePlace}
 use Rattle.lay_floats.specs.Within.{IsWithin, BoxWithin}
-use Rattle.lay_line_content.specs.declared.frame.Frame.{Frame}
-use Rattle.lay_line_content.specs.LineContents.{LineContentValue, lines_weight}
+use Rattle.lay_lines.specs.declared.content.frame.Frame.{Frame}
+use Rattle.lay_lines.specs.Content.LineContents.{LineContentValue, lines_weight}
 use Rattle.lay_lines.specs.declared.row.Ended.{Ended}
 use Rattle.lay_lines.specs.declared.laying.Lines.{Lines}
 use Rattle.lay_lines.specs.Meeting.{none_met}

@@ -7,13 +7,13 @@ use Rattle.lay_valign.specs.declared.parts.LineShape.{LineShape}
 use Rattle.lay_valign.specs.declared.parts.Part.{Part as LinePart}
 use Rattle.lay_valign.specs.LineShape.{IsShape}
 use Rattle.lay_valign.specs.PartsFit.{PartsFit}
-use Rattle.lay_line_content.specs.declared.content.Stretch.{Stretch}
-use Rattle.lay_line_content.specs.declared.content.InlineStart.{InlineStart}
-use Rattle.lay_line_content.specs.declared.frame.Extent.{Extent}
-use Rattle.lay_line_content.specs.declared.frame.Frame.{Frame}
-use Rattle.lay_line_content.specs.LineContents.{boxes_of}
-use Rattle.lay_line_content.specs.Pens.{pen_to, seen_to}
-use Rattle.lay_line_content.specs.Extents.{any_shows, reading_to, parts_to, shape_of, height_of}
+use Rattle.lay_lines.specs.declared.content.content.Stretch.{Stretch}
+use Rattle.lay_lines.specs.declared.content.content.InlineStart.{InlineStart}
+use Rattle.lay_lines.specs.declared.content.frame.Extent.{Extent}
+use Rattle.lay_lines.specs.declared.content.frame.Frame.{Frame}
+use Rattle.lay_lines.specs.Content.LineContents.{boxes_of}
+use Rattle.lay_lines.specs.Content.Pens.{pen_to, seen_to}
+use Rattle.lay_lines.specs.Content.Extents.{any_shows, reading_to, parts_to, shape_of, height_of}
 use Rattle.lay_lines.specs.declared.reach.Reach.{Reach}
 use Rattle.lay_lines.specs.declared.row.Ended.{Ended}
 use Rattle.lay_lines.specs.Meeting.{State, Chain, IsLineRoom, Meets, CanMeetAll, RoomsFit, FrameFits}

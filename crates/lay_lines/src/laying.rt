@@ -5,12 +5,12 @@ ghost use Rattle.lay_floats.specs.Within.{IsWithin, BoxWithin};
 ghost use Rattle.lay_lines.specs.Lines.{LinesValue, AreLines, LinesWithin, growth, lines_of, frame_of};
 ghost use Rattle.lay_lines.specs.Meeting.{IsFront};
 
+use crate::content::{Frame, LineContent};
 use crate::laws::lines_are_near;
 use crate::lists::{NodePlaceList, RowList};
 use crate::rest::Rest;
 use crate::rows::lay_rows;
 use lay_floats::{Floats, place_within};
-use lay_line_content::{Frame, LineContent};
 use lay_units::{NoMemory, Unit};
 use std::alloc::Global;
 

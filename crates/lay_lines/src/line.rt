@@ -3,8 +3,8 @@
 ghost use Rattle.lay_units.specs.Units.{IsPosition};
 ghost use Rattle.lay_lines.specs.Meeting.{FrameFits, IsLineRoom};
 
+use crate::content::{Frame, Stretch};
 use lay_floats::Floats;
-use lay_line_content::{Frame, Stretch};
 use lay_units::Unit;
 
 /// A line at some top, and the content that comes to it.

@@ -14,15 +14,15 @@ ghost use Rattle.lay_lines.specs.Meeting.{
   RoomsFit,
   IsFront,
 };
-ghost use Rattle.lay_line_content.specs.Pens.{seen_to};
+ghost use Rattle.lay_lines.specs.Content.Pens.{seen_to};
 ghost use Rattle.lay_lines.specs.Reaching.{IsPen};
 
 use crate::arithmetic::are_same;
+use crate::content::LineFloat;
 use crate::line::Line;
 use crate::met::Met;
 use crate::reach::Reach;
 use lay_floats::{FloatReq, Floats, NodePlace, one_float_place};
-use lay_line_content::LineFloat;
 use lay_units::{NoMemory, Unit};
 
 /// After so much of its content a line meets floats, one after the other.

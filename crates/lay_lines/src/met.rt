@@ -1,7 +1,7 @@
 //! The floats of lines.
 
+use crate::content::LineFloat;
 use lay_floats::NodePlace;
-use lay_line_content::LineFloat;
 
 /// The floats that lines met: where those that stand are, in order, and those that wait until the line is over.
 #[derive(Drop)]

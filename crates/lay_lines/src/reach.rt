@@ -2,15 +2,15 @@
 
 ghost use Rattle.std.specs.Prelude.{◌≡◌, ◌↔◌, ◌+◌, ◌<◌, ◌≤◌, IsTrue, length};
 ghost use Rattle.lay_units.specs.Units.{IsPosition};
-ghost use Rattle.lay_line_content.specs.Pens.{seen_to};
+ghost use Rattle.lay_lines.specs.Content.Pens.{seen_to};
 ghost use Rattle.lay_lines.specs.Meeting.{HasRoom, RoomsFit};
 ghost use Rattle.lay_lines.specs.Filling.{HasFit, TakesNoRoom};
 ghost use Rattle.lay_lines.specs.Reaching.{IsPen, IsReach};
 
 use crate::arithmetic::{are_same, is_at_most, wide_plus};
+use crate::content::Pen;
 use crate::line::Line;
 use lay_floats::{Floats, one_room};
-use lay_line_content::Pen;
 use lay_units::{Unit, wide_minus};
 
 /// How far the first stretches of a line come, in the room between two edges.

@@ -3,8 +3,8 @@
 ghost use Rattle.std.specs.Prelude.{◌≡◌, ◌≤◌, length, drop};
 ghost use Rattle.lay_lines.specs.Rows.{next_frame};
 
+use crate::content::{Frame, Stretch};
 use crate::row::Ended;
-use lay_line_content::{Frame, Stretch};
 use lay_units::Unit;
 
 /// Content that is left, whether content has inline boxes or atomic boxes at all, and the frame and the highest top

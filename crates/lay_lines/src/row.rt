@@ -2,15 +2,16 @@
 
 ghost use Rattle.std.specs.Prelude.{◌≡◌, ◌<◌, ◌≤◌, ◌+ℤ◌, ◌||◌, if◌then◌else◌, IsFalse, ℕ, length, slice_get, Some, IfOk, IfErr};
 ghost use Rattle.lay_units.specs.Units.{IsPosition};
-ghost use Rattle.lay_line_content.specs.declared.content.Stretch.{Stretch as StretchValue};
+ghost use Rattle.lay_lines.specs.declared.content.content.Stretch.{Stretch as StretchValue};
 ghost use Rattle.lay_valign.specs.LineShape.{IsShape};
 ghost use Rattle.lay_valign.specs.PartsFit.{PartsFit};
-ghost use Rattle.lay_line_content.specs.Extents.{any_shows, parts_to, reading_to, height_of};
+ghost use Rattle.lay_lines.specs.Content.Extents.{any_shows, parts_to, reading_to, height_of};
 ghost use Rattle.lay_lines.specs.Filling.{IsTop};
 ghost use Rattle.lay_lines.specs.Meeting.{State, state_of, Meets, CanMeetAll, RoomsFit, IsFront};
 ghost use Rattle.lay_lines.specs.Reaching.{IsReach};
 ghost use Rattle.lay_lines.specs.Rows.{OpensNone, Row, IsFilled, IsRow, CanRow, position_of, row_of};
 
+use crate::content::{Extent, InlineStart, any_shows, line_shape};
 use crate::line::Line;
 use crate::meeting::meet_all;
 use crate::met::Met;
@@ -19,7 +20,6 @@ use crate::rest::Rest;
 use crate::taking::take;
 use crate::top::{Beginning, line_top};
 use lay_floats::{Floats, one_float_place, one_room};
-use lay_line_content::{Extent, InlineStart, any_shows, line_shape};
 use lay_units::{NoMemory, Unit, plus};
 use lay_valign::{LineShape, ShiftList};
 use std::alloc::Global;

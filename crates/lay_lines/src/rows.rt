@@ -1,7 +1,7 @@
 //! The lines of a container.
 
 ghost use Rattle.std.specs.Prelude.{◌≡◌, [], map, IsFalse, IfOk, IfErr};
-ghost use Rattle.lay_line_content.specs.LineContents.{boxes_of};
+ghost use Rattle.lay_lines.specs.Content.LineContents.{boxes_of};
 ghost use Rattle.lay_lines.specs.Meeting.{none_met, IsFront};
 ghost use Rattle.lay_lines.specs.Rows.{Laid, AreRows, CanLay, position_of, ended_of};
 

@@ -2,18 +2,18 @@
 
 ghost use Rattle.std.specs.Prelude.{◌≡◌, ◌↔◌, suc, ◌+◌, ◌<◌, ◌≤◌, ℕ, IsTrue, IsFalse, length, slice_get, Some, IfOk, IfErr, OnOk};
 ghost use Rattle.lay_floats.specs.SolidPlace.{IsAlone};
-ghost use Rattle.lay_line_content.specs.declared.content.Stretch.{Stretch as StretchValue};
-ghost use Rattle.lay_line_content.specs.Pens.{strut_height};
+ghost use Rattle.lay_lines.specs.declared.content.content.Stretch.{Stretch as StretchValue};
+ghost use Rattle.lay_lines.specs.Content.Pens.{strut_height};
 ghost use Rattle.lay_lines.specs.Meeting.{State, state_of, Meets, CanMeetAll, RoomsFit, IsFront};
 ghost use Rattle.lay_lines.specs.Filling.{FitsNext, TakesNext, Fills, Takes, CanFill};
 ghost use Rattle.lay_lines.specs.Reaching.{IsReach};
 
+use crate::content::LineFloat;
 use crate::line::Line;
 use crate::meeting::meet_all;
 use crate::met::Met;
 use crate::reach::Reach;
 use lay_floats::{Floats, one_float_place};
-use lay_line_content::LineFloat;
 use lay_units::NoMemory;
 
 /// A line takes stretches as long as they fit or take no room, from before all content. The answer is how far they come.

@@ -2,7 +2,7 @@
 
 ghost use Rattle.std.specs.Prelude.{◌≡◌, ◌↔◌, ◌<◌, ℤ, ◌≤ℤ◌, ◌<ℤ◌, IsTrue, length, None, IfSome};
 ghost use Rattle.lay_units.specs.Units.{IsPosition};
-ghost use Rattle.lay_line_content.specs.Pens.{strut_height};
+ghost use Rattle.lay_lines.specs.Content.Pens.{strut_height};
 ghost use Rattle.lay_lines.specs.Meeting.{IsLineRoom, RoomsFit};
 ghost use Rattle.lay_lines.specs.Filling.{HasFit, Begins, IsTop};
 ghost use Rattle.lay_lines.specs.Reaching.{IsReach};

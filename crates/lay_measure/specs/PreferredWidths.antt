@@ -10,7 +10,7 @@ use Rattle.lay_box_tree.specs.declared.box_tree.BoxKind.TheVariants as kind
 use Rattle.lay_box_tree.specs.declared.box_role.Role.{Role}
 use Rattle.lay_box_tree.specs.declared.box_role.Role.TheVariants as role
 use Rattle.lay_box_tree.specs.declared.box_tree.BoxNode.{BoxNode}
-use Rattle.lay_items.specs.InlineSegments.{segments_in}
+use Rattle.lay_line_items.specs.InlineSegments.{segments_in}
 use Rattle.lay_measure.specs.Children.{Child, block_widths, child_as, holds_lines}
 use Rattle.lay_measure.specs.LineParts.{contribution}
 use Rattle.lay_measure.specs.LineWidths.{inline_widths}

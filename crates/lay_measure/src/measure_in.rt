@@ -2,14 +2,14 @@
 
 ghost use Rattle.std.specs.Prelude.{◌≡◌, IfSome};
 ghost use Rattle.lay_box_tree.specs.InlineParts.{AreInlineParts};
-ghost use Rattle.lay_items.specs.InlineContents.{AreContents};
-ghost use Rattle.lay_items.specs.InlineSegments.{segments_in};
+ghost use Rattle.lay_line_items.specs.InlineContents.{AreContents};
+ghost use Rattle.lay_line_items.specs.InlineSegments.{segments_in};
 ghost use Rattle.lay_measure.specs.MeasureInValue.{inner_at, part_at};
 
 use crate::preferred_widths::{NO_WIDTHS, PreferredWidths};
 use lay_box_tree::{BoxNode, InlinePart};
 use lay_face::Face;
-use lay_items::InlineContents;
+use lay_line_items::InlineContents;
 use lay_space::Segment;
 use std::marker::Model;
 
@@ -28,7 +28,7 @@ pub struct MeasureIn<'a> {
 impl<'a> Model for MeasureIn<'a> {
     ghost use Rattle.std.specs.Prelude.{IfSome};
     ghost use Rattle.lay_box_tree.specs.InlineParts.{AreInlineParts};
-    ghost use Rattle.lay_items.specs.InlineContents.{AreContents};
+    ghost use Rattle.lay_line_items.specs.InlineContents.{AreContents};
     ghost use Rattle.lay_measure.specs.MeasureInValue.{MeasureInValue};
 
     ghost Value = { MeasureInValue };

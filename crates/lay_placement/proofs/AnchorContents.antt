@@ -4,11 +4,11 @@ use Rattle.lay_space.specs.AnchorLaws.{is_anchor, segment_without_anchors, witho
 use Rattle.lay_space.specs.declared.item.Item.{Item}
 use Rattle.lay_space.specs.declared.item.Item.TheVariants as item
 use Rattle.lay_space.specs.declared.segment.Segment.{Segment}
-use Rattle.lay_content.specs.BoxMeasuresValue.{BoxMeasuresValue}
-use Rattle.lay_content.specs.Contents.{content_with}
-use Rattle.lay_content.specs.Stretches.{floats_at, floats_of, heads_of, is_content, parts_at, parts_of, stretches_of}
-use Rattle.lay_content.specs.declared.container.Container.{Container}
-use Rattle.lay_line_content.specs.declared.content.LineFloat.{LineFloat}
+use Rattle.lay_line_measures.specs.BoxMeasuresValue.{BoxMeasuresValue}
+use Rattle.lay_line_measures.specs.Contents.{content_with}
+use Rattle.lay_line_measures.specs.Stretches.{floats_at, floats_of, heads_of, is_content, parts_at, parts_of, stretches_of}
+use Rattle.lay_line_measures.specs.declared.container.Container.{Container}
+use Rattle.lay_lines.specs.declared.content.content.LineFloat.{LineFloat}
 use Rattle.lay_placement.specs.AnchorLaws.{AnchorsAddNothingToLines}
 
 module _ (m : BoxMeasuresValue) (c : Container) where

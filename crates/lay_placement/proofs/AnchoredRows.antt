@@ -7,7 +7,7 @@ use Rattle.std.proofs.lemmas.List.Folds.{list_any-append}
 use Rattle.lay_units.specs.declared.length.Unit.{Unit as Length}
 use Rattle.lay_floats.specs.declared.placed.Placed.{Placed}
 use Rattle.lay_space.specs.declared.segment.Segment.{Segment}
-use Rattle.lay_line_content.specs.LineContents.{LineContentValue}
+use Rattle.lay_lines.specs.Content.LineContents.{LineContentValue}
 use Rattle.lay_lines.specs.declared.row.Ended.{Ended}
 use Rattle.lay_lines.specs.Lines.{AreLines, LinesValue}
 use Rattle.lay_lines.specs.Rows.{Laid, RowsTo, ended_of}

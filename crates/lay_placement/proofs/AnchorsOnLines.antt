@@ -5,19 +5,19 @@ use Rattle.lay_box_tree.specs.declared.box_role.Role.{Role}
 use Rattle.lay_box_tree.specs.declared.box_tree.BoxNode.{BoxNode}
 use Rattle.lay_box_tree.specs.Roles.{role_at}
 use Rattle.lay_space.specs.declared.segment.Segment.{Segment}
-use Rattle.lay_items.specs.InlineItems.{items_of}
-use Rattle.lay_items.specs.InlineSegments.{segments_in}
+use Rattle.lay_line_items.specs.InlineItems.{items_of}
+use Rattle.lay_line_items.specs.InlineSegments.{segments_in}
 use Rattle.lay_lines.specs.declared.row.Ended.{Ended}
-use Rattle.lay_content.specs.BoxMeasuresValue.{BoxMeasuresValue}
-use Rattle.lay_content.specs.Stretches.{stretches_of}
-use Rattle.lay_content.specs.declared.container.Container.{Container}
-use Rattle.lay_blocks.specs.declared.flow_box.FlowBox.{FlowBox}
-use Rattle.lay_blocks.specs.declared.flow_box.FlowKind.{FlowKind}
-use Rattle.lay_blocks.specs.declared.flow_box.FlowKind.TheVariants.{Lines as with_lines}
-use Rattle.lay_blocks.specs.BlockFloats.{Spot, content_of, floats_before, line_content_of, lines_at, no_spot}
-use Rattle.lay_blocks.specs.BlockPositions.{is_lines}
-use Rattle.lay_blocks.specs.Boxes.{box_at}
-use Rattle.lay_blocks.specs.MarginRuns.{block_of}
+use Rattle.lay_line_measures.specs.BoxMeasuresValue.{BoxMeasuresValue}
+use Rattle.lay_line_measures.specs.Stretches.{stretches_of}
+use Rattle.lay_line_measures.specs.declared.container.Container.{Container}
+use Rattle.lay_flow.specs.declared.blocks.flow_box.FlowBox.{FlowBox}
+use Rattle.lay_flow.specs.declared.blocks.flow_box.FlowKind.{FlowKind}
+use Rattle.lay_flow.specs.declared.blocks.flow_box.FlowKind.TheVariants.{Lines as with_lines}
+use Rattle.lay_flow.specs.Blocks.BlockFloats.{Spot, content_of, floats_before, line_content_of, lines_at, no_spot}
+use Rattle.lay_flow.specs.Blocks.BlockPositions.{is_lines}
+use Rattle.lay_flow.specs.Blocks.Boxes.{box_at}
+use Rattle.lay_flow.specs.Blocks.MarginRuns.{block_of}
 use Rattle.lay_box_tree.specs.Containing.{container_of}
 use Rattle.lay_box_tree.proofs.ContainerSteps.{container_within}
 use Rattle.lay_flow_boxes.specs.ContextBlocks.{content_of_box, holds_lines, is_anchor, line_container, lines_in, own_block}

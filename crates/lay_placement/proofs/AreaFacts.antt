@@ -3,8 +3,8 @@ use Rattle.std.proofs.Common.{List, arith}
 use Rattle.std.specs.List.{All}
 use Rattle.std.proofs.lemmas.Int.{ints}
 use Rattle.std.proofs.lemmas.List.Elements.{All-weaker}
-use Rattle.lay_line_content.specs.declared.content.InlineArea.{InlineArea}
-use Rattle.lay_content.specs.AreaBounds.{AreaNear}
+use Rattle.lay_lines.specs.declared.content.content.InlineArea.{InlineArea}
+use Rattle.lay_line_measures.specs.AreaBounds.{AreaNear}
 use Rattle.lay_inlines.specs.Bounds.{AreaWithin}
 
 area_within : (a : InlineArea) → AreaNear a → AreaWithin a

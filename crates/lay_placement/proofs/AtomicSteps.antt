@@ -8,9 +8,9 @@ use Rattle.std.proofs.lemmas.Grind.{elements}
 use Rattle.std.proofs.lemmas.List.{reverse-append, take_more}
 use Rattle.std.proofs.lemmas.List.Folds.{find-append, list_any_more}
 use Rattle.lay_inlines.specs.declared.line_piece.LinePiece.{LinePiece}
-use Rattle.lay_pieces.specs.declared.corner.Corner.{Corner}
+use Rattle.lay_placements.specs.declared.corner.Corner.{Corner}
 use Rattle.lay_placement.specs.AtomicCorners.{atomic_piece, corner_among, corner_of_piece, has_atomic, is_atomic, is_atomic_of}
-use Rattle.lay_pieces.specs.Corners.{AreNearCorners, IsCornerNear, corner_at}
+use Rattle.lay_placements.specs.Corners.{AreNearCorners, IsCornerNear, corner_at}
 
 piece_more : (xs ys : List LinePiece) (k : ℕ) → atomic_piece (xs ++ ys) k ≡ option_or (atomic_piece ys k) (atomic_piece xs k)
 piece_more xs ys k = ap (find (is_atomic_of k)) (reverse-append xs ys) ∙ find-append (is_atomic_of k) (reverse ys) (reverse xs)

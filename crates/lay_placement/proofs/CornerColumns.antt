@@ -3,9 +3,9 @@ use Rattle.std.proofs.Common.{◌≡◌, ℕ, zero, suc, ◌+◌, ◌<◌, ◌�
 use Rattle.std.proofs.lemmas.Grind.{elements}
 use Rattle.lay_inlines.specs.declared.line_piece.LinePiece.{LinePiece}
 use Rattle.lay_flow_boxes.specs.PlaceInputs.{PlaceInput}
-use Rattle.lay_blocks.specs.FlowPlaces.{FlowPlacesValue}
-use Rattle.lay_pieces.specs.declared.corner.Corner.{Corner}
-use Rattle.lay_pieces.specs.Corners.{corner_at}
+use Rattle.lay_flow.specs.Blocks.FlowPlaces.{FlowPlacesValue}
+use Rattle.lay_placements.specs.declared.corner.Corner.{Corner}
+use Rattle.lay_placements.specs.Corners.{corner_at}
 use Rattle.lay_placement.specs.AtomicCorners.{corner_among, has_atomic}
 use Rattle.lay_placement.specs.BoxStandings.{corner_in_flow, corner_of_box}
 use Rattle.lay_placement.specs.ContextPlaces.{ContextPlaces}

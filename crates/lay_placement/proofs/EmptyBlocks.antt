@@ -4,9 +4,9 @@ use Rattle.std.proofs.lemmas.Int.{ints}
 use Rattle.lay_units.specs.Units.{IsUsedSize}
 use Rattle.lay_units.specs.declared.records.Len.{Len}
 use Rattle.lay_units.specs.declared.records.Len.TheVariants as len
-use Rattle.lay_blocks.specs.declared.flow_box.HeightRule.{HeightRule}
-use Rattle.lay_blocks.specs.BlockPositions.{given_or_auto}
-use Rattle.lay_blocks.specs.BlockSizes.{BlockFits}
+use Rattle.lay_flow.specs.declared.blocks.flow_box.HeightRule.{HeightRule}
+use Rattle.lay_flow.specs.Blocks.BlockPositions.{given_or_auto}
+use Rattle.lay_flow.specs.Blocks.BlockSizes.{BlockFits}
 use Rattle.lay_sizes.specs.declared.sizing.BoxSizes.{BoxSizes}
 use Rattle.lay_sizes.specs.SizeBounds.{IsUsedSizeOrAuto, SizeFits}
 use Rattle.lay_flow_boxes.specs.PlaceInputs.{HeightRuleFits}

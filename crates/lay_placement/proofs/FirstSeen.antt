@@ -6,7 +6,7 @@ use Rattle.std.proofs.lemmas.Bool.{cases_lt}
 use Rattle.lay_units.specs.declared.length.Unit.{Unit as Length}
 use Rattle.lay_lines.specs.declared.row.Ended.{Ended}
 use Rattle.lay_inlines.specs.LinePieces.{baseline_of}
-use Rattle.lay_blocks.specs.FlowPlaces.{FlowPlacesValue}
+use Rattle.lay_flow.specs.Blocks.FlowPlaces.{FlowPlacesValue}
 use Rattle.lay_flow_boxes.specs.PlaceInputs.{PlaceInput}
 use Rattle.lay_placement.specs.Baselines.{baseline_in, first_baseline_to}
 use Rattle.lay_placement.specs.Laws.{FirstBoxGivesBaseline, FirstSeenLineGivesBaseline, any_seen}

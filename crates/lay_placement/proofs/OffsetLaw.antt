@@ -13,12 +13,12 @@ use Rattle.lay_inlines.specs.declared.line_piece.LinePieceKind.TheVariants as on
 use Rattle.lay_sizes.specs.OwnBoxes.{own_box_at}
 use Rattle.lay_box_tree.specs.ContextBoxes.{is_inner}
 use Rattle.lay_flow_boxes.specs.PlaceInputs.{PlaceInput}
-use Rattle.lay_relative.specs.declared.offset.Offset.{Offset}
-use Rattle.lay_pieces.specs.declared.corner.Corner.{Corner}
-use Rattle.lay_pieces.specs.declared.standing.Standing.{Standing}
-use Rattle.lay_pieces.specs.InnerPieces.{inner_pieces_at}
-use Rattle.lay_pieces.specs.PieceParts.{count_of, is_kind, numbered, with_pieces}
-use Rattle.lay_pieces.specs.Splicing.{spliced}
+use Rattle.lay_abspos.specs.declared.relative.offset.Offset.{Offset}
+use Rattle.lay_placements.specs.declared.corner.Corner.{Corner}
+use Rattle.lay_placements.specs.declared.standing.Standing.{Standing}
+use Rattle.lay_placements.specs.InnerPieces.{inner_pieces_at}
+use Rattle.lay_placements.specs.PieceParts.{count_of, is_kind, numbered, with_pieces}
+use Rattle.lay_placements.specs.Splicing.{spliced}
 use Rattle.lay_placement.specs.BoxStandings.{standing_of_box, standings_to}
 use Rattle.lay_placement.specs.ContextPieces.{painted, piece_of_box, pieces_of_box, pieces_on_line, pieces_to, spliced_at}
 use Rattle.lay_placement.specs.ContextPlaces.{ContextPlaces}

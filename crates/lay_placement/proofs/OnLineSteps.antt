@@ -3,11 +3,11 @@ use Rattle.std.proofs.Common.{◌≡◌, ℕ, zero, suc, ◌+◌, ◌<◌, false
 use Rattle.std.proofs.lemmas.Bool.{cases_lt}
 use Rattle.std.proofs.lemmas.Grind.{elements}
 use Rattle.lay_inlines.specs.declared.line_piece.LinePiece.{LinePiece}
-use Rattle.lay_blocks.specs.declared.flow_box.FlowKind.{FlowKind}
-use Rattle.lay_blocks.specs.declared.flow_box.FlowKind.TheVariants.{Block as block, Lines as lines, Solid as solid, Float as float, LineFloat as line_float, Inline as inline}
-use Rattle.lay_blocks.specs.Boxes.{box_at}
-use Rattle.lay_blocks.specs.FlowPlaces.{FlowPlacesValue}
-use Rattle.lay_content.specs.BoxMeasuresValue.{BoxMeasuresValue}
+use Rattle.lay_flow.specs.declared.blocks.flow_box.FlowKind.{FlowKind}
+use Rattle.lay_flow.specs.declared.blocks.flow_box.FlowKind.TheVariants.{Block as block, Lines as lines, Solid as solid, Float as float, LineFloat as line_float, Inline as inline}
+use Rattle.lay_flow.specs.Blocks.Boxes.{box_at}
+use Rattle.lay_flow.specs.Blocks.FlowPlaces.{FlowPlacesValue}
+use Rattle.lay_line_measures.specs.BoxMeasuresValue.{BoxMeasuresValue}
 use Rattle.lay_flow_boxes.specs.PlaceInputs.{PlaceInput}
 use Rattle.lay_placement.specs.ContextPlaces.{ContextPlaces, measures_of}
 use Rattle.lay_placement.specs.OnLines.{AreOnLines, holds_lines, on_lines_at, pieces_on_lines}

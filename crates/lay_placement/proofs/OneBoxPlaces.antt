@@ -8,25 +8,25 @@ use Rattle.lay_frag.specs.declared.frag.Frag.{Frag}
 use Rattle.lay_box_tree.specs.declared.box_tree.BoxNode.{BoxNode}
 use Rattle.lay_box_tree.specs.BoxColumns.{box_styles}
 use Rattle.lay_box_tree.specs.InlineParts.{AreInlineParts, inline_part, no_part}
-use Rattle.lay_blocks.specs.declared.flow_box.BlockBox.{BlockBox}
-use Rattle.lay_blocks.specs.Boxes.{box_at}
-use Rattle.lay_blocks.specs.Lengths.{length_at}
+use Rattle.lay_flow.specs.declared.blocks.flow_box.BlockBox.{BlockBox}
+use Rattle.lay_flow.specs.Blocks.Boxes.{box_at}
+use Rattle.lay_flow.specs.Blocks.Lengths.{length_at}
 use Rattle.lay_sizes.specs.BoxSizes.{border_width}
 use Rattle.lay_sizes.specs.declared.own_boxes.OwnBox.{OwnBox}
 use Rattle.lay_sizes.specs.OwnBoxes.{OwnBoxFits, own_box}
 use Rattle.lay_sizes.specs.SizeColumns.{sizes_at}
 use Rattle.lay_box_tree.specs.ContextBoxes.{is_inner}
-use Rattle.lay_relative.specs.Moves.{HasMoves, move_at, move_of}
-use Rattle.lay_relative.specs.RelativeOffsets.{no_offset}
+use Rattle.lay_abspos.specs.Relative.Moves.{HasMoves, move_at, move_of}
+use Rattle.lay_abspos.specs.Relative.RelativeOffsets.{no_offset}
 use Rattle.lay_flow_boxes.specs.ContextBlocks.{AreFlowBoxesOf, HasLefts, flow_box_of, left_of_box, own_block}
 use Rattle.lay_flow_boxes.specs.FlowShapes.{measures_in}
 use Rattle.lay_flow_boxes.specs.PlaceInputs.{PlaceInput}
-use Rattle.lay_pieces.specs.declared.standing.Standing.{Standing}
-use Rattle.lay_pieces.specs.Corners.{no_corner}
-use Rattle.lay_pieces.specs.NearPieces.{IsRectNear}
-use Rattle.lay_pieces.specs.PieceParts.{with_pieces}
-use Rattle.lay_pieces.specs.Placements.{Placement, PlacementFits}
-use Rattle.lay_pieces.specs.Standings.{IsStandingNear, standing_at}
+use Rattle.lay_placements.specs.declared.standing.Standing.{Standing}
+use Rattle.lay_placements.specs.Corners.{no_corner}
+use Rattle.lay_placements.specs.NearPieces.{IsRectNear}
+use Rattle.lay_placements.specs.PieceParts.{with_pieces}
+use Rattle.lay_placements.specs.Placements.{Placement, PlacementFits}
+use Rattle.lay_placements.specs.Standings.{IsStandingNear, standing_at}
 use Rattle.lay_placement.specs.AtomicCorners.{corner_among}
 use Rattle.lay_style.specs.ComputedStyle.{style_at}
 use Rattle.lay_placement.specs.Baselines.{is_of_cell, is_visible, own_baseline}

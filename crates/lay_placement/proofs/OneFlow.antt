@@ -3,18 +3,18 @@ use Rattle.std.proofs.Common.{◌≡◌, ℕ, zero, suc, ◌<◌, ℤ, pos, ◌-
 use Rattle.std.proofs.lemmas.Int.{ints}
 use Rattle.lay_units.specs.declared.length.Unit.{Unit as Length}
 use Rattle.lay_units.specs.Lengths.{no_length}
-use Rattle.lay_blocks.specs.declared.flow_box.BlockBox.{BlockBox}
-use Rattle.lay_blocks.specs.declared.flow_box.FlowBox.{FlowBox}
-use Rattle.lay_blocks.specs.declared.flow_box.FlowKind.TheVariants.{Block as block}
-use Rattle.lay_blocks.specs.declared.block.Inside.TheVariants.{Blocks as blocks_inside}
-use Rattle.lay_blocks.specs.Lengths.{length_at}
-use Rattle.lay_blocks.specs.Children.{flag_at}
-use Rattle.lay_blocks.specs.MarginRuns.{Runs, HasRuns, block_at, block_with, run_at, through_of, before_top_of, to_bottom_of, top_run_of, bottom_run_of}
-use Rattle.lay_blocks.specs.BlockLayout.{BlockLayout}
-use Rattle.lay_blocks.specs.BlockPositions.{HasPositions, border_height, height_of, is_lines, mark_of, start_of}
-use Rattle.lay_blocks.specs.BlockFloats.{AreLinesAt, lines_at, no_lines, no_spot}
-use Rattle.lay_blocks.specs.ContextFlow.{Flow, IsContextFlow}
-use Rattle.lay_blocks.specs.FlowPlaces.{FlowPlacesValue, IsFlowOf, border_box_in, box_place_at}
+use Rattle.lay_flow.specs.declared.blocks.flow_box.BlockBox.{BlockBox}
+use Rattle.lay_flow.specs.declared.blocks.flow_box.FlowBox.{FlowBox}
+use Rattle.lay_flow.specs.declared.blocks.flow_box.FlowKind.TheVariants.{Block as block}
+use Rattle.lay_flow.specs.declared.blocks.block.Inside.TheVariants.{Blocks as blocks_inside}
+use Rattle.lay_flow.specs.Blocks.Lengths.{length_at}
+use Rattle.lay_flow.specs.Blocks.Children.{flag_at}
+use Rattle.lay_flow.specs.Blocks.MarginRuns.{Runs, HasRuns, block_at, block_with, run_at, through_of, before_top_of, to_bottom_of, top_run_of, bottom_run_of}
+use Rattle.lay_flow.specs.Blocks.BlockLayout.{BlockLayout}
+use Rattle.lay_flow.specs.Blocks.BlockPositions.{HasPositions, border_height, height_of, is_lines, mark_of, start_of}
+use Rattle.lay_flow.specs.Blocks.BlockFloats.{AreLinesAt, lines_at, no_lines, no_spot}
+use Rattle.lay_flow.specs.Blocks.ContextFlow.{Flow, IsContextFlow}
+use Rattle.lay_flow.specs.Blocks.FlowPlaces.{FlowPlacesValue, IsFlowOf, border_box_in, box_place_at}
 
 -- what holds of the first box holds of each, where there is no other
 pub at_first : (P : ℕ → Type 0) → P 0 → (k : ℕ) → k < 1 → P k

@@ -7,10 +7,10 @@ use Rattle.lay_frag.specs.declared.frag.Frag.{Frag}
 use Rattle.lay_inlines.specs.declared.line_piece.LinePiece.{LinePiece}
 use Rattle.lay_sizes.specs.OwnBoxes.{own_box_at}
 use Rattle.lay_flow_boxes.specs.PlaceInputs.{PlaceInput}
-use Rattle.lay_pieces.specs.InnerPieces.{inner_pieces_at}
-use Rattle.lay_pieces.specs.PieceParts.{with_pieces}
-use Rattle.lay_pieces.specs.Splicing.{spliced}
-use Rattle.lay_pieces.proofs.PieceSteps.{more_pieces}
+use Rattle.lay_placements.specs.InnerPieces.{inner_pieces_at}
+use Rattle.lay_placements.specs.PieceParts.{with_pieces}
+use Rattle.lay_placements.specs.Splicing.{spliced}
+use Rattle.lay_placements.proofs.PieceSteps.{more_pieces}
 use Rattle.lay_placement.specs.BoxStandings.{standing_of_box}
 use Rattle.lay_placement.specs.ContextPieces.{pieces_of_box, pieces_on_line, pieces_to, spliced_at}
 use Rattle.lay_placement.specs.ContextPlaces.{ContextPlaces}

@@ -1,7 +1,7 @@
 -- What follows for the columns of one formatting context from what they are.
 use Rattle.std.proofs.Common.{◌≤◌, ◌<◌, ◌∙◌, arith, length}
 use Rattle.lay_units.specs.Units.{IsBoxSize}
-use Rattle.lay_blocks.specs.FlowPlaces.{AreNearPlaces}
+use Rattle.lay_flow.specs.Blocks.FlowPlaces.{AreNearPlaces}
 use Rattle.lay_flow_boxes.specs.FlowShapes.{most_flow_boxes}
 use Rattle.lay_flow_boxes.specs.PlaceInputs.{PlaceInput}
 use Rattle.lay_placement.specs.ContextPlaces.{ContextPlaces, HasPlaces, own_height}

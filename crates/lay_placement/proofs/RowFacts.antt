@@ -7,7 +7,7 @@ use Rattle.std.proofs.lemmas.List.{get_or_past}
 use Rattle.std.proofs.lemmas.List.Elements.{All-nil, All-weaker}
 use Rattle.lay_lines.specs.declared.row.Ended.{Ended}
 use Rattle.lay_lines.specs.Lines.{RowWithin as RowNear}
-use Rattle.lay_blocks.specs.FlowPlaces.{AreNearRows, FlowPlacesValue}
+use Rattle.lay_flow.specs.Blocks.FlowPlaces.{AreNearRows, FlowPlacesValue}
 use Rattle.lay_inlines.specs.Bounds.{RowWithin}
 use Rattle.lay_placement.specs.ContextPlaces.{rows_at}
 

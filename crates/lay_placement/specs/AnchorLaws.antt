@@ -4,9 +4,9 @@
 use Rattle.std.specs.Prelude.{◌≡◌, List, map}
 use Rattle.lay_space.specs.AnchorLaws.{segment_without_anchors}
 use Rattle.lay_space.specs.declared.segment.Segment.{Segment}
-use Rattle.lay_content.specs.BoxMeasuresValue.{BoxMeasuresValue}
-use Rattle.lay_content.specs.Contents.{content_in}
-use Rattle.lay_content.specs.declared.container.Container.{Container}
+use Rattle.lay_line_measures.specs.BoxMeasuresValue.{BoxMeasuresValue}
+use Rattle.lay_line_measures.specs.Contents.{content_in}
+use Rattle.lay_line_measures.specs.declared.container.Container.{Container}
 
 abbrev pub AnchorsAddNothingToLines : Type 0
 AnchorsAddNothingToLines = (m : BoxMeasuresValue) (c : Container) (segments : List Segment)

@@ -6,7 +6,7 @@ use Rattle.std.specs.Option.{option_map, unwrap_or}
 use Rattle.lay_inlines.specs.declared.line_piece.LinePiece.{LinePiece}
 use Rattle.lay_inlines.specs.declared.line_piece.LinePieceKind.{LinePieceKind}
 use Rattle.lay_inlines.specs.declared.line_piece.LinePieceKind.TheVariants as on_line
-use Rattle.lay_pieces.specs.declared.corner.Corner.{Corner}
+use Rattle.lay_placements.specs.declared.corner.Corner.{Corner}
 
 abbrev pub is_atomic : LinePieceKind → Bool
 is_atomic on_line.Atomic = true

@@ -23,7 +23,7 @@ use Rattle.lay_box_tree.specs.Kinds.{is_wrapper, is_cell}
 use Rattle.lay_box_tree.specs.Roles.{role_at}
 use Rattle.lay_lines.specs.declared.row.Ended.{Ended}
 use Rattle.lay_inlines.specs.LinePieces.{baseline_of}
-use Rattle.lay_blocks.specs.FlowPlaces.{FlowPlacesValue, box_place_at}
+use Rattle.lay_flow.specs.Blocks.FlowPlaces.{FlowPlacesValue, box_place_at}
 use Rattle.lay_sizes.specs.OwnBoxes.{own_box_at}
 use Rattle.lay_flow_boxes.specs.PlaceInputs.{PlaceInput}
 use Rattle.lay_placement.specs.ContextPlaces.{rows_at}

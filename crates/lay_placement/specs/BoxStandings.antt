@@ -6,15 +6,15 @@ use Rattle.std.specs.Prelude.{ℕ, zero, suc, ◌+ℤ◌, List, [], ◌∷◌, �
 use Rattle.lay_units.specs.declared.length.Unit.{Unit as Length}
 use Rattle.lay_units.specs.Lengths.{no_length}
 use Rattle.lay_box_tree.specs.Roles.{role_at}
-use Rattle.lay_blocks.specs.FlowPlaces.{FlowPlacesValue, box_place_at}
+use Rattle.lay_flow.specs.Blocks.FlowPlaces.{FlowPlacesValue, box_place_at}
 use Rattle.lay_sizes.specs.OwnBoxes.{own_box_at}
 use Rattle.lay_box_tree.specs.ContextBoxes.{is_inner}
-use Rattle.lay_relative.specs.declared.offset.Offset.{Offset}
-use Rattle.lay_relative.specs.Moves.{move_at}
+use Rattle.lay_abspos.specs.declared.relative.offset.Offset.{Offset}
+use Rattle.lay_abspos.specs.Relative.Moves.{move_at}
 use Rattle.lay_flow_boxes.specs.ContextBlocks.{is_anchor}
 use Rattle.lay_flow_boxes.specs.PlaceInputs.{PlaceInput}
-use Rattle.lay_pieces.specs.declared.corner.Corner.{Corner}
-use Rattle.lay_pieces.specs.declared.standing.Standing.{Standing}
+use Rattle.lay_placements.specs.declared.corner.Corner.{Corner}
+use Rattle.lay_placements.specs.declared.standing.Standing.{Standing}
 use Rattle.lay_placement.specs.AtomicCorners.{corner_among}
 use Rattle.lay_placement.specs.ContextPlaces.{ContextPlaces}
 use Rattle.lay_placement.specs.OnLines.{on_lines_to}

@@ -18,12 +18,12 @@ use Rattle.lay_sizes.specs.OwnBoxes.{own_box_at}
 use Rattle.lay_sizes.specs.SizeColumns.{sizes_at}
 use Rattle.lay_box_tree.specs.ContextBoxes.{is_inner}
 use Rattle.lay_box_tree.specs.InlineParts.{id_at}
-use Rattle.lay_relative.specs.declared.offset.Offset.{Offset}
-use Rattle.lay_relative.specs.Moves.{move_at}
+use Rattle.lay_abspos.specs.declared.relative.offset.Offset.{Offset}
+use Rattle.lay_abspos.specs.Relative.Moves.{move_at}
 use Rattle.lay_flow_boxes.specs.PlaceInputs.{PlaceInput}
-use Rattle.lay_pieces.specs.InnerPieces.{inner_pieces_at}
-use Rattle.lay_pieces.specs.PieceParts.{with_pieces}
-use Rattle.lay_pieces.specs.Splicing.{border_box, spliced}
+use Rattle.lay_placements.specs.InnerPieces.{inner_pieces_at}
+use Rattle.lay_placements.specs.PieceParts.{with_pieces}
+use Rattle.lay_placements.specs.Splicing.{border_box, spliced}
 use Rattle.lay_placement.specs.BoxStandings.{standing_of_box}
 use Rattle.lay_placement.specs.ContextPlaces.{ContextPlaces}
 use Rattle.lay_placement.specs.OnLines.{on_lines_of}

@@ -4,7 +4,7 @@ use Rattle.std.specs.Prelude.{◌≡◌, length}
 use Rattle.lay_sizes.specs.OwnBoxes.{own_box}
 use Rattle.lay_sizes.specs.SizeColumns.{sizes_at}
 use Rattle.lay_flow_boxes.specs.PlaceInputs.{PlaceInput}
-use Rattle.lay_pieces.specs.Placements.{Placement}
+use Rattle.lay_placements.specs.Placements.{Placement}
 use Rattle.lay_placement.specs.Baselines.{own_baseline}
 use Rattle.lay_placement.specs.BoxStandings.{standings_to}
 use Rattle.lay_placement.specs.ContextPieces.{pieces_to}

@@ -2,11 +2,11 @@
 -- 9.5): what they are to its block flow, where that puts them, and by how much they are moved from there.
 use Rattle.std.specs.Prelude.{ℕ, List, [], slice_index_or}
 use Rattle.lay_units.specs.declared.length.Unit.{Unit as Length}
-use Rattle.lay_content.specs.BoxMeasuresValue.{BoxMeasuresValue}
+use Rattle.lay_line_measures.specs.BoxMeasuresValue.{BoxMeasuresValue}
 use Rattle.lay_lines.specs.declared.row.Ended.{Ended}
-use Rattle.lay_blocks.specs.FlowPlaces.{FlowPlacesValue, IsFlowOf, box_place_at}
-use Rattle.lay_relative.specs.declared.offset.Offset.{Offset}
-use Rattle.lay_relative.specs.Moves.{HasMoves}
+use Rattle.lay_flow.specs.Blocks.FlowPlaces.{FlowPlacesValue, IsFlowOf, box_place_at}
+use Rattle.lay_abspos.specs.declared.relative.offset.Offset.{Offset}
+use Rattle.lay_abspos.specs.Relative.Moves.{HasMoves}
 use Rattle.lay_flow_boxes.specs.FlowShapes.{FlowShape, IsFlowShape, measures_in}
 use Rattle.lay_flow_boxes.specs.PlaceInputs.{PlaceInput}
 

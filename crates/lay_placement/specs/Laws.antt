@@ -9,16 +9,16 @@ use Rattle.lay_frag.specs.declared.frag.Frag.{Frag}
 use Rattle.lay_box_tree.specs.Roles.{role_at}
 use Rattle.lay_lines.specs.declared.row.Ended.{Ended}
 use Rattle.lay_inlines.specs.LinePieces.{baseline_of}
-use Rattle.lay_blocks.specs.FlowPlaces.{FlowPlacesValue}
+use Rattle.lay_flow.specs.Blocks.FlowPlaces.{FlowPlacesValue}
 use Rattle.lay_box_tree.specs.Containing.{container_of}
 use Rattle.lay_box_tree.specs.ContextBoxes.{AreContextBoxes}
 use Rattle.lay_flow_boxes.specs.ContextBlocks.{holds_lines, is_anchor}
 use Rattle.lay_flow_boxes.specs.LineItems.{AreHeldByOthers}
 use Rattle.lay_flow_boxes.specs.PlaceInputs.{PlaceInput}
-use Rattle.lay_relative.specs.declared.offset.Offset.{Offset}
-use Rattle.lay_pieces.specs.declared.standing.Standing.{Standing}
-use Rattle.lay_pieces.specs.Corners.{no_corner}
-use Rattle.lay_pieces.specs.Placements.{Placement}
+use Rattle.lay_abspos.specs.declared.relative.offset.Offset.{Offset}
+use Rattle.lay_placements.specs.declared.standing.Standing.{Standing}
+use Rattle.lay_placements.specs.Corners.{no_corner}
+use Rattle.lay_placements.specs.Placements.{Placement}
 use Rattle.lay_placement.specs.Baselines.{baseline_in, first_baseline, first_baseline_to, last_baseline}
 use Rattle.lay_placement.specs.ContextPlacements.{IsPlacement, placement_of}
 use Rattle.lay_placement.specs.ContextPlaces.{ContextPlaces, HasPlaces, measures_of}

@@ -10,14 +10,14 @@ use Rattle.lay_inlines.specs.declared.align.Align.TheVariants as aligned
 use Rattle.lay_inlines.specs.declared.line_piece.LinePiece.{LinePiece}
 use Rattle.lay_inlines.specs.declared.lines.Container.{Container}
 use Rattle.lay_inlines.specs.LinePieces.{pieces_of}
-use Rattle.lay_blocks.specs.declared.flow_box.BlockBox.{BlockBox}
-use Rattle.lay_blocks.specs.declared.flow_box.FlowKind.{FlowKind}
-use Rattle.lay_blocks.specs.declared.flow_box.FlowKind.TheVariants.{Block as block, Lines as lines, Solid as solid}
-use Rattle.lay_blocks.specs.declared.flow_box.FlowKind.TheVariants.{Float as float, LineFloat as line_float, Inline as inline}
-use Rattle.lay_blocks.specs.Boxes.{box_at}
-use Rattle.lay_blocks.specs.FlowPlaces.{FlowPlacesValue}
-use Rattle.lay_content.specs.BoxMeasuresValue.{BoxMeasuresValue}
-use Rattle.lay_content.specs.InlineBoxes.{areas_of}
+use Rattle.lay_flow.specs.declared.blocks.flow_box.BlockBox.{BlockBox}
+use Rattle.lay_flow.specs.declared.blocks.flow_box.FlowKind.{FlowKind}
+use Rattle.lay_flow.specs.declared.blocks.flow_box.FlowKind.TheVariants.{Block as block, Lines as lines, Solid as solid}
+use Rattle.lay_flow.specs.declared.blocks.flow_box.FlowKind.TheVariants.{Float as float, LineFloat as line_float, Inline as inline}
+use Rattle.lay_flow.specs.Blocks.Boxes.{box_at}
+use Rattle.lay_flow.specs.Blocks.FlowPlaces.{FlowPlacesValue}
+use Rattle.lay_line_measures.specs.BoxMeasuresValue.{BoxMeasuresValue}
+use Rattle.lay_line_measures.specs.InlineBoxes.{areas_of}
 use Rattle.lay_flow_boxes.specs.PlaceInputs.{PlaceInput}
 use Rattle.lay_placement.specs.ContextPlaces.{ContextPlaces, measures_of, rows_at}
 

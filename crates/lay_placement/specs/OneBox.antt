@@ -7,14 +7,14 @@ use Rattle.lay_frag.specs.declared.frag.Frag.{Frag}
 use Rattle.lay_frag.specs.declared.frag.FragKind.TheVariants as kind
 use Rattle.lay_box_tree.specs.declared.box_tree.BoxNode.{BoxNode}
 use Rattle.lay_box_tree.specs.InlineParts.{id_at}
-use Rattle.lay_blocks.specs.declared.block.Block.{Block}
-use Rattle.lay_blocks.specs.declared.block.Inside.TheVariants as inside
-use Rattle.lay_blocks.specs.declared.flow_box.HeightRule.{HeightRule}
-use Rattle.lay_blocks.specs.BlockPositions.{border_height}
+use Rattle.lay_flow.specs.declared.blocks.block.Block.{Block}
+use Rattle.lay_flow.specs.declared.blocks.block.Inside.TheVariants as inside
+use Rattle.lay_flow.specs.declared.blocks.flow_box.HeightRule.{HeightRule}
+use Rattle.lay_flow.specs.Blocks.BlockPositions.{border_height}
 use Rattle.lay_sizes.specs.declared.sizing.BoxSizes.{BoxSizes}
-use Rattle.lay_pieces.specs.declared.standing.Standing.{Standing}
-use Rattle.lay_pieces.specs.Corners.{no_corner}
-use Rattle.lay_pieces.specs.Splicing.{border_box}
+use Rattle.lay_placements.specs.declared.standing.Standing.{Standing}
+use Rattle.lay_placements.specs.Corners.{no_corner}
+use Rattle.lay_placements.specs.Splicing.{border_box}
 
 -- a block box of these used sizes, of whose height that is given, as margins and heights see it
 abbrev pub empty_block : BoxSizes → HeightRule → Block

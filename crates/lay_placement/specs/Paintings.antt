@@ -2,8 +2,8 @@
 use Rattle.std.specs.Prelude.{◌≡◌, List, length}
 use Rattle.lay_inlines.specs.declared.line_piece.LinePiece.{LinePiece}
 use Rattle.lay_flow_boxes.specs.PlaceInputs.{PlaceInput}
-use Rattle.lay_pieces.specs.declared.standing.Standing.{Standing}
-use Rattle.lay_pieces.specs.Standings.{AreNearStandings}
+use Rattle.lay_placements.specs.declared.standing.Standing.{Standing}
+use Rattle.lay_placements.specs.Standings.{AreNearStandings}
 use Rattle.lay_placement.specs.BoxStandings.{standings_to}
 use Rattle.lay_placement.specs.ContextPlaces.{ContextPlaces}
 use Rattle.lay_placement.specs.Counts.{HaveCounts}

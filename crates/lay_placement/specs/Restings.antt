@@ -2,11 +2,11 @@
 use Rattle.std.specs.Prelude.{ℕ, ◌≡◌, ◌<◌, true, List, length, slice_index_or, Option}
 use Rattle.lay_units.specs.declared.length.Unit.{Unit as Length}
 use Rattle.lay_box_tree.specs.Roles.{role_at}
-use Rattle.lay_blocks.specs.FlowPlaces.{FlowPlacesValue}
+use Rattle.lay_flow.specs.Blocks.FlowPlaces.{FlowPlacesValue}
 use Rattle.lay_flow_boxes.specs.ContextBlocks.{is_anchor}
 use Rattle.lay_flow_boxes.specs.PlaceInputs.{PlaceInput}
-use Rattle.lay_pieces.specs.declared.corner.Corner.{Corner}
-use Rattle.lay_pieces.specs.Corners.{AreNearCorners}
+use Rattle.lay_placements.specs.declared.corner.Corner.{Corner}
+use Rattle.lay_placements.specs.Corners.{AreNearCorners}
 use Rattle.lay_placement.specs.AnchorLines.{top_at}
 use Rattle.lay_placement.specs.BoxStandings.{corner_in_flow, corner_of_box}
 use Rattle.lay_placement.specs.ContextPlaces.{ContextPlaces}

@@ -8,13 +8,13 @@ use Rattle.lay_units.specs.declared.length.Unit.{Unit as Length}
 use Rattle.lay_space.specs.declared.item.Item.{Item}
 use Rattle.lay_space.specs.declared.item.Item.TheVariants as item
 use Rattle.lay_space.specs.declared.segment.Segment.{Segment}
-use Rattle.lay_items.specs.InlineSegments.{segments_in}
+use Rattle.lay_line_items.specs.InlineSegments.{segments_in}
 use Rattle.lay_lines.specs.declared.row.Ended.{Ended}
-use Rattle.lay_blocks.specs.FlowPlaces.{box_place_at}
+use Rattle.lay_flow.specs.Blocks.FlowPlaces.{box_place_at}
 use Rattle.lay_box_tree.specs.Containing.{container_of}
 use Rattle.lay_flow_boxes.specs.ContextBlocks.{content_left}
 use Rattle.lay_flow_boxes.specs.PlaceInputs.{PlaceInput}
-use Rattle.lay_pieces.specs.declared.corner.Corner.{Corner}
+use Rattle.lay_placements.specs.declared.corner.Corner.{Corner}
 use Rattle.lay_placement.specs.ContextPlaces.{ContextPlaces, rows_at}
 
 -- the item is the anchor of the box at k

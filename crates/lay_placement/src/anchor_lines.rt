@@ -2,9 +2,9 @@
 
 ghost use Rattle.std.specs.Prelude.{ℕ, ◌≡◌, ◌<◌, ◌==◌, true, false, IsFalse, take, drop, length, Some, None, IfOk, OnOk, if◌then◌else◌};
 ghost use Rattle.lay_box_tree.specs.Roles.{role_at};
-ghost use Rattle.lay_blocks.specs.Children.{flag_at};
+ghost use Rattle.lay_flow.specs.Blocks.Children.{flag_at};
 ghost use Rattle.lay_box_tree.specs.Containing.{container_of};
-ghost use Rattle.lay_items.specs.InlineSegments.{segments_in};
+ghost use Rattle.lay_line_items.specs.InlineSegments.{segments_in};
 ghost use Rattle.lay_flow_boxes.specs.ContextBlocks.{is_anchor};
 ghost use Rattle.lay_placement.specs.AnchorLines.{ArePut, is_anchor_kind, is_free, is_open, top_at};
 ghost use Rattle.lay_placement.specs.AnchorLines.{top_in_line, top_in_segment, top_of_item};
@@ -16,7 +16,7 @@ use crate::context_places::{BoxPlaces, rows_at};
 use crate::standings::is_anchor;
 use lay_box_tree::{BoxKind, BoxNode, ContextBoxes, inline_parts};
 use lay_flow_boxes::PlaceInput;
-use lay_items::inline_segments;
+use lay_line_items::inline_segments;
 use lay_lines::Ended;
 use lay_space::{Item, Segment};
 use lay_units::{NoMemory, Unit};

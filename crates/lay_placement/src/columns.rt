@@ -1,12 +1,12 @@
 //! Reading the columns of one formatting context.
 
 ghost use Rattle.std.specs.Prelude.{◌≡◌, ◌<◌, length};
-ghost use Rattle.lay_blocks.specs.FlowPlaces.{box_place_at};
-ghost use Rattle.lay_blocks.specs.Lengths.{length_at};
+ghost use Rattle.lay_flow.specs.Blocks.FlowPlaces.{box_place_at};
+ghost use Rattle.lay_flow.specs.Blocks.Lengths.{length_at};
 ghost use Rattle.lay_sizes.specs.OwnBoxes.{own_box_at};
 ghost use Rattle.lay_sizes.specs.SizeColumns.{sizes_at};
 
-use lay_blocks::BoxPlace;
+use lay_flow::blocks::BoxPlace;
 use lay_sizes::{BoxSizes, OwnBox};
 use lay_units::Unit;
 

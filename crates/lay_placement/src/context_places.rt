@@ -2,16 +2,16 @@
 
 ghost use Rattle.std.specs.Prelude.{◌≡◌, IfOk};
 ghost use Rattle.lay_units.specs.Units.{IsBoxSize};
-ghost use Rattle.lay_relative.specs.MoveBounds.{IsMoveNear};
-ghost use Rattle.lay_relative.specs.Moves.{move_at};
+ghost use Rattle.lay_abspos.specs.Relative.MoveBounds.{IsMoveNear};
+ghost use Rattle.lay_abspos.specs.Relative.Moves.{move_at};
 ghost use Rattle.lay_placement.specs.ContextPlaces.{HasPlaces, own_height, rows_at};
 ghost use Rattle.lay_placement.specs.Counts.{HaveCounts};
 
-use lay_blocks::FlowPlaces;
+use lay_abspos::relative::{BoxMoves, Offset, relative_moves};
+use lay_flow::blocks::FlowPlaces;
 use lay_flow::flow;
 use lay_flow_boxes::{FlowShape, PlaceInput, flow_shape};
 use lay_lines::Ended;
-use lay_relative::{BoxMoves, Offset, relative_moves};
 use lay_units::NoMemory;
 use std::alloc::Global;
 use std::marker::Model;

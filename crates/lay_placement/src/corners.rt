@@ -2,7 +2,7 @@
 
 ghost use Rattle.std.specs.Prelude.{ℕ, ◌≡◌, ◌<◌, ◌&&◌, [], ◌∷◌, IsFalse, false, nat_lt, length, IfOk, OnOk};
 ghost use Rattle.lay_placement.specs.AtomicCorners.{corner_among, corner_of_piece, has_atomic, is_atomic};
-ghost use Rattle.lay_pieces.specs.Corners.{AreNearCorners, IsCornerNear, corner_at};
+ghost use Rattle.lay_placements.specs.Corners.{AreNearCorners, IsCornerNear, corner_at};
 ghost use Rattle.lay_placement.specs.BoxStandings.{corner_in_flow, corner_of_box};
 ghost use Rattle.lay_placement.specs.Counts.{HaveCounts};
 ghost use Rattle.lay_placement.specs.OnLines.{AreOnLines, on_lines_at};
@@ -13,7 +13,7 @@ use crate::context_places::BoxPlaces;
 use crate::on_lines::on_lines_at;
 use lay_flow_boxes::PlaceInput;
 use lay_inlines::{LinePiece, LinePieceKind, LinePieceList};
-use lay_pieces::{Corner, near_corner};
+use lay_placements::{Corner, near_corner};
 use lay_units::NoMemory;
 use std::alloc::Global;
 

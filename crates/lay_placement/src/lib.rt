@@ -2,7 +2,7 @@
 //! 10.6, 10.8.1 and 17.5.3), beside the used sizes of its boxes and what is known of the formatting contexts inside it.
 //!
 //! `placement` answers by `IsPlacement` of `specs/ContextPlacements.antt`. What its boxes are to block flow is of
-//! lay_flow_boxes, by how much they are moved is of lay_relative, and where they stand then is `specs/ContextPlaces.antt`. From
+//! lay_flow_boxes, by how much they are moved is of lay_abspos, and where they stand then is `specs/ContextPlaces.antt`. From
 //! there `specs/OnLines.antt` says what stands on lines, `specs/BoxStandings.antt` where each box stands (with
 //! `specs/AtomicCorners.antt` for atomic boxes on lines and `specs/StaticPositions.antt` for anchors),
 //! `specs/ContextPieces.antt` what is painted, and `specs/Baselines.antt` on what line the own box stands. Where there is but

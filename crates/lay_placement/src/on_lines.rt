@@ -1,9 +1,9 @@
 //! What stands on the lines of the boxes of one formatting context.
 
 ghost use Rattle.std.specs.Prelude.{ℕ, ◌≡◌, ◌<◌, ◌≤◌, All, IsFalse, false, length, IfOk};
-ghost use Rattle.lay_content.specs.InlineBoxes.{areas_of};
-ghost use Rattle.lay_blocks.specs.Boxes.{box_at};
-ghost use Rattle.lay_blocks.specs.FlowBoxes.{KindFits};
+ghost use Rattle.lay_line_measures.specs.InlineBoxes.{areas_of};
+ghost use Rattle.lay_flow.specs.Blocks.Boxes.{box_at};
+ghost use Rattle.lay_flow.specs.Blocks.FlowBoxes.{KindFits};
 ghost use Rattle.lay_flow_boxes.specs.FlowShapes.{most_flow_boxes};
 ghost use Rattle.lay_inlines.specs.Bounds.{AreaWithin, RowWithin};
 ghost use Rattle.lay_placement.specs.ContextPlaces.{measures_of, rows_at};
@@ -11,12 +11,12 @@ ghost use Rattle.lay_placement.specs.Counts.{HaveCounts};
 ghost use Rattle.lay_placement.specs.OnLines.{AreOnLines, align_of, holds_lines, line_container, on_lines_at, on_lines_of};
 
 use crate::context_places::{BoxPlaces, rows_at};
-use lay_blocks::{BlockBox, FlowBox, FlowBoxes, FlowKind};
-use lay_content::{BoxMeasures, inline_areas};
+use lay_flow::blocks::{BlockBox, FlowBox, FlowBoxes, FlowKind};
 use lay_flow_boxes::PlaceInput;
 use lay_inlines::{Align, Container, LinePiece, LinePieceList, LinesGeometry, line_pieces};
-use lay_line_content::InlineArea;
+use lay_line_measures::{BoxMeasures, inline_areas};
 use lay_lines::Ended;
+use lay_lines::content::InlineArea;
 use lay_style::TextAlign;
 use lay_units::NoMemory;
 use std::alloc::Global;

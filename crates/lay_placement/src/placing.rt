@@ -12,7 +12,7 @@ use crate::pieces::{Painting, pieces_of};
 use crate::standings::standings_of;
 use lay_flow_boxes::PlaceInput;
 use lay_frag::Pieces;
-use lay_pieces::Placement;
+use lay_placements::Placement;
 use lay_sizes::own_box;
 use lay_units::NoMemory;
 use std::alloc::Global;

@@ -3,10 +3,10 @@
 ghost use Rattle.std.specs.Prelude.{◌≡◌, ◌<◌, true, false, length, IfOk};
 ghost use Rattle.lay_units.specs.Units.{IsNear};
 ghost use Rattle.lay_box_tree.specs.Roles.{role_at};
-ghost use Rattle.lay_relative.specs.MoveBounds.{IsMoveNear};
+ghost use Rattle.lay_abspos.specs.Relative.MoveBounds.{IsMoveNear};
 ghost use Rattle.lay_flow_boxes.specs.ContextBlocks.{content_left, is_anchor};
-ghost use Rattle.lay_pieces.specs.Corners.{IsCornerNear};
-ghost use Rattle.lay_pieces.specs.Standings.{AreNearStandings, IsStandingNear};
+ghost use Rattle.lay_placements.specs.Corners.{IsCornerNear};
+ghost use Rattle.lay_placements.specs.Standings.{AreNearStandings, IsStandingNear};
 ghost use Rattle.lay_placement.specs.BoxStandings.{border_height, corner_of_box, moved_corner, standing_of_box, standings_to};
 ghost use Rattle.lay_placement.specs.Counts.{HaveCounts};
 ghost use Rattle.lay_placement.specs.OnLines.{AreOnLines};
@@ -17,11 +17,11 @@ use crate::anchor_lines::anchor_lines;
 use crate::columns::{length_at, own_box_at, place_at, sizes_at};
 use crate::context_places::{BoxPlaces, move_of};
 use crate::corners::{corner_in_flow, corners_of};
+use lay_abspos::relative::Offset;
 use lay_box_tree::Role;
 use lay_flow_boxes::PlaceInput;
 use lay_inlines::LinePieceList;
-use lay_pieces::{Corner, Standing, near_corner};
-use lay_relative::Offset;
+use lay_placements::{Corner, Standing, near_corner};
 use lay_units::{NoMemory, Unit, sum_of};
 use std::alloc::Global;
 

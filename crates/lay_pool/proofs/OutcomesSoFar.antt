@@ -1,8 +1,8 @@
 -- What is kept while the outcomes of a batch are put together: those of the claims so far are there, each at its place.
 use Rattle.std.proofs.Common.{◌≡◌, ◌⊎◌, inl, inr, ⊎_elim, ℕ, zero, suc, ◌+◌, List, [], ◌∷◌, ◌++◌, length, slice_get, Option, Some, None, IfSome, refl, sym, ap, ◌∙◌, subst, arith, rules, append_assoc, length-append}
-use Rattle.lay_claims.specs.cell_work.Claims.{Claim}
-use Rattle.lay_claims.specs.declared.outcome.Outcome.{Outcome}
-use Rattle.lay_claims.specs.Outcomes.{IsOutcomeAt, IsOutcomeOf, IsWorkOf, Work}
+use Rattle.lay_cell_work.specs.Claims.{Claim}
+use Rattle.lay_cell_work.specs.declared.claim_lists.outcome.Outcome.{Outcome}
+use Rattle.lay_cell_work.specs.ClaimLists.Outcomes.{IsOutcomeAt, IsOutcomeOf, IsWorkOf, Work}
 use Rattle.lay_pool.specs.Finds.{AreNotesOf, IsOfPlace}
 
 pub record IsDrained (claims yielded left : List Claim) (place : ℕ) (notes : List (Option (Option Work))) (outcomes : List Outcome) : Type 0 where

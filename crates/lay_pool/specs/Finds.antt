@@ -1,8 +1,8 @@
 -- What threads find of the claims of a batch, and what is noted of it. Each find is that of the claim at its place.
 use Rattle.std.specs.Prelude.{ℕ, ◌≡◌, List, slice_get, Option, Some, IfSome}
 use Rattle.std.specs.List.{All}
-use Rattle.lay_claims.specs.cell_work.Claims.{Claim}
-use Rattle.lay_claims.specs.Outcomes.{IsWorkOf, Work}
+use Rattle.lay_cell_work.specs.Claims.{Claim}
+use Rattle.lay_cell_work.specs.ClaimLists.Outcomes.{IsWorkOf, Work}
 use Rattle.lay_pool.specs.declared.member.Found.{Found}
 
 -- the work at a place, if any was done, is that of the claim there

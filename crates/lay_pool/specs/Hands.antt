@@ -1,10 +1,10 @@
 -- What workers that live on hand in. Each outcome comes of a claim, whichever worker that was dealt to.
 use Rattle.std.specs.Prelude.{◌≡◌, ◌≤◌, ◌++◌, ℕ, List, Contains, length}
 use Rattle.std.specs.List.{All}
-use Rattle.lay_claims.specs.cell_work.Claims.{Claim}
-use Rattle.lay_claims.specs.declared.outcome.Outcome.{Outcome}
-use Rattle.lay_claims.specs.declared.outcome.Outcome.TheVariants as outcome
-use Rattle.lay_claims.specs.Outcomes.{IsOutcomeOf}
+use Rattle.lay_cell_work.specs.Claims.{Claim}
+use Rattle.lay_cell_work.specs.declared.claim_lists.outcome.Outcome.{Outcome}
+use Rattle.lay_cell_work.specs.declared.claim_lists.outcome.Outcome.TheVariants as outcome
+use Rattle.lay_cell_work.specs.ClaimLists.Outcomes.{IsOutcomeOf}
 
 -- the work of a claim, right beside its input, or a claim that came back
 abbrev pub ComesOf : Outcome → Type 0

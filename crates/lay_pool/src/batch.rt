@@ -2,18 +2,18 @@
 
 ghost use Rattle.std.specs.Prelude.{◌≡◌, ◌≢◌, ◌<◌, ◌≤◌, ℕ, [], IfErr, IfOk, Option, Some, slice_get, vec_capacity, vec_len};
 ghost use Rattle.std.specs.List.{All};
-ghost use Rattle.lay_claims.specs.Outcomes.{AreOutcomesOf, Work};
+ghost use Rattle.lay_cell_work.specs.ClaimLists.Outcomes.{AreOutcomesOf, Work};
 ghost use Rattle.lay_pool.specs.Finds.{AreFoundOf};
 
 use crate::deques::{Deque, deal};
 use crate::draining::drained;
 use crate::member::{Finds, Member};
 use crate::notes::{no_notes, note_all};
-use lay_claims::cell_work::{Claim, Layout};
-use lay_claims::{ClaimList, Outcome, Outcomes};
-use lay_layout::cells::Done;
-use lay_layout::units::NoMemory;
+use lay_cell_work::claim_lists::{ClaimList, Outcome, Outcomes};
+use lay_cell_work::{Claim, Layout};
+use lay_cells::Done;
 use lay_outside::Gate;
+use lay_units::NoMemory;
 use std::alloc::{AllocError, Global};
 use std::thread;
 use std::thread::Threads;

@@ -3,7 +3,7 @@
 ghost use Rattle.std.specs.Prelude.{◌<◌, ◌≡◌, IfErr};
 
 use crossbeam_deque::{Steal, Stealer, Worker};
-use lay_layout::units::NoMemory;
+use lay_units::NoMemory;
 use std::alloc::Global;
 
 /// How often a thread looks round again where a steal could not be decided.

@@ -1,14 +1,14 @@
 //! The outcomes of a batch, in order.
 
 ghost use Rattle.std.specs.Prelude.{◌≡◌, ◌<◌, ◌≤◌, ℕ, [], IfSome, Option, Some, slice_get, vec_capacity, vec_len};
-ghost use Rattle.lay_claims.specs.Outcomes.{AreOutcomesOf, IsOutcomeOf, IsWorkOf, Work};
+ghost use Rattle.lay_cell_work.specs.ClaimLists.Outcomes.{AreOutcomesOf, IsOutcomeOf, IsWorkOf, Work};
 ghost use Rattle.lay_pool.specs.Finds.{AreNotesOf};
 
 use crate::member::computed;
 use crate::notes::take_note;
-use lay_claims::Outcome;
-use lay_claims::cell_work::{Claim, Layout};
-use lay_layout::cells::Done;
+use lay_cell_work::claim_lists::Outcome;
+use lay_cell_work::{Claim, Layout};
+use lay_cells::Done;
 use lay_outside::Gate;
 use std::alloc::Global;
 

@@ -2,16 +2,16 @@
 
 ghost use Rattle.std.specs.Prelude.{◌≡◌, ◌+◌, ◌≤◌, ◌<◌, ◌⊎◌, ◌++◌, ◌∷◌, [], length, vec_capacity, vec_len, IfOk};
 ghost use Rattle.std.specs.List.{All};
-ghost use Rattle.lay_claims.specs.Outcomes.{IsOutcomeOf};
-ghost use Rattle.lay_claims.specs.declared.outcome.Outcome.TheVariants as outcome;
+ghost use Rattle.lay_cell_work.specs.ClaimLists.Outcomes.{IsOutcomeOf};
+ghost use Rattle.lay_cell_work.specs.declared.claim_lists.outcome.Outcome.TheVariants as outcome;
 ghost use Rattle.lay_pool.specs.Hands.{AddsWork, ComesOf, IsRefusedOf};
 
 use crate::deques::Deque;
 use crate::member::computed;
-use lay_claims::cell_work::Claim;
-use lay_claims::{ClaimList, Outcome, Outcomes};
-use lay_layout::units::NoMemory;
+use lay_cell_work::Claim;
+use lay_cell_work::claim_lists::{ClaimList, Outcome, Outcomes};
 use lay_outside::Gate;
+use lay_units::NoMemory;
 use std::alloc::Global;
 
 /// How many claims a worker computes at most before it hands in what came of them.

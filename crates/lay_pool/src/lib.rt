@@ -1,7 +1,7 @@
 //! Batches of claims on threads that steal.
 //!
 //! `run_batch` computes the claims of a list on as many threads as it is told, and answers what came of each, in the order of the list:
-//! `AreOutcomesOf` of lay_claims, whichever thread was at a claim and when. Each thread has a deque of the places that were dealt to it
+//! `AreOutcomesOf` of lay_cell_work, whichever thread was at a claim and when. Each thread has a deque of the places that were dealt to it
 //! and takes places of the others once it has none left. What a thread finds is known by the contract of what it runs
 //! (`specs/Finds.antt`), and what none has found is computed at the end by the caller; so nothing has to be known of the deques.
 //!
@@ -19,5 +19,3 @@ mod notes;
 
 pub use batch::run_batch;
 pub use hand::{Hand, hands};
-pub use lay_claims as claim_lists;
-pub use lay_claims::{cell_work as cell_work, shape as shape};

@@ -2,14 +2,14 @@
 
 ghost use Rattle.std.specs.Prelude.{◌≡◌, [], IfOk, IfSome};
 ghost use Rattle.std.specs.List.{All};
-ghost use Rattle.lay_claims.specs.Outcomes.{IsWorkOf};
+ghost use Rattle.lay_cell_work.specs.ClaimLists.Outcomes.{IsWorkOf};
 ghost use Rattle.lay_pool.specs.Finds.{AreFoundOf, IsFoundOf};
 
 use crate::deques::Deque;
-use lay_claims::cell_work::{Claim, Layout};
-use lay_layout::cells::Done;
-use lay_layout::units::NoMemory;
+use lay_cell_work::{Claim, Layout};
+use lay_cells::Done;
 use lay_outside::{Gate, Point};
+use lay_units::NoMemory;
 use std::alloc::Global;
 use std::marker::Model;
 

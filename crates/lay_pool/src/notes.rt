@@ -2,13 +2,13 @@
 
 ghost use Rattle.std.specs.Prelude.{◌≡◌, ◌≢◌, ◌<◌, ◌⊎◌, ℕ, IfOk, IfSome, Option, Some, slice_get, vec_len};
 ghost use Rattle.std.specs.List.{All};
-ghost use Rattle.lay_claims.specs.Outcomes.{Work};
+ghost use Rattle.lay_cell_work.specs.ClaimLists.Outcomes.{Work};
 ghost use Rattle.lay_pool.specs.Finds.{AreFoundOf, AreNotesOf, IsFoundOf};
 
 use crate::member::{Finds, Found};
-use lay_claims::cell_work::{Claim, Layout};
-use lay_layout::cells::Done;
-use lay_layout::units::NoMemory;
+use lay_cell_work::{Claim, Layout};
+use lay_cells::Done;
+use lay_units::NoMemory;
 use std::alloc::{AllocError, Global};
 
 /// Nothing yet at so many places.

@@ -5,7 +5,7 @@ use Rattle.lay_units.specs.declared.records.Rect.{Rect}
 use Rattle.lay_box_tree.specs.declared.box_tree.BoxNode.{BoxNode}
 use Rattle.lay_sizes.specs.declared.sizing.ContainingBlock.{ContainingBlock}
 use Rattle.lay_contexts.specs.FormattingContexts.{FormattingContext, boxes_in, formatting_context_at}
-use Rattle.lay_pieces.specs.declared.corner.Corner.{Corner}
+use Rattle.lay_placements.specs.declared.corner.Corner.{Corner}
 use Rattle.lay_positioned.specs.Holders.{IsHolderFor}
 use Rattle.lay_positioned.specs.Layouts.{Layout, step}
 use Rattle.lay_positioned.specs.PaddingBoxes.{padding_box}

@@ -6,8 +6,8 @@ use Rattle.lay_box_tree.specs.declared.box_tree.BoxNode.{BoxNode}
 use Rattle.lay_box_tree.specs.Containers.{box_parent}
 use Rattle.lay_sizes.specs.declared.sizing.ContainingBlock.{ContainingBlock}
 use Rattle.lay_contexts.specs.FormattingContexts.{FormattingContext, boxes_in, formatting_context_at}
-use Rattle.lay_pieces.specs.declared.corner.Corner.{Corner}
-use Rattle.lay_pieces.specs.Standings.{standing_at}
+use Rattle.lay_placements.specs.declared.corner.Corner.{Corner}
+use Rattle.lay_placements.specs.Standings.{standing_at}
 use Rattle.lay_abspos.specs.declared.setting.AbsoluteSetting.{AbsoluteSetting}
 use Rattle.lay_positioned.specs.Absolute.{is_absolute, is_fixed, is_own_absolute, is_own_fixed}
 use Rattle.lay_positioned.specs.ContainingRects.{IsContainingRect, held, initial, seen_from, viewport_rect, further as around}

@@ -7,9 +7,9 @@
 use Rattle.std.specs.Prelude.{ℕ, ◌+ℤ◌, List, if◌then◌else◌}
 use Rattle.lay_sizes.specs.declared.sizing.BoxSizes.{BoxSizes}
 use Rattle.lay_contexts.specs.FormattingContexts.{FormattingContext, formatting_context_at}
-use Rattle.lay_pieces.specs.declared.corner.Corner.{Corner}
-use Rattle.lay_pieces.specs.declared.standing.Standing.{Standing}
-use Rattle.lay_pieces.specs.Standings.{standing_at}
+use Rattle.lay_placements.specs.declared.corner.Corner.{Corner}
+use Rattle.lay_placements.specs.declared.standing.Standing.{Standing}
+use Rattle.lay_placements.specs.Standings.{standing_at}
 use Rattle.lay_positioned.specs.Absolute.{is_absolute}
 
 pub record Layout : Type 0 where

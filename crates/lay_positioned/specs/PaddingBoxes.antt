@@ -12,8 +12,8 @@ use Rattle.lay_box_tree.specs.Kinds.{is_wrapper}
 use Rattle.lay_sizes.specs.declared.sizing.BoxSizes.{BoxSizes}
 use Rattle.lay_sizes.specs.BoxSizes.{border_width}
 use Rattle.lay_sizes.specs.SizeColumns.{no_edges, sizes_at}
-use Rattle.lay_pieces.specs.declared.standing.Standing.{Standing}
-use Rattle.lay_pieces.specs.Standings.{standing_at}
+use Rattle.lay_placements.specs.declared.standing.Standing.{Standing}
+use Rattle.lay_placements.specs.Standings.{standing_at}
 use Rattle.lay_positioned.specs.Layouts.{Layout}
 
 abbrev pub is_wrapper_at : List BoxNode → ℕ → Bool

@@ -6,7 +6,7 @@ use Rattle.lay_units.specs.declared.records.Rect.{Rect}
 use Rattle.lay_units.specs.Lengths.{no_length}
 use Rattle.lay_sizes.specs.declared.sizing.ContainingBlock.{ContainingBlock}
 use Rattle.lay_contexts.specs.FormattingContexts.{FormattingContext, formatting_context_at}
-use Rattle.lay_pieces.specs.declared.corner.Corner.{Corner}
+use Rattle.lay_placements.specs.declared.corner.Corner.{Corner}
 use Rattle.lay_abspos.specs.declared.setting.AbsoluteSetting.{AbsoluteSetting}
 use Rattle.lay_positioned.specs.Absolute.{is_fixed}
 use Rattle.lay_positioned.specs.ContainingRects.{IsContainingRect, containing_in, viewport_rect}

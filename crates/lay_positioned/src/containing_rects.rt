@@ -3,7 +3,7 @@
 ghost use Rattle.std.specs.Prelude.{◌≡◌, ◌<◌, IfOk, length};
 ghost use Rattle.lay_sizes.specs.UsedLengths.{or_zero};
 ghost use Rattle.lay_contexts.specs.FormattingContexts.{boxes_in};
-ghost use Rattle.lay_pieces.specs.NearPieces.{IsRectNear};
+ghost use Rattle.lay_placements.specs.NearPieces.{IsRectNear};
 ghost use Rattle.lay_positioned.specs.ContainingRects.{IsContainingRect, viewport_rect};
 ghost use Rattle.lay_abspos.specs.ViewportBounds.{ViewportFits};
 

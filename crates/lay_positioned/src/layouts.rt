@@ -2,13 +2,13 @@
 
 ghost use Rattle.std.specs.Prelude.{ℕ, ◌≡◌, ◌<◌, IfOk, length};
 ghost use Rattle.lay_sizes.specs.SizeColumns.{HaveSizeBounds};
-ghost use Rattle.lay_pieces.specs.Corners.{IsCornerNear};
-ghost use Rattle.lay_pieces.specs.Standings.{AreNearStandings, IsStandingNear, standing_at};
+ghost use Rattle.lay_placements.specs.Corners.{IsCornerNear};
+ghost use Rattle.lay_placements.specs.Standings.{AreNearStandings, IsStandingNear, standing_at};
 ghost use Rattle.lay_positioned.specs.Layouts.{Layout, content_corner, standing_of, step};
 
 use crate::absolute::is_absolute;
 use lay_contexts::FormattingContexts;
-use lay_pieces::{Corner, Standing, near_corner};
+use lay_placements::{Corner, Standing, near_corner};
 use lay_sizes::BoxSizes;
 use lay_units::{NoMemory, Unit};
 

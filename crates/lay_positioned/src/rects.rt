@@ -2,11 +2,11 @@
 
 ghost use Rattle.std.specs.Prelude.{◌≡◌, ◌-ℤ◌, IfErr, IfOk};
 ghost use Rattle.lay_units.specs.Units.{IsPosition, IsNear};
-ghost use Rattle.lay_pieces.specs.Corners.{IsCornerNear};
-ghost use Rattle.lay_pieces.specs.NearPieces.{IsRectNear};
+ghost use Rattle.lay_placements.specs.Corners.{IsCornerNear};
+ghost use Rattle.lay_placements.specs.NearPieces.{IsRectNear};
 ghost use Rattle.lay_positioned.specs.ContainingRects.{seen_from};
 
-use lay_pieces::{Corner, near_position};
+use lay_placements::{Corner, near_position};
 use lay_units::{NoMemory, Rect, Unit};
 
 /// A rectangle. NoMemory is the answer where one of its numbers is more than 2^60 units from 0, and nowhere else.

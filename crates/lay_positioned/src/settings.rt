@@ -1,8 +1,8 @@
 //! What an absolutely positioned box is given from outside.
 
 ghost use Rattle.std.specs.Prelude.{◌≡◌, ◌<◌, IfOk, length};
-ghost use Rattle.lay_pieces.specs.Corners.{IsCornerNear};
-ghost use Rattle.lay_pieces.specs.NearPieces.{IsRectNear};
+ghost use Rattle.lay_placements.specs.Corners.{IsCornerNear};
+ghost use Rattle.lay_placements.specs.NearPieces.{IsRectNear};
 ghost use Rattle.lay_positioned.specs.Settings.{IsInnerSetting, IsSetting, absolute_setting, setting_beside};
 ghost use Rattle.lay_abspos.specs.AbsoluteSettings.{SettingFits};
 ghost use Rattle.lay_abspos.specs.ViewportBounds.{ViewportFits};
@@ -13,7 +13,7 @@ use crate::layouts::{Layouts, standing_of};
 use crate::rects::difference;
 use lay_abspos::AbsoluteSetting;
 use lay_contexts::FormattingContexts;
-use lay_pieces::Corner;
+use lay_placements::Corner;
 use lay_sizes::ContainingBlock;
 use lay_units::{NoMemory, Rect, Unit};
 

@@ -3,7 +3,7 @@
 use Rattle.std.specs.Prelude.{List, map, IsPermutation}
 use Rattle.lay_doc.specs.declared.node.NodeId.{NodeId}
 use Rattle.lay_doc.specs.Document.{Document, ids_of}
-use Rattle.lay_edits.specs.declared.command.Cmd.{Cmd}
+use Rattle.lay_history.specs.declared.edits.command.Cmd.{Cmd}
 use Rattle.lay_face.specs.FaceValue.{FaceValue}
 
 pub record Run : Type 0 where

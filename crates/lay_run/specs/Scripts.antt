@@ -1,8 +1,8 @@
 -- The scripts of a run: for each editor, in order, its commands. There are at most 16 scripts, with at most 8,192
 -- commands together, of which at most 256 read.
 use Rattle.std.specs.Prelude.{ℕ, ◌≡◌, ◌≤◌, List, length, sum_by, count_by, Bool, true, false}
-use Rattle.lay_edits.specs.declared.command.Cmd.{Cmd}
-use Rattle.lay_edits.specs.declared.command.Cmd.TheVariants.{Edits, Latest, Sync}
+use Rattle.lay_history.specs.declared.edits.command.Cmd.{Cmd}
+use Rattle.lay_history.specs.declared.edits.command.Cmd.TheVariants.{Edits, Latest, Sync}
 
 -- whether a command is to be shown a version
 abbrev pub is_read : Cmd → Bool

@@ -3,8 +3,11 @@
 //!
 //! A run is `Run` of `specs/Runs.antt`. Its scripts are within limits together (`specs/Scripts.antt`): at most 16 scripts,
 //! 8,192 commands and 256 commands that read. lay_json reads bytes as a run.
+//!
+//! - `gathered`: documents of nodes that are listed one after the other.
 #![tactic(auto)]
 
+pub mod gathered;
 mod node_list;
 mod run_doc;
 mod script_list;

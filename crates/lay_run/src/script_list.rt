@@ -3,7 +3,7 @@
 ghost use Rattle.std.specs.Prelude.{◌≡◌, ◌+◌, ◌<◌, ◌≤◌, ◌==◌, ◌++◌, ◌∷◌, [], length, OnOk, OnErr};
 ghost use Rattle.lay_run.specs.Scripts.{IsWithinLimits, is_read, reads_of, command_count, read_count};
 
-use lay_edits::{Cmd, CmdList};
+use lay_history::edits::{Cmd, CmdList};
 use lay_units::NoMemory;
 use std::alloc::Global;
 use std::marker::Model;
@@ -21,7 +21,7 @@ pub struct ScriptList {
 
 impl Model for ScriptList {
     ghost use Rattle.std.specs.Prelude.{List};
-    ghost use Rattle.lay_edits.specs.declared.command.Cmd.{Cmd};
+    ghost use Rattle.lay_history.specs.declared.edits.command.Cmd.{Cmd};
     ghost use Rattle.lay_run.specs.Scripts.{IsCounted};
 
     ghost Value = { List (List Cmd) };

@@ -3,7 +3,7 @@
 ghost use Rattle.std.specs.Prelude.{◌≡◌, ◌↔◌, IsTrue};
 
 use crate::lengths::same_sides;
-use lay_table_borders::{Spacing, TableCell, TableGrid, TableRow};
+use lay_table_grid::{Spacing, TableCell, TableGrid, TableRow};
 
 /// Whether two tables have the same structure.
 pub fn same_grid(a: &TableGrid, b: &TableGrid) -> bool

@@ -3,7 +3,7 @@
 ghost use Rattle.std.specs.Prelude.{◌≡◌, ◌↔◌, IsTrue};
 
 use crate::lengths::{same_length, same_length_or_none, same_sides};
-use lay_blocks::HeightRule;
+use lay_flow::blocks::HeightRule;
 use lay_sizes::{BoxSizes, ContainingBlock, OwnBox};
 use lay_widths::BlockOut;
 

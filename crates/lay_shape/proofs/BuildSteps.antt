@@ -5,16 +5,16 @@ use Rattle.std.proofs.lemmas.List.{flat_map_more, get_or-set_other, get_or-set_s
 use Rattle.std.proofs.lemmas.List.Elements.{filter-append, filter_more}
 use Rattle.std.proofs.lemmas.List.FromFn.{get_or-map-range_with_len, map-range_with_len_more}
 use Rattle.std.proofs.lemmas.Option.{get_or_from_slice_get, none-some, slice_get-get_or, slice_get_within}
-use Rattle.lay_layout.specs.units.Limits.{most_nodes}
+use Rattle.lay_units.specs.Limits.{most_nodes}
 use Rattle.std.specs.List.{range_with_len}
-use Rattle.lay_layout.specs.cells.Shapes.{Entry, IsEachOnce, IsIn}
-use Rattle.lay_layout.specs.contexts.Contexts.{AreContexts, Context, context_at}
-use Rattle.lay_layout.specs.positioned.Levels.{one_if}
+use Rattle.lay_cells.specs.Shapes.{Entry, IsEachOnce, IsIn}
+use Rattle.lay_contexts.specs.Contexts.{AreContexts, Context, context_at}
+use Rattle.lay_positioned.specs.Levels.{one_if}
 use Rattle.lay_shape.specs.declared.cell_key.CellKey.{CellKey}
 use Rattle.lay_shape.specs.declared.context_phase.ContextPhase.{ContextPhase}
 use Rattle.lay_shape.specs.Building.{AreByLevel, entries_to, levels_of}
-use Rattle.lay_layout.specs.context.declared.task.Phase.{Phase}
-use Rattle.lay_layout.specs.context.declared.task.Phase.TheVariants.{Size, Place}
+use Rattle.lay_context.specs.declared.task.Phase.{Phase}
+use Rattle.lay_context.specs.declared.task.Phase.TheVariants.{Size, Place}
 use Rattle.lay_shape.specs.Dependencies.{in_phase, needs_in, needs_of}
 use Rattle.lay_shape.specs.Keys.{AreOfOwnNodes, key_of}
 use Rattle.lay_shape.specs.Levels.{level_of}

@@ -1,9 +1,9 @@
 -- The laws of ways, cells and their order.
 use Rattle.std.proofs.Common.{◌≡◌, ℕ, ◌≤◌, ◌^◌, List, length, slice_get, Some, ap, sym, subst, ◌∙◌, arith}
 use Rattle.std.proofs.lemmas.List.{length-map}
-use Rattle.lay_layout.specs.units.Limits.{most_nodes}
-use Rattle.lay_layout.specs.cells.Shapes.{Entry, IsEachOnce, IsIn, IsShape, StandsBefore}
-use Rattle.lay_layout.specs.contexts.Contexts.{AreContexts, Context}
+use Rattle.lay_units.specs.Limits.{most_nodes}
+use Rattle.lay_cells.specs.Shapes.{Entry, IsEachOnce, IsIn, IsShape, StandsBefore}
+use Rattle.lay_contexts.specs.Contexts.{AreContexts, Context}
 use Rattle.lay_shape.specs.declared.cell_key.CellKey.{CellKey}
 use Rattle.lay_shape.specs.declared.context_phase.ContextPhase.{ContextPhase}
 use Rattle.lay_shape.specs.Keys.{AreOfOwnNodes}

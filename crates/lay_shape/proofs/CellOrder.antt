@@ -4,10 +4,10 @@ use Rattle.std.proofs.lemmas.Bool.{eqb-true, eq-eqb, le-leb, leb-true}
 use Rattle.std.proofs.lemmas.List.{length-map, length-reverse, reverse-reverse}
 use Rattle.std.proofs.lemmas.List.FromFn.{length-range_with_len}
 use Rattle.std.specs.List.{range_with_len}
-use Rattle.lay_layout.specs.cells.Shapes.{IsIn}
-use Rattle.lay_layout.specs.context.declared.task.Phase.{Phase}
-use Rattle.lay_layout.specs.context.declared.task.Phase.TheVariants.{Measure, Size, Place}
-use Rattle.lay_layout.specs.contexts.Contexts.{AreContexts, Context}
+use Rattle.lay_cells.specs.Shapes.{IsIn}
+use Rattle.lay_context.specs.declared.task.Phase.{Phase}
+use Rattle.lay_context.specs.declared.task.Phase.TheVariants.{Measure, Size, Place}
+use Rattle.lay_contexts.specs.Contexts.{AreContexts, Context}
 use Rattle.lay_shape.specs.declared.context_phase.ContextPhase.{ContextPhase}
 use Rattle.lay_shape.specs.Dependencies.{in_phase, needs_in}
 use Rattle.lay_shape.specs.Levels.{level_of}

@@ -1,7 +1,7 @@
 -- The level of a context beside that of the one around it.
 use Rattle.std.proofs.Common.{◌≡◌, ℕ, zero, suc, ◌+◌, ◌<◌, ◌≤◌, Bool, true, false, List, length, refl, ap, arith}
-use Rattle.lay_layout.specs.contexts.Contexts.{AreContexts, Context, context_at}
-use Rattle.lay_layout.specs.positioned.Levels.{one_if}
+use Rattle.lay_contexts.specs.Contexts.{AreContexts, Context, context_at}
+use Rattle.lay_positioned.specs.Levels.{one_if}
 use Rattle.lay_shape.specs.Levels.{level_in, level_of}
 use Rattle.lay_shape.specs.Ways.{is_absolute}
 

@@ -1,3 +1,6 @@
+pub mod TouchedLemmas
+pub mod KeptShapesLemmas
+pub mod ShapeLawsLemmas
 pub mod BuildSteps
 pub mod CellLaws
 pub mod CellOrder

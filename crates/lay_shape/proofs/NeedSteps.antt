@@ -1,10 +1,10 @@
 -- What a cell depends on: cells of contexts inside it, of the one around it and of those on its way, each once.
 use Rattle.std.proofs.Common.{◌≡◌, ◌⊎◌, inl, inr, ⊎_elim, ℕ, zero, suc, ◌+◌, ◌<◌, ◌&&◌, not, nat_lt, Bool, true, false, List, [], ◌∷◌, ◌++◌, length, map, slice_get, Some, refl, ap, sym, subst, ◌∙◌, arith, if◌then◌else◌}
 use Rattle.std.proofs.lemmas.Option.{get_or_from_slice_get, slice_get_within}
-use Rattle.lay_layout.specs.cells.Shapes.{IsEachOnce, IsIn}
-use Rattle.lay_layout.specs.context.declared.task.Phase.{Phase}
-use Rattle.lay_layout.specs.context.declared.task.Phase.TheVariants.{Measure, Size, Place}
-use Rattle.lay_layout.specs.contexts.Contexts.{AreContexts, Context, IsInside, context_at}
+use Rattle.lay_cells.specs.Shapes.{IsEachOnce, IsIn}
+use Rattle.lay_context.specs.declared.task.Phase.{Phase}
+use Rattle.lay_context.specs.declared.task.Phase.TheVariants.{Measure, Size, Place}
+use Rattle.lay_contexts.specs.Contexts.{AreContexts, Context, IsInside, context_at}
 use Rattle.lay_shape.specs.declared.context_phase.ContextPhase.{ContextPhase}
 use Rattle.lay_shape.specs.Dependencies.{in_phase, inner_flows, is_inner_flow, needs_in, on_way, outer_needs, way_needs}
 use Rattle.lay_shape.specs.Ways.{IsOnWay, is_absolute, way_of}

@@ -1,7 +1,7 @@
 -- Lists in which no element stands twice.
 use Rattle.std.proofs.Common.{◌≡◌, ◌⊎◌, ⊎_elim, ℕ, zero, suc, ◌+◌, Bool, true, false, cond, List, [], ◌∷◌, ◌++◌, map, filter, flat_map, slice_get, Some, refl, arith, ap, sym, subst, ◌∙◌}
 use Rattle.std.proofs.lemmas.Option.{none-some}
-use Rattle.lay_layout.specs.cells.Shapes.{IsIn, IsEachOnce}
+use Rattle.lay_cells.specs.Shapes.{IsIn, IsEachOnce}
 use Rattle.lay_shape.proofs.Members.{from_filter, from_flat_map, from_map, in_either, in_here, in_there}
 
 module _ {X : Type 0} where

@@ -4,32 +4,32 @@ use Rattle.std.proofs.lemmas.Bool.{cases_lt}
 use Rattle.std.proofs.lemmas.List.{get_or-map}
 use Rattle.std.proofs.lemmas.Option.{get_or_from_slice_get, slice_get-map}
 use Rattle.std.specs.Option.{option_map}
-use Rattle.lay_layout.specs.style.declared.style.Style.{Style}
-use Rattle.lay_layout.specs.style.ComputedStyle.{style_at}
-use Rattle.lay_layout.specs.doc.declared.node.Node.{Node}
-use Rattle.lay_layout.specs.doc.declared.node.NodeId.{NodeId}
-use Rattle.lay_layout.specs.doc.Document.{Document, IsDocument, ids_of}
-use Rattle.lay_layout.specs.box_tree.BoxColumns.{box_at as own_at}
-use Rattle.lay_layout.specs.box_tree.declared.box_tree.BoxNode.{BoxNode}
-use Rattle.lay_layout.specs.boxgen.Boxes.{Tree, Trees, tree, trees_of}
-use Rattle.lay_layout.specs.boxgen.declared.facts.Facts.{Facts}
-use Rattle.lay_layout.specs.boxgen.Contexts.{IsContextAt, box_at, box_of_node, is_marked}
-use Rattle.lay_layout.specs.boxgen.Laws.{inner_boxes}
-use Rattle.lay_layout.specs.boxgen.Listing.{listed_part}
-use Rattle.lay_layout.specs.boxgen.NodeBoxes.{node_box}
-use Rattle.lay_layout.specs.boxgen.NodeTrees.{as_own, box_with, tree_at}
-use Rattle.lay_layout.specs.boxgen.Parts.{nothing, put_list}
-use Rattle.lay_layout.proofs.lay_boxgen.NodeForms.{IsNodeBox, is-node_box}
-use Rattle.lay_layout.proofs.lay_boxgen.WholeParts.{context_is_one_box}
-use Rattle.lay_layout.specs.contexts.ContextList.{AreContextsOf}
-use Rattle.lay_layout.specs.contexts.ContextTree.{boxes_of_place}
-use Rattle.lay_layout.specs.contexts.Contexts.{Context, boxes_in}
-use Rattle.lay_layout.specs.contexts.DocumentContexts.{root_spot, spot_at}
-use Rattle.lay_layout.specs.contexts.NodeTreeLaws.{child_trees, children_places}
-use Rattle.lay_layout.specs.contexts.declared.context_spot.ContextSpot.{ContextSpot}
-use Rattle.lay_layout.proofs.lay_contexts.ListedSteps.{context_within}
-use Rattle.lay_layout.proofs.lay_contexts.ChildTrees.{children_stand_in_order}
-use Rattle.lay_layout.proofs.lay_contexts.NodeFacts.{box_within, of_node}
+use Rattle.lay_style.specs.declared.style.Style.{Style}
+use Rattle.lay_style.specs.ComputedStyle.{style_at}
+use Rattle.lay_doc.specs.declared.node.Node.{Node}
+use Rattle.lay_doc.specs.declared.node.NodeId.{NodeId}
+use Rattle.lay_doc.specs.Document.{Document, IsDocument, ids_of}
+use Rattle.lay_box_tree.specs.BoxColumns.{box_at as own_at}
+use Rattle.lay_box_tree.specs.declared.box_tree.BoxNode.{BoxNode}
+use Rattle.lay_boxgen.specs.Boxes.{Tree, Trees, tree, trees_of}
+use Rattle.lay_boxgen.specs.declared.facts.Facts.{Facts}
+use Rattle.lay_boxgen.specs.Contexts.{IsContextAt, box_at, box_of_node, is_marked}
+use Rattle.lay_boxgen.specs.Laws.{inner_boxes}
+use Rattle.lay_boxgen.specs.Listing.{listed_part}
+use Rattle.lay_boxgen.specs.NodeBoxes.{node_box}
+use Rattle.lay_boxgen.specs.NodeTrees.{as_own, box_with, tree_at}
+use Rattle.lay_boxgen.specs.Parts.{nothing, put_list}
+use Rattle.lay_boxgen.proofs.NodeForms.{IsNodeBox, is-node_box}
+use Rattle.lay_boxgen.proofs.WholeParts.{context_is_one_box}
+use Rattle.lay_contexts.specs.ContextList.{AreContextsOf}
+use Rattle.lay_contexts.specs.ContextTree.{boxes_of_place}
+use Rattle.lay_contexts.specs.Contexts.{Context, boxes_in}
+use Rattle.lay_contexts.specs.DocumentContexts.{root_spot, spot_at}
+use Rattle.lay_contexts.specs.NodeTreeLaws.{child_trees, children_places}
+use Rattle.lay_contexts.specs.declared.context_spot.ContextSpot.{ContextSpot}
+use Rattle.lay_contexts.proofs.ListedSteps.{context_within}
+use Rattle.lay_contexts.proofs.ChildTrees.{children_stand_in_order}
+use Rattle.lay_contexts.proofs.NodeFacts.{box_within, of_node}
 use Rattle.lay_shape.specs.Keys.{node_of}
 use Rattle.lay_shape.specs.Laws.{ContextsAreOfOwnNodes}
 

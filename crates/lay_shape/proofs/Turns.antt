@@ -2,11 +2,11 @@
 use Rattle.std.proofs.Common.{◌≡◌, ◌⊎◌, ⊎_elim, ℕ, zero, suc, ◌+◌, ◌-◌, ◌*◌, ◌<◌, ◌≤◌, false, List, ◌++◌, length, map, refl, ap, sym, subst, ◌∙◌, arith}
 use Rattle.std.proofs.Math.Nat.{mul_comm}
 use Rattle.std.proofs.lemmas.Nat.{mul-add-lt}
-use Rattle.lay_layout.specs.cells.Shapes.{IsIn}
-use Rattle.lay_layout.specs.context.declared.task.Phase.{Phase}
-use Rattle.lay_layout.specs.context.declared.task.Phase.TheVariants.{Measure, Size, Place}
-use Rattle.lay_layout.specs.contexts.Contexts.{AreContexts, Context, context_at}
-use Rattle.lay_layout.specs.positioned.Levels.{one_if}
+use Rattle.lay_cells.specs.Shapes.{IsIn}
+use Rattle.lay_context.specs.declared.task.Phase.{Phase}
+use Rattle.lay_context.specs.declared.task.Phase.TheVariants.{Measure, Size, Place}
+use Rattle.lay_contexts.specs.Contexts.{AreContexts, Context, context_at}
+use Rattle.lay_positioned.specs.Levels.{one_if}
 use Rattle.lay_shape.specs.declared.context_phase.ContextPhase.{ContextPhase}
 use Rattle.lay_shape.specs.Dependencies.{in_phase, inner_flows, needs_in, outer_needs, way_needs}
 use Rattle.lay_shape.specs.Levels.{level_of}

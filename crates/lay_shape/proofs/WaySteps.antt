@@ -2,12 +2,12 @@
 use Rattle.std.proofs.Common.{◌≡◌, ◌⊎◌, ⊎_elim, ℕ, zero, suc, ◌<◌, ◌≤◌, nat_lt, Bool, true, false, List, [], ◌∷◌, length, refl, ap, sym, subst, ◌∙◌, arith, Option, Some, None, if◌then◌else◌}
 use Rattle.std.specs.Prelude.{is_none}
 use Rattle.std.proofs.lemmas.Bool.{and_from, and_parts, lt-ltb}
-use Rattle.lay_layout.specs.cells.Shapes.{IsEachOnce, IsIn}
-use Rattle.lay_layout.specs.contexts.Contexts.{AreContexts, Context, boxes_in, context_at}
-use Rattle.lay_layout.specs.positioned.Holders.{IsHolderFor, holder_for}
-use Rattle.lay_layout.specs.positioned.Levels.{one_if}
-use Rattle.lay_layout.proofs.lay_positioned.OneSetting.{one_holder_for}
-use Rattle.lay_layout.proofs.lay_positioned.SettingValues.{holder_is}
+use Rattle.lay_cells.specs.Shapes.{IsEachOnce, IsIn}
+use Rattle.lay_contexts.specs.Contexts.{AreContexts, Context, boxes_in, context_at}
+use Rattle.lay_positioned.specs.Holders.{IsHolderFor, holder_for}
+use Rattle.lay_positioned.specs.Levels.{one_if}
+use Rattle.lay_positioned.proofs.OneSetting.{one_holder_for}
+use Rattle.lay_positioned.proofs.SettingValues.{holder_is}
 use Rattle.lay_shape.specs.Building.{is_inner_absolute, leads_on}
 use Rattle.lay_shape.specs.Levels.{level_of}
 use Rattle.lay_shape.specs.Ways.{IsOnWay, IsOnWayFrom, beyond, further, here, is_absolute, is_fixed, way_from, way_of}

@@ -1,9 +1,9 @@
 -- The cells of a document while their shape is put together.
 use Rattle.std.specs.Prelude.{ℕ, ◌≡◌, ◌+◌, ◌<◌, ◌==◌, ◌&&◌, nat_lt, Bool, List, [], length, map, take, slice_index_or, is_none}
 use Rattle.std.specs.List.{filter, range_with_len}
-use Rattle.lay_layout.specs.cells.Shapes.{Entry}
-use Rattle.lay_layout.specs.contexts.Contexts.{Context, boxes_in}
-use Rattle.lay_layout.specs.positioned.Holders.{holder_for}
+use Rattle.lay_cells.specs.Shapes.{Entry}
+use Rattle.lay_contexts.specs.Contexts.{Context, boxes_in}
+use Rattle.lay_positioned.specs.Holders.{holder_for}
 use Rattle.lay_shape.specs.declared.cell_key.CellKey.{CellKey}
 use Rattle.lay_shape.specs.Levels.{level_of}
 use Rattle.lay_shape.specs.Shapes.{cells_of, entry_of}

@@ -2,9 +2,9 @@
 -- of its boxes, and where these stand. A cell is known by the node of the context and the phase, which stay while contexts around it
 -- come and go; among the contexts of one document it is known by the number of its context too.
 use Rattle.std.specs.Prelude.{ℕ, ◌≡◌, ◌<◌, List, length}
-use Rattle.lay_layout.specs.doc.declared.node.NodeId.{NodeId}
-use Rattle.lay_layout.specs.box_tree.BoxColumns.{box_at}
-use Rattle.lay_layout.specs.contexts.Contexts.{Context, boxes_in}
+use Rattle.lay_doc.specs.declared.node.NodeId.{NodeId}
+use Rattle.lay_box_tree.specs.BoxColumns.{box_at}
+use Rattle.lay_contexts.specs.Contexts.{Context, boxes_in}
 use Rattle.lay_shape.specs.declared.cell_key.CellKey.{CellKey}
 use Rattle.lay_shape.specs.declared.context_phase.ContextPhase.{ContextPhase}
 

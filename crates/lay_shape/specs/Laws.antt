@@ -1,12 +1,12 @@
 -- What holds of the cells of a document.
 use Rattle.std.specs.Prelude.{ℕ, ◌≡◌, ◌↔◌, ◌<◌, ◌≤◌, List, length, slice_get, Some}
-use Rattle.lay_layout.specs.units.Limits.{most_nodes}
-use Rattle.lay_layout.specs.style.declared.style.Style.{Style}
-use Rattle.lay_layout.specs.doc.Document.{Document, IsDocument}
-use Rattle.lay_layout.specs.cells.Shapes.{IsIn, IsShape}
-use Rattle.lay_layout.specs.context.declared.task.Phase.{Phase}
-use Rattle.lay_layout.specs.contexts.ContextList.{AreContextsOf}
-use Rattle.lay_layout.specs.contexts.Contexts.{AreContexts, Context}
+use Rattle.lay_units.specs.Limits.{most_nodes}
+use Rattle.lay_style.specs.declared.style.Style.{Style}
+use Rattle.lay_doc.specs.Document.{Document, IsDocument}
+use Rattle.lay_cells.specs.Shapes.{IsIn, IsShape}
+use Rattle.lay_context.specs.declared.task.Phase.{Phase}
+use Rattle.lay_contexts.specs.ContextList.{AreContextsOf}
+use Rattle.lay_contexts.specs.Contexts.{AreContexts, Context}
 use Rattle.lay_shape.specs.declared.context_phase.ContextPhase.{ContextPhase}
 use Rattle.lay_shape.specs.Dependencies.{in_phase, needs_in}
 use Rattle.lay_shape.specs.Keys.{AreOfOwnNodes}

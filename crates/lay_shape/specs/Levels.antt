@@ -1,8 +1,8 @@
 -- The level of a context: how many absolutely positioned ones there are from it, itself included, out to the root's. What is positioned
 -- by another context (CSS 2.2, 10.1) has a higher level, so its cells come after those of that one.
 use Rattle.std.specs.Prelude.{ℕ, zero, suc, ◌+◌, List}
-use Rattle.lay_layout.specs.contexts.Contexts.{Context, context_at}
-use Rattle.lay_layout.specs.positioned.Levels.{one_if}
+use Rattle.lay_contexts.specs.Contexts.{Context, context_at}
+use Rattle.lay_positioned.specs.Levels.{one_if}
 use Rattle.lay_shape.specs.Ways.{is_absolute}
 
 -- counted outward in so many turns: no more contexts are around one than stand before it

@@ -1,3 +1,6 @@
+pub mod Touched
+pub mod KeptShapes
+pub mod ShapeLaws
 pub mod Building
 pub mod Dependencies
 pub mod Keys

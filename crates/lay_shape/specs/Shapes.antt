@@ -3,9 +3,9 @@
 -- the last to the first. No level is higher than there are contexts.
 use Rattle.std.specs.Prelude.{ℕ, ◌+◌, ◌==◌, List, ◌++◌, length, map, reverse}
 use Rattle.std.specs.List.{filter, flat_map, range_with_len}
-use Rattle.lay_layout.specs.context.declared.task.Phase.TheVariants.{Measure, Size, Place}
-use Rattle.lay_layout.specs.cells.Shapes.{Entry}
-use Rattle.lay_layout.specs.contexts.Contexts.{Context}
+use Rattle.lay_context.specs.declared.task.Phase.TheVariants.{Measure, Size, Place}
+use Rattle.lay_cells.specs.Shapes.{Entry}
+use Rattle.lay_contexts.specs.Contexts.{Context}
 use Rattle.lay_shape.specs.declared.cell_key.CellKey.{CellKey}
 use Rattle.lay_shape.specs.declared.context_phase.ContextPhase.{ContextPhase}
 use Rattle.lay_shape.specs.Dependencies.{in_phase, needs_of}

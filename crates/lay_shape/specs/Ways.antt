@@ -2,9 +2,9 @@
 -- anchor to the one among whose boxes the nearest holder is, both included, or out to the root's where the viewport is the containing
 -- block. An anonymous table or cell on the way is in one of these contexts.
 use Rattle.std.specs.Prelude.{ℕ, zero, suc, ◌≡◌, ◌<◌, Bool, true, List, [], ◌∷◌, Option, None, Some, if◌then◌else◌}
-use Rattle.lay_layout.specs.contexts.Contexts.{Context, boxes_in, context_at}
-use Rattle.lay_layout.specs.positioned.Absolute.{is_own_absolute, is_own_fixed}
-use Rattle.lay_layout.specs.positioned.Holders.{IsHolderFor, holder_for}
+use Rattle.lay_contexts.specs.Contexts.{Context, boxes_in, context_at}
+use Rattle.lay_positioned.specs.Absolute.{is_own_absolute, is_own_fixed}
+use Rattle.lay_positioned.specs.Holders.{IsHolderFor, holder_for}
 
 -- the context with the number i is that of an absolutely positioned element (9.6), and of a fixed one (9.6.1)
 abbrev pub is_absolute : List Context → ℕ → Bool

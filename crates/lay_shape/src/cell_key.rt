@@ -1,7 +1,7 @@
 //! Keys of cells.
 
-use lay_layout::context::Phase;
-use lay_layout::doc::NodeId;
+use lay_context::Phase;
+use lay_doc::NodeId;
 
 /// The key of a cell: the node of its context, and what the context is to be given.
 #[derive(Clone, Copy, PartialEq, Eq, PartialOrd, Ord)]

@@ -9,9 +9,9 @@ use crate::cell_key::CellKey;
 use crate::context_phase::ContextPhase;
 use crate::needs::{key_of, needs_of};
 use crate::order::cells_of;
-use lay_layout::cells::Shape;
-use lay_layout::contexts::Contexts;
-use lay_layout::units::NoMemory;
+use lay_cells::Shape;
+use lay_contexts::Contexts;
+use lay_units::NoMemory;
 use std::alloc::Global;
 
 /// The cells of these contexts, three for each, with what each depends on.

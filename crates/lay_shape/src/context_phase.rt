@@ -1,6 +1,6 @@
 //! Cells by the numbers of their contexts.
 
-use lay_layout::context::Phase;
+use lay_context::Phase;
 
 /// One phase of the context with this number.
 #[derive(Clone, Copy)]

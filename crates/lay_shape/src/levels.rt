@@ -2,14 +2,14 @@
 
 ghost use Rattle.std.specs.Prelude.{◌≡◌, ◌<◌, ◌≤◌, ◌++◌, ◌∷◌, [], IfOk, OnOk, ℕ, length, map, slice_index, slice_index_or, slice_set};
 ghost use Rattle.std.specs.List.{range_with_len};
-ghost use Rattle.lay_layout.specs.positioned.Levels.{one_if};
+ghost use Rattle.lay_positioned.specs.Levels.{one_if};
 ghost use Rattle.lay_shape.specs.Building.{AreByLevel, levels_of};
 ghost use Rattle.lay_shape.specs.Levels.{level_of};
 
 use crate::numbers::Numbers;
 use crate::ways::is_absolute;
-use lay_layout::contexts::Contexts;
-use lay_layout::units::NoMemory;
+use lay_contexts::Contexts;
+use lay_units::NoMemory;
 use std::alloc::Global;
 
 /// The level of each context: how many absolutely positioned ones there are from it out to the root's.

@@ -3,16 +3,23 @@
 //!
 //! `shape_of` of `specs/Shapes.antt` is the list of them with what each depends on: the table of `specs/Dependencies.antt`, in which an
 //! absolutely positioned context depends on what is on the way out to its containing block (`specs/Ways.antt`).
+//!
+//! - `shape_laws`: laws that tie the dependencies of cells to what the tasks of a layout need.
+//! - `touched`: which cells an edit changes by itself.
+//! - `kept_shapes`: what an edit does to cells where it leaves which contexts there are.
 #![tactic(auto)]
 
 mod cell_key;
 mod cell_shape;
 mod context_phase;
+pub mod kept_shapes;
 mod laws;
 mod levels;
 mod needs;
 mod numbers;
 mod order;
+pub mod shape_laws;
+pub mod touched;
 mod ways;
 
 pub use cell_key::CellKey;

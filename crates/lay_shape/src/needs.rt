@@ -1,17 +1,17 @@
 //! What a cell depends on.
 
 ghost use Rattle.std.specs.Prelude.{◌≡◌, ◌<◌, ◌++◌, ◌∷◌, [], IfOk, OnOk, length, map, slice_index};
-ghost use Rattle.lay_layout.specs.contexts.Contexts.{context_at};
+ghost use Rattle.lay_contexts.specs.Contexts.{context_at};
 ghost use Rattle.lay_shape.specs.Dependencies.{in_phase, inner_flows, is_inner_flow, needs_of, on_way, outer_needs, way_needs};
 ghost use Rattle.lay_shape.specs.Keys.{key_of, node_of};
 
 use crate::cell_key::CellKey;
 use crate::context_phase::ContextPhase;
 use crate::ways::{is_absolute, way_of};
-use lay_layout::context::Phase;
-use lay_layout::contexts::Contexts;
-use lay_layout::doc::NodeId;
-use lay_layout::units::NoMemory;
+use lay_context::Phase;
+use lay_contexts::Contexts;
+use lay_doc::NodeId;
+use lay_units::NoMemory;
 use std::alloc::Global;
 
 /// The node of the context with this number.

@@ -2,7 +2,7 @@
 
 ghost use Rattle.std.specs.Prelude.{◌≡◌, ◌++◌, ◌∷◌, [], OnOk};
 
-use lay_layout::units::NoMemory;
+use lay_units::NoMemory;
 use std::alloc::Global;
 use std::marker::Model;
 

@@ -7,9 +7,9 @@ ghost use Rattle.lay_shape.specs.Shapes.{cells_of};
 
 use crate::context_phase::ContextPhase;
 use crate::levels::by_level;
-use lay_layout::context::Phase;
-use lay_layout::contexts::Contexts;
-use lay_layout::units::NoMemory;
+use lay_context::Phase;
+use lay_contexts::Contexts;
+use lay_units::NoMemory;
 use std::alloc::Global;
 
 /// The cells of these contexts, in order.

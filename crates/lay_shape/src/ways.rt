@@ -2,14 +2,14 @@
 
 ghost use Rattle.std.specs.Prelude.{◌≡◌, ◌<◌, ◌++◌, IfOk, OnOk, length};
 ghost use Rattle.std.specs.List.{All};
-ghost use Rattle.lay_layout.specs.contexts.Contexts.{boxes_in};
-ghost use Rattle.lay_layout.specs.positioned.Holders.{holder_for};
+ghost use Rattle.lay_contexts.specs.Contexts.{boxes_in};
+ghost use Rattle.lay_positioned.specs.Holders.{holder_for};
 ghost use Rattle.lay_shape.specs.Building.{is_inner_absolute, leads_on};
 ghost use Rattle.lay_shape.specs.Ways.{is_absolute, way_from, way_of};
 
-use lay_layout::contexts::Contexts;
-use lay_layout::positioned::{holder_for, is_own_absolute, is_own_fixed};
-use lay_layout::units::NoMemory;
+use lay_contexts::Contexts;
+use lay_positioned::{holder_for, is_own_absolute, is_own_fixed};
+use lay_units::NoMemory;
 use std::alloc::Global;
 
 /// Whether the context with this number is that of an absolutely positioned element (CSS 2.2, 9.6).

@@ -5,7 +5,7 @@ use Rattle.std.proofs.Math.Seq.{take-length}
 use Rattle.std.proofs.lemmas.Bool.Decides.{nat_tests}
 use Rattle.std.proofs.lemmas.List.Sums.{count_by-le-length, count_by_more_no, count_by_more_yes, sum_by-cons}
 use Rattle.lay_box_tree.specs.declared.box_tree.BoxNode.{BoxNode}
-use Rattle.lay_table_borders.specs.declared.rows.TableRow.{TableRow}
+use Rattle.lay_table_grid.specs.declared.rows.TableRow.{TableRow}
 use Rattle.lay_table.specs.declared.groups.OuterGroups.{OuterGroups}
 use Rattle.lay_table.specs.GroupCounts.{AreBodyRows, AreGroupCounts, AreRowsWithin, GroupCounts, is_body_row_at, sum_before}
 use Rattle.lay_table.specs.Groups.{is_at, is_body_row, is_body_row_before, is_drawn_before, is_header_row, is_row_in, outer_groups, rows_before}

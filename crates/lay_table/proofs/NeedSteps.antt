@@ -20,8 +20,8 @@ use Rattle.lay_sizes.specs.declared.sizing.BoxSizes.{BoxSizes}
 use Rattle.lay_sizes.specs.OwnBoxes.{IsBaseline, OwnBoxFits}
 use Rattle.lay_sizes.specs.SizeBounds.{IsUsedSizeOrAuto, SizeFits}
 use Rattle.lay_sizes.specs.UsedLengths.{or_zero}
-use Rattle.lay_table_borders.specs.declared.grid.TableCell.{TableCell}
-use Rattle.lay_table_borders.specs.GridBounds.{CellFits}
+use Rattle.lay_table_grid.specs.declared.grid.TableCell.{TableCell}
+use Rattle.lay_table_grid.specs.GridBounds.{CellFits}
 use Rattle.lay_table.specs.declared.cell_align.CellAlign.{CellAlign}
 use Rattle.lay_table.specs.declared.cell_align.CellAlign.TheVariants.{Baseline, Top, Middle, Bottom}
 use Rattle.lay_table.specs.NeedBounds.{MayBeBaseline, NeedFits, NeedsFit}

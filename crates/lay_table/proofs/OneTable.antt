@@ -1,7 +1,7 @@
 -- A table has one placement: each of its workings has one value beside the ones before it.
 use Rattle.std.proofs.Common.{◌≡◌, sym, ap, ◌∙◌, subst}
-use Rattle.lay_blocks.proofs.OneContextFlow.{one_flow_of_lem}
-use Rattle.lay_blocks.specs.FlowPlaces.{IsFlowOf}
+use Rattle.lay_flow.proofs.BlocksLemmas.OneContextFlow.{one_flow_of_lem}
+use Rattle.lay_flow.specs.Blocks.FlowPlaces.{IsFlowOf}
 use Rattle.lay_table.specs.TableInputs.{TableInput}
 use Rattle.lay_table.specs.TableRows.{TableRows}
 use Rattle.lay_table.proofs.OneTableRows.{one_table_rows_lem}

@@ -3,7 +3,7 @@ use Rattle.std.proofs.Common.{◌≡◌, ℕ, false, [], ◌∷◌, refl}
 use Rattle.lay_box_tree.specs.ContextBoxes.{is_inner}
 use Rattle.lay_sizes.specs.BoxSizes.{border_width}
 use Rattle.lay_sizes.specs.SizeColumns.{sizes_at}
-use Rattle.lay_table_borders.specs.TableBoxes.{kind_at}
+use Rattle.lay_table_grid.specs.TableBoxes.{kind_at}
 use Rattle.lay_table.specs.TableInputs.{TableInput}
 use Rattle.lay_table.specs.declared.pieces.Extent.TheVariants.{Own, Rows}
 use Rattle.lay_table.specs.TablePieces.{extent_by_kind, piece_of, pieces_of_box, rows_width}

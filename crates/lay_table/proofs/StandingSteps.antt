@@ -3,8 +3,8 @@ use Rattle.std.proofs.Common.{◌≡◌, ℕ, zero, suc, ◌+◌, ◌<◌, ◌==
 use Rattle.std.proofs.Math.ListN.{get_or-append}
 use Rattle.std.proofs.Math.Seq.{get_or-append_seam}
 use Rattle.std.proofs.lemmas.Bool.{cases_lt}
-use Rattle.lay_pieces.specs.declared.standing.Standing.{Standing}
-use Rattle.lay_pieces.specs.Standings.{no_standing, standing_at}
+use Rattle.lay_placements.specs.declared.standing.Standing.{Standing}
+use Rattle.lay_placements.specs.Standings.{no_standing, standing_at}
 use Rattle.lay_table.specs.TableInputs.{TableInput}
 use Rattle.lay_table.proofs.ColumnEntries.{same_list}
 use Rattle.lay_table.specs.PlaceBounds.{AreStandings}

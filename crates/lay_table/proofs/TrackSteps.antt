@@ -6,7 +6,7 @@ use Rattle.std.proofs.lemmas.Bool.{cases_lt}
 use Rattle.lay_units.specs.declared.length.Unit.{Unit as Length}
 use Rattle.lay_units.specs.Units.{IsNear}
 use Rattle.lay_units.specs.Lengths.{no_length}
-use Rattle.lay_blocks.specs.Lengths.{length_at}
+use Rattle.lay_flow.specs.Blocks.Lengths.{length_at}
 use Rattle.lay_table.specs.Tracks.{Tracks, start_of}
 use Rattle.lay_table.specs.TrackStarts.{AreStarts}
 

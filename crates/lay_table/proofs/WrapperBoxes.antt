@@ -8,12 +8,12 @@ use Rattle.lay_units.specs.declared.length.Unit.{Unit as Length}
 use Rattle.lay_units.specs.declared.records.Len.{Len}
 use Rattle.lay_units.specs.declared.records.Len.TheVariants as len
 use Rattle.lay_doc.specs.Tree.{IsTree}
-use Rattle.lay_blocks.specs.declared.flow_box.FlowBox.{FlowBox}
-use Rattle.lay_blocks.specs.BlockPositions.{given_or_auto}
-use Rattle.lay_blocks.specs.Boxes.{box_at, no_box, parent_at, parents_of}
-use Rattle.lay_blocks.specs.FlowBoxes.{AreFlowBoxes, IsFlowTree, KindFits, is_in_lines, may_hold}
-use Rattle.lay_blocks.specs.Weights.{weight}
-use Rattle.lay_blocks.proofs.BoxTrees.{parent_is, parents_length}
+use Rattle.lay_flow.specs.declared.blocks.flow_box.FlowBox.{FlowBox}
+use Rattle.lay_flow.specs.Blocks.BlockPositions.{given_or_auto}
+use Rattle.lay_flow.specs.Blocks.Boxes.{box_at, no_box, parent_at, parents_of}
+use Rattle.lay_flow.specs.Blocks.FlowBoxes.{AreFlowBoxes, IsFlowTree, KindFits, is_in_lines, may_hold}
+use Rattle.lay_flow.specs.Blocks.Weights.{weight}
+use Rattle.lay_flow.proofs.BlocksLemmas.BoxTrees.{parent_is, parents_length}
 use Rattle.lay_sizes.specs.declared.own_boxes.OwnBox.{OwnBox}
 use Rattle.lay_sizes.specs.declared.sizing.BoxSizes.{BoxSizes}
 use Rattle.lay_sizes.specs.OwnBoxes.{OwnBoxFits, own_box_at}

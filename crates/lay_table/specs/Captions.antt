@@ -7,7 +7,7 @@ use Rattle.lay_style.specs.ComputedStyle.{style_at}
 use Rattle.lay_box_tree.specs.declared.box_tree.BoxNode.{BoxNode}
 use Rattle.lay_box_tree.specs.BoxColumns.{box_styles}
 use Rattle.lay_box_tree.specs.Kinds.{is_caption}
-use Rattle.lay_table_borders.specs.TableBoxes.{kind_at}
+use Rattle.lay_table_grid.specs.TableBoxes.{kind_at}
 
 abbrev pub is_side : CaptionSide → CaptionSide → Bool
 is_side side.Top side.Top = true

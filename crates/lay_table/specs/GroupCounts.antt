@@ -2,7 +2,7 @@
 use Rattle.std.specs.Prelude.{ℕ, zero, suc, ◌≡◌, ◌<◌, ◌+◌, ◌==◌, ◌&&◌, Bool, List, length, slice_index, take}
 use Rattle.std.specs.List.{count_by}
 use Rattle.lay_box_tree.specs.declared.box_tree.BoxNode.{BoxNode}
-use Rattle.lay_table_borders.specs.declared.rows.TableRow.{TableRow}
+use Rattle.lay_table_grid.specs.declared.rows.TableRow.{TableRow}
 use Rattle.lay_table.specs.declared.groups.OuterGroups.{OuterGroups}
 use Rattle.lay_table.specs.Groups.{is_body_row, is_body_row_before, is_header_row, is_row_in, outer_groups, rows_within}
 

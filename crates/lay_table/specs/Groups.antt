@@ -7,8 +7,8 @@
 use Rattle.std.specs.Prelude.{ℕ, ◌==◌, ◌&&◌, ◌||◌, nat_lt, not, Bool, false, List, Option, Some, None, if◌then◌else◌}
 use Rattle.std.specs.List.{count_by}
 use Rattle.lay_box_tree.specs.declared.box_tree.BoxNode.{BoxNode}
-use Rattle.lay_table_borders.specs.declared.rows.TableRow.{TableRow}
-use Rattle.lay_table_borders.specs.TableBoxes.{footer_place, header_place}
+use Rattle.lay_table_grid.specs.declared.rows.TableRow.{TableRow}
+use Rattle.lay_table_grid.specs.TableBoxes.{footer_place, header_place}
 use Rattle.lay_table.specs.declared.groups.OuterGroups.{OuterGroups}
 
 -- the header group and the footer group, if there are any

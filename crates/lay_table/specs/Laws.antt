@@ -1,6 +1,6 @@
 -- A table has one placement.
 use Rattle.std.specs.Prelude.{◌≡◌}
-use Rattle.lay_pieces.specs.Placements.{Placement}
+use Rattle.lay_placements.specs.Placements.{Placement}
 use Rattle.lay_table.specs.TableInputs.{TableInput}
 use Rattle.lay_table.specs.TablePlacements.{IsTablePlacement}
 

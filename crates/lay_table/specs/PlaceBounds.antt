@@ -1,10 +1,10 @@
 -- Within which bounds the workings are, and how long their columns are.
 use Rattle.std.specs.Prelude.{ℕ, ◌≡◌, ◌<◌, List, length, All}
-use Rattle.lay_blocks.specs.declared.flow_box.FlowBox.{FlowBox}
-use Rattle.lay_blocks.specs.FlowBoxes.{KindFits}
-use Rattle.lay_pieces.specs.declared.standing.Standing.{Standing}
-use Rattle.lay_pieces.specs.Corners.{IsCornerNear}
-use Rattle.lay_pieces.specs.Standings.{AreNearStandings, standing_at}
+use Rattle.lay_flow.specs.declared.blocks.flow_box.FlowBox.{FlowBox}
+use Rattle.lay_flow.specs.Blocks.FlowBoxes.{KindFits}
+use Rattle.lay_placements.specs.declared.standing.Standing.{Standing}
+use Rattle.lay_placements.specs.Corners.{IsCornerNear}
+use Rattle.lay_placements.specs.Standings.{AreNearStandings, standing_at}
 use Rattle.lay_table.specs.RowBounds.{RowsFitTable}
 use Rattle.lay_table.specs.TableInputs.{TableInput, grid_of}
 use Rattle.lay_table.specs.TableStandings.{TablePlaces, standing_of}

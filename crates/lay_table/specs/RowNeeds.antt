@@ -21,9 +21,9 @@ use Rattle.lay_sizes.specs.declared.sizing.BoxSizes.{BoxSizes}
 use Rattle.lay_sizes.specs.OwnBoxes.{own_box_at}
 use Rattle.lay_sizes.specs.SizeColumns.{no_edges, sizes_at}
 use Rattle.lay_sizes.specs.UsedLengths.{or_zero, used_height}
-use Rattle.lay_table_borders.specs.declared.rows.TableRow.{TableRow}
-use Rattle.lay_table_borders.specs.declared.grid.TableCell.{TableCell}
-use Rattle.lay_table_borders.specs.TableGrid.{TableGridValue}
+use Rattle.lay_table_grid.specs.declared.rows.TableRow.{TableRow}
+use Rattle.lay_table_grid.specs.declared.grid.TableCell.{TableCell}
+use Rattle.lay_table_grid.specs.TableGrid.{TableGridValue}
 use Rattle.lay_table.specs.declared.cell_align.CellAlign.{CellAlign}
 use Rattle.lay_table.specs.declared.cell_align.CellAlign.TheVariants.{Baseline, Top, Middle, Bottom}
 use Rattle.lay_table.specs.CellAligns.{cell_align}

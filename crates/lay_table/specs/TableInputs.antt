@@ -9,8 +9,8 @@ use Rattle.lay_sizes.specs.declared.sizing.BoxSizes.{BoxSizes}
 use Rattle.lay_sizes.specs.OwnBoxes.{OwnBoxesFit}
 use Rattle.lay_sizes.specs.SizeColumns.{HaveSizeBounds}
 use Rattle.lay_box_tree.specs.ContextBoxes.{AreContextBoxes}
-use Rattle.lay_table_borders.specs.GridBounds.{PlacesAreBelow}
-use Rattle.lay_table_borders.specs.TableGrid.{TableGridValue}
+use Rattle.lay_table_grid.specs.GridBounds.{PlacesAreBelow}
+use Rattle.lay_table_grid.specs.TableGrid.{TableGridValue}
 use Rattle.lay_table_sizes.specs.TableSizesValue.{TableSizesValue}
 
 pub record TableInput : Type 0 where

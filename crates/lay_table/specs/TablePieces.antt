@@ -10,15 +10,15 @@ use Rattle.lay_box_tree.specs.BoxColumns.{box_ids}
 use Rattle.lay_box_tree.specs.ContextBoxes.{is_inner}
 use Rattle.lay_frag.specs.declared.frag.Frag.{Frag}
 use Rattle.lay_frag.specs.declared.frag.FragKind.TheVariants.{Box}
-use Rattle.lay_pieces.specs.declared.standing.Standing.{Standing}
-use Rattle.lay_pieces.specs.InnerPieces.{inner_pieces_at}
-use Rattle.lay_pieces.specs.PieceParts.{with_pieces}
-use Rattle.lay_pieces.specs.Splicing.{border_box, spliced}
+use Rattle.lay_placements.specs.declared.standing.Standing.{Standing}
+use Rattle.lay_placements.specs.InnerPieces.{inner_pieces_at}
+use Rattle.lay_placements.specs.PieceParts.{with_pieces}
+use Rattle.lay_placements.specs.Splicing.{border_box, spliced}
 use Rattle.lay_sizes.specs.BoxSizes.{border_width}
 use Rattle.lay_sizes.specs.OwnBoxes.{own_box_at}
 use Rattle.lay_sizes.specs.declared.own_boxes.OwnBox.{OwnBox}
 use Rattle.lay_sizes.specs.SizeColumns.{sizes_at}
-use Rattle.lay_table_borders.specs.TableBoxes.{kind_at}
+use Rattle.lay_table_grid.specs.TableBoxes.{kind_at}
 use Rattle.lay_table_sizes.specs.TableSizesValue.{cell_at}
 use Rattle.lay_table_sizes.specs.declared.cell_size.CellSize.{CellSize}
 use Rattle.lay_table.specs.RowNeeds.{table_sizes}

@@ -2,9 +2,9 @@
 -- its boxes stand. "The baseline of an 'inline-table' is the baseline of the first row of the table."
 use Rattle.std.specs.Prelude.{ℕ, zero, suc, ◌≡◌, ◌+ℤ◌, List, [], ◌∷◌, ◌++◌, length, Option, Some, None}
 use Rattle.lay_units.specs.declared.length.Unit.{Unit as Length}
-use Rattle.lay_blocks.specs.FlowPlaces.{box_place_at}
-use Rattle.lay_pieces.specs.declared.standing.Standing.{Standing}
-use Rattle.lay_pieces.specs.Placements.{Placement}
+use Rattle.lay_flow.specs.Blocks.FlowPlaces.{box_place_at}
+use Rattle.lay_placements.specs.declared.standing.Standing.{Standing}
+use Rattle.lay_placements.specs.Placements.{Placement}
 use Rattle.lay_sizes.specs.OwnBoxes.{own_box}
 use Rattle.lay_sizes.specs.SizeColumns.{sizes_at}
 use Rattle.lay_table.specs.TableInputs.{TableInput}

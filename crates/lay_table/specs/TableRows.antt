@@ -6,7 +6,7 @@ use Rattle.std.specs.Option.{option_or, unwrap_or}
 use Rattle.lay_units.specs.Units.{clamp_size_of, half_of}
 use Rattle.lay_units.specs.declared.length.Unit.{Unit as Length}
 use Rattle.lay_units.specs.Lengths.{no_length}
-use Rattle.lay_blocks.specs.Lengths.{length_at}
+use Rattle.lay_flow.specs.Blocks.Lengths.{length_at}
 use Rattle.lay_grid.specs.declared.heights.RowCell.{RowCell}
 use Rattle.lay_grid.specs.declared.heights.RowsIn.{RowsIn}
 use Rattle.lay_grid.specs.Heights.{AreHeights}

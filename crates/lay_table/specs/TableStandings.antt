@@ -9,14 +9,14 @@
 use Rattle.std.specs.Prelude.{ℕ, zero, suc, ◌≡◌, ◌+ℤ◌, ◌==◌, ℤ, List, length, map, slice_index, Option, Some, None, if◌then◌else◌}
 use Rattle.lay_units.specs.declared.length.Unit.{Unit as Length}
 use Rattle.lay_units.specs.Lengths.{no_length}
-use Rattle.lay_blocks.specs.declared.flow_places.BoxPlace.{BoxPlace}
-use Rattle.lay_blocks.specs.FlowPlaces.{FlowPlacesValue, IsFlowOf, box_place_at}
-use Rattle.lay_blocks.specs.Lengths.{length_at}
-use Rattle.lay_pieces.specs.declared.corner.Corner.{Corner}
-use Rattle.lay_pieces.specs.declared.standing.Standing.{Standing}
-use Rattle.lay_pieces.specs.Standings.{no_standing}
-use Rattle.lay_table_borders.specs.TableBoxes.{is_row_group, kind_at}
-use Rattle.lay_table_borders.specs.TableGrid.{TableGridValue}
+use Rattle.lay_flow.specs.declared.blocks.flow_places.BoxPlace.{BoxPlace}
+use Rattle.lay_flow.specs.Blocks.FlowPlaces.{FlowPlacesValue, IsFlowOf, box_place_at}
+use Rattle.lay_flow.specs.Blocks.Lengths.{length_at}
+use Rattle.lay_placements.specs.declared.corner.Corner.{Corner}
+use Rattle.lay_placements.specs.declared.standing.Standing.{Standing}
+use Rattle.lay_placements.specs.Standings.{no_standing}
+use Rattle.lay_table_grid.specs.TableBoxes.{is_row_group, kind_at}
+use Rattle.lay_table_grid.specs.TableGrid.{TableGridValue}
 use Rattle.lay_table.specs.RowNeeds.{cell_of, table_sizes}
 use Rattle.lay_table.specs.TableInputs.{TableInput, grid_of}
 use Rattle.lay_table.specs.TableRows.{HasRows, TableRows, cell_height, shift_of}

@@ -6,8 +6,8 @@ use Rattle.std.specs.Prelude.{ℕ, ◌+ℤ◌, List, ◌∷◌, ◌++◌, map, N
 use Rattle.lay_units.specs.declared.length.Unit.{Unit as Length}
 use Rattle.lay_units.specs.Lengths.{no_length}
 use Rattle.lay_floats.specs.declared.requests.Clear.TheVariants.{None as clear_none}
-use Rattle.lay_blocks.specs.declared.flow_box.FlowBox.{FlowBox}
-use Rattle.lay_blocks.specs.declared.flow_box.FlowKind.TheVariants.{Block as block, Solid as solid}
+use Rattle.lay_flow.specs.declared.blocks.flow_box.FlowBox.{FlowBox}
+use Rattle.lay_flow.specs.declared.blocks.flow_box.FlowKind.TheVariants.{Block as block, Solid as solid}
 use Rattle.lay_sizes.specs.declared.own_boxes.OwnBox.{OwnBox}
 use Rattle.lay_sizes.specs.declared.sizing.BoxSizes.{BoxSizes}
 use Rattle.lay_sizes.specs.OwnBoxes.{own_box, own_box_at}

@@ -6,7 +6,7 @@ ghost use Rattle.lay_table.specs.GroupCounts.{AreBodyRows, AreGroupCounts, AreRo
 ghost use Rattle.lay_table.specs.Groups.{is_at, is_body_row, is_header_row, outer_groups, rows_before, rows_within};
 
 use lay_box_tree::BoxNode;
-use lay_table_borders::{TableRow, footer_place, header_place};
+use lay_table_grid::{TableRow, footer_place, header_place};
 use lay_units::NoMemory;
 use std::alloc::Global;
 use std::marker::Model;

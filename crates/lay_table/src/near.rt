@@ -3,7 +3,7 @@
 ghost use Rattle.std.specs.Prelude.{◌≡◌, ◌+ℤ◌, ◌-ℤ◌, ◌*ℤ◌, pos, IfOk};
 ghost use Rattle.lay_units.specs.Units.{IsNear};
 
-use lay_pieces::near_position;
+use lay_placements::near_position;
 use lay_units::{NoMemory, Unit};
 
 /// The sum of two lengths, in 1/64 px. NoMemory is the answer where it is more than 2^60 units from 0.

@@ -2,12 +2,12 @@
 
 ghost use Rattle.std.specs.Prelude.{◌≡◌, ◌<◌, ◌≤◌, length, IfOk, OnOk};
 ghost use Rattle.lay_box_tree.specs.ContextBoxes.{is_inner};
-ghost use Rattle.lay_pieces.specs.NearPieces.{AreNearPieces};
-ghost use Rattle.lay_pieces.specs.PieceParts.{with_pieces};
-ghost use Rattle.lay_pieces.specs.Standings.{IsStandingNear};
+ghost use Rattle.lay_placements.specs.NearPieces.{AreNearPieces};
+ghost use Rattle.lay_placements.specs.PieceParts.{with_pieces};
+ghost use Rattle.lay_placements.specs.Standings.{IsStandingNear};
 ghost use Rattle.lay_sizes.specs.BoxSizes.{border_width};
 ghost use Rattle.lay_sizes.specs.SizeColumns.{sizes_at};
-ghost use Rattle.lay_table_borders.specs.TableBoxes.{kind_at};
+ghost use Rattle.lay_table_grid.specs.TableBoxes.{kind_at};
 ghost use Rattle.lay_table.specs.PlaceBounds.{AreStandings};
 ghost use Rattle.lay_table.specs.TablePieces.{extent_by_kind, inner_width, piece_of, pieces_of_box, pieces_to, rows_width};
 ghost use Rattle.lay_table.specs.TableStandings.{standing_of};
@@ -18,7 +18,7 @@ use crate::table_input::TableInput;
 use lay_box_tree::BoxKind;
 use lay_doc::NodeId;
 use lay_frag::{Frag, FragKind};
-use lay_pieces::{PieceList, Standing};
+use lay_placements::{PieceList, Standing};
 use lay_sizes::border_width;
 use lay_units::{NoMemory, Rect, Unit};
 use std::alloc::Global;

@@ -1,8 +1,8 @@
 //! Where the parts of a table stand: the workings.
 
 ghost use Rattle.std.specs.Prelude.{◌≡◌, ◌<◌, length, IfOk};
-ghost use Rattle.lay_blocks.specs.FlowPlaces.{IsNearPlace, box_place_at};
-ghost use Rattle.lay_pieces.specs.Corners.{IsCornerNear};
+ghost use Rattle.lay_flow.specs.Blocks.FlowPlaces.{IsNearPlace, box_place_at};
+ghost use Rattle.lay_placements.specs.Corners.{IsCornerNear};
 ghost use Rattle.lay_table.specs.Captions.{ArePlaces, captions_of};
 ghost use Rattle.lay_table.specs.PlaceBounds.{PlacesFit};
 ghost use Rattle.lay_table.specs.WrapperFlow.{places_in_wrapper};
@@ -15,9 +15,9 @@ use crate::row_heights::{TableRows, table_rows};
 use crate::table_input::TableInput;
 use crate::tracks::Tracks;
 use crate::wrapper_flow::wrapper_flow;
-use lay_blocks::{BoxPlace, FlowPlaces};
-use lay_pieces::Corner;
-use lay_table_borders::TableGrid;
+use lay_flow::blocks::{BoxPlace, FlowPlaces};
+use lay_placements::Corner;
+use lay_table_grid::TableGrid;
 use lay_units::{NoMemory, Unit};
 use std::alloc::Global;
 use std::marker::Model;

@@ -1,7 +1,7 @@
 //! The placement of a table.
 
 ghost use Rattle.std.specs.Prelude.{◌≡◌, IfOk, IfSome};
-ghost use Rattle.lay_blocks.specs.FlowPlaces.{box_place_at};
+ghost use Rattle.lay_flow.specs.Blocks.FlowPlaces.{box_place_at};
 ghost use Rattle.lay_sizes.specs.OwnBoxes.{IsBaseline, OwnBoxFits, own_box};
 ghost use Rattle.lay_sizes.specs.SizeColumns.{sizes_at};
 ghost use Rattle.lay_table.specs.PlaceBounds.{PlacesFit};
@@ -16,7 +16,7 @@ use crate::standings::standings_of;
 use crate::table_input::TableInput;
 use crate::wrapper_flow::wrapper_sizes;
 use lay_frag::Pieces;
-use lay_pieces::Placement;
+use lay_placements::Placement;
 use lay_sizes::{OwnBox, own_box};
 use lay_units::{NoMemory, Unit};
 use std::alloc::Global;

@@ -21,7 +21,7 @@ use lay_grid::{RowCell, RowCells, RowsIn};
 use lay_heights::with_min_max;
 use lay_sizes::{BoxSizes, OwnBox};
 use lay_style::{LengthPercentageOrAuto, Style};
-use lay_table_borders::{TableCell, TableGrid};
+use lay_table_grid::{TableCell, TableGrid};
 use lay_units::{Len, NoMemory, Unit, UnitList, clamp_size, sum_of};
 use std::alloc::Global;
 

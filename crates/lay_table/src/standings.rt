@@ -2,10 +2,10 @@
 
 ghost use Rattle.std.specs.Prelude.{ℕ, ◌≡◌, ◌<◌, ◌==◌, length, slice_index, IfOk, OnOk, if◌then◌else◌};
 ghost use Rattle.lay_units.specs.Units.{IsNear};
-ghost use Rattle.lay_blocks.specs.FlowPlaces.{IsNearPlace, box_place_at};
-ghost use Rattle.lay_pieces.specs.Corners.{IsCornerNear};
-ghost use Rattle.lay_pieces.specs.Standings.{AreNearStandings, IsStandingNear, standing_at};
-ghost use Rattle.lay_table_borders.specs.TableBoxes.{is_row_group};
+ghost use Rattle.lay_flow.specs.Blocks.FlowPlaces.{IsNearPlace, box_place_at};
+ghost use Rattle.lay_placements.specs.Corners.{IsCornerNear};
+ghost use Rattle.lay_placements.specs.Standings.{AreNearStandings, IsStandingNear, standing_at};
+ghost use Rattle.lay_table_grid.specs.TableBoxes.{is_row_group};
 ghost use Rattle.lay_table.specs.Captions.{ArePlaces, captions_of};
 ghost use Rattle.lay_table.specs.GroupCounts.{AreGroupCounts};
 ghost use Rattle.lay_table.specs.PlaceBounds.{AreStandings, PlacesFit};
@@ -22,9 +22,9 @@ use crate::row_heights::cell_height;
 use crate::shifts::shift_of;
 use crate::table_input::TableInput;
 use crate::tracks::Tracks;
-use lay_blocks::BoxPlace;
 use lay_box_tree::BoxKind;
-use lay_pieces::{Corner, Standing, near_position};
+use lay_flow::blocks::BoxPlace;
+use lay_placements::{Corner, Standing, near_position};
 use lay_units::{NoMemory, Unit};
 use std::alloc::Global;
 

@@ -1,15 +1,15 @@
 //! What the placement of a table is given.
 
 ghost use Rattle.std.specs.Prelude.{◌≡◌};
-ghost use Rattle.lay_pieces.specs.InnerPieces.{inner_pieces_at};
-ghost use Rattle.lay_pieces.specs.NearPieces.{AreNearPieces};
+ghost use Rattle.lay_placements.specs.InnerPieces.{inner_pieces_at};
+ghost use Rattle.lay_placements.specs.NearPieces.{AreNearPieces};
 ghost use Rattle.lay_table.specs.TableInputs.{TableInputFits};
 
 use lay_box_tree::{BoxNode, ContextBoxes};
 use lay_frag::Frag;
-use lay_pieces::{ContextSizes, InnerPieces, OwnBoxes};
+use lay_placements::{ContextSizes, InnerPieces, OwnBoxes};
 use lay_sizes::{BoxSizes, OwnBox};
-use lay_table_borders::TableGrid;
+use lay_table_grid::TableGrid;
 use lay_table_sizes::TableSizes;
 use std::marker::Model;
 

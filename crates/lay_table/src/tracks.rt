@@ -2,7 +2,7 @@
 
 ghost use Rattle.std.specs.Prelude.{◌≡◌, ◌+◌, ◌≤◌, ◌<◌, length, IfOk};
 ghost use Rattle.lay_units.specs.Units.{IsNear};
-ghost use Rattle.lay_blocks.specs.Lengths.{length_at};
+ghost use Rattle.lay_flow.specs.Blocks.Lengths.{length_at};
 ghost use Rattle.lay_table.specs.Tracks.{end_of, extent_of, start_of};
 ghost use Rattle.lay_table.specs.TrackStarts.{AreStarts};
 

@@ -1,8 +1,8 @@
 //! The wrapper of a table as a block formatting context (CSS 2.2, 17.4).
 
 ghost use Rattle.std.specs.Prelude.{◌≡◌, ◌<◌, ◌++◌, length, IfOk, OnOk};
-ghost use Rattle.lay_blocks.specs.FlowBoxes.{KindFits};
-ghost use Rattle.lay_blocks.specs.FlowPlaces.{IsFlowOf};
+ghost use Rattle.lay_flow.specs.Blocks.FlowBoxes.{KindFits};
+ghost use Rattle.lay_flow.specs.Blocks.FlowPlaces.{IsFlowOf};
 ghost use Rattle.lay_sizes.specs.OwnBoxes.{OwnBoxFits};
 ghost use Rattle.lay_sizes.specs.SizeBounds.{IsInset, SizeFits};
 ghost use Rattle.lay_sizes.specs.SizeColumns.{sizes_at};
@@ -17,11 +17,11 @@ use crate::row_heights::table_content;
 use crate::row_needs::border_height;
 use crate::table_input::TableInput;
 use crate::tracks::Tracks;
-use lay_blocks::{
+use lay_floats::Clear;
+use lay_flow::blocks::{
     Across, BlockBox, FlowBox, FlowBoxes, FlowKind, FlowPlaces, HeightRule, SolidBox, Vertical,
     is_light,
 };
-use lay_floats::Clear;
 use lay_flow::flow;
 use lay_sizes::{BoxSizes, OwnBox, own_box};
 use lay_units::{NoMemory, Unit, sum_of};

@@ -4,9 +4,9 @@ use Rattle.std.proofs.lemmas.Int.{by_lt_z}
 use Rattle.lay_units.specs.declared.length.Unit.{Unit as Length}
 use Rattle.lay_box_tree.specs.declared.box_tree.BoxNode.{BoxNode}
 use Rattle.lay_measure.specs.declared.preferred_widths.PreferredWidths.{PreferredWidths}
-use Rattle.lay_auto_columns.specs.AutoColumns.{AreAutoColumns, sum_max}
-use Rattle.lay_auto_columns.specs.declared.bounds.Bound.{Bound}
-use Rattle.lay_table_borders.specs.TableGrid.{TableGridValue}
+use Rattle.lay_grid.specs.Automatic.AutoColumns.{AreAutoColumns, sum_max}
+use Rattle.lay_grid.specs.declared.automatic.bounds.Bound.{Bound}
+use Rattle.lay_table_grid.specs.TableGrid.{TableGridValue}
 use Rattle.lay_table_sizes.specs.ColumnBounds.{greatest_content, least_content}
 use Rattle.lay_table_sizes.proofs.AutoWidths.{auto_tables_have_room_lem}
 use Rattle.lay_table_sizes.specs.CaptionWidths.{captions_from, with_box}

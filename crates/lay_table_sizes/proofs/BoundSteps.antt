@@ -13,12 +13,12 @@ use Rattle.lay_box_tree.specs.declared.box_tree.BoxKind.{BoxKind}
 use Rattle.lay_box_tree.specs.declared.box_tree.BoxKind.TheVariants as kind
 use Rattle.lay_box_tree.specs.declared.box_tree.BoxNode.{BoxNode}
 use Rattle.lay_measure.specs.declared.preferred_widths.PreferredWidths.{PreferredWidths}
-use Rattle.lay_auto_columns.specs.Fit.{BoundsFit, CellFits, SpanFits}
-use Rattle.lay_auto_columns.specs.Sizes.{MayBeSize}
-use Rattle.lay_auto_columns.specs.declared.bounds.GroupSpan.{GroupSpan}
-use Rattle.lay_table_borders.specs.GridBounds.{TableGridFits}
-use Rattle.lay_table_borders.specs.MeetingBorders.{around_column}
-use Rattle.lay_table_borders.specs.TableGrid.{TableGridValue}
+use Rattle.lay_grid.specs.Automatic.Fit.{BoundsFit, CellFits, SpanFits}
+use Rattle.lay_grid.specs.Automatic.Sizes.{MayBeSize}
+use Rattle.lay_grid.specs.declared.automatic.bounds.GroupSpan.{GroupSpan}
+use Rattle.lay_table_grid.specs.GridBounds.{TableGridFits}
+use Rattle.lay_table_grid.specs.MeetingBorders.{around_column}
+use Rattle.lay_table_grid.specs.TableGrid.{TableGridValue}
 use Rattle.lay_table_sizes.specs.CellBounds.{span_cells}
 use Rattle.lay_table_sizes.specs.ColumnBounds.{bounds_in}
 use Rattle.lay_table_sizes.specs.GivenWidths.{column_width_by, column_width_of, column_widths, group_width_by, group_width_of, length_or_none, width_at_place}

@@ -4,7 +4,7 @@ use Rattle.std.proofs.lemmas.Bool.{eqb-true}
 use Rattle.lay_units.specs.declared.length.Unit.{Unit as Length}
 use Rattle.lay_box_tree.specs.declared.box_tree.BoxNode.{BoxNode}
 use Rattle.lay_measure.specs.declared.preferred_widths.PreferredWidths.{PreferredWidths}
-use Rattle.lay_table_borders.specs.declared.grid.TableCell.{TableCell}
+use Rattle.lay_table_grid.specs.declared.grid.TableCell.{TableCell}
 use Rattle.lay_table_sizes.specs.CellSizes.{cell_size, cell_size_at}
 use Rattle.lay_table_sizes.specs.PreferredWidths.{cell_widths, content_widths, wider, widths_at}
 use Rattle.lay_table_sizes.specs.declared.cell_size.CellSize.{CellSize}

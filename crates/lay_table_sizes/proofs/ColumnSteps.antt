@@ -8,7 +8,7 @@ use Rattle.lay_box_tree.specs.declared.box_tree.BoxNode.{BoxNode}
 use Rattle.lay_measure.specs.declared.preferred_widths.PreferredWidths.{PreferredWidths}
 use Rattle.lay_grid.specs.Columns.{AreColumns, AreOwn}
 use Rattle.lay_grid.specs.Shares.{own_at}
-use Rattle.lay_table_borders.specs.TableGrid.{TableGridValue}
+use Rattle.lay_table_grid.specs.TableGrid.{TableGridValue}
 use Rattle.lay_table_sizes.specs.ColumnWidths.{columns_in, element_widths, left_for_columns, width_by_place}
 use Rattle.lay_table_sizes.specs.PreferredWidths.{AreColumnWidths, content_widths, own_or, widths_at}
 

@@ -25,10 +25,10 @@ use Rattle.lay_grid.specs.Shares.{own_width}
 use Rattle.lay_grid.specs.declared.columns.FirstCell.{FirstCell}
 use Rattle.lay_grid.specs.Within.{AreUpTo, CellUpTo, IsUpTo}
 use Rattle.lay_grid.proofs.WidthsWithin.{widths_are_within_lem}
-use Rattle.lay_table_borders.specs.UsedSides.{AreUsedSides}
-use Rattle.lay_table_borders.specs.GridBounds.{CellFits as GridCellFits, TableGridFits}
-use Rattle.lay_table_borders.specs.TableGrid.{TableGridValue}
-use Rattle.lay_table_borders.specs.declared.grid.TableCell.{TableCell}
+use Rattle.lay_table_grid.specs.UsedSides.{AreUsedSides}
+use Rattle.lay_table_grid.specs.GridBounds.{CellFits as GridCellFits, TableGridFits}
+use Rattle.lay_table_grid.specs.TableGrid.{TableGridValue}
+use Rattle.lay_table_grid.specs.declared.grid.TableCell.{TableCell}
 use Rattle.lay_table_sizes.specs.Bounds.{IsEdge, most_columns}
 use Rattle.lay_table_sizes.specs.ColumnWidths.{cell_edges, cell_width, columns_in, element_widths, first_cell, first_cells, given_padding, given_width, left_for_columns, or_none, width_by_box, width_by_kind, width_by_place, with_edges}
 use Rattle.lay_table_sizes.proofs.ColumnSteps.{element_widths_count}

@@ -14,13 +14,13 @@ use Rattle.lay_sizes.specs.declared.sizing.BoxSizes.{BoxSizes}
 use Rattle.lay_sizes.specs.declared.sizing.ContainingBlock.{ContainingBlock}
 use Rattle.lay_grid.specs.Columns.{AreColumns}
 use Rattle.lay_grid.proofs.OneColumns.{one_columns_lem}
-use Rattle.lay_auto_columns.specs.AutoColumns.{AreAutoColumns}
-use Rattle.lay_auto_columns.proofs.OneColumns.{one_list_of_columns_lem}
+use Rattle.lay_grid.specs.Automatic.AutoColumns.{AreAutoColumns}
+use Rattle.lay_grid.proofs.AutomaticLemmas.OneColumns.{one_list_of_columns_lem}
 use Rattle.lay_table_sizes.specs.ColumnBounds.{greatest_content, least_content, spaces}
 use Rattle.lay_table_sizes.specs.TableLayouts.{is_fixed}
 use Rattle.lay_table_sizes.proofs.AutoWidths.{one_auto_width_lem}
-use Rattle.lay_table_borders.specs.GridLaws.{OneTableGrid}
-use Rattle.lay_table_borders.specs.TableGrid.{TableGridValue}
+use Rattle.lay_table_grid.specs.GridLaws.{OneTableGrid}
+use Rattle.lay_table_grid.specs.TableGrid.{TableGridValue}
 use Rattle.lay_table_sizes.specs.declared.cell_size.CellSize.{CellSize}
 use Rattle.lay_table_sizes.specs.declared.table_rule.TableRule.{TableRule}
 use Rattle.lay_table_sizes.specs.declared.table_rule.TableRule.TheVariants.{Block, ShrinkToFit}

@@ -6,12 +6,12 @@ use Rattle.lay_box_tree.specs.declared.box_tree.BoxNode.{BoxNode}
 use Rattle.lay_measure.specs.MeasureInValue.{no_widths}
 use Rattle.lay_measure.specs.declared.preferred_widths.PreferredWidths.{PreferredWidths}
 use Rattle.lay_grid.specs.Shares.{own_at}
-use Rattle.lay_auto_columns.specs.declared.bounds.Bound.{Bound}
-use Rattle.lay_auto_columns.proofs.OneBounds.{one_list_of_bounds_lem}
+use Rattle.lay_grid.specs.declared.automatic.bounds.Bound.{Bound}
+use Rattle.lay_grid.proofs.AutomaticLemmas.OneBounds.{one_list_of_bounds_lem}
 use Rattle.lay_table_sizes.specs.ColumnBounds.{bounds_in}
 use Rattle.lay_table_sizes.specs.TableLayouts.{is_fixed}
-use Rattle.lay_table_borders.specs.GridLaws.{OneTableGrid}
-use Rattle.lay_table_borders.specs.TableGrid.{TableGridValue}
+use Rattle.lay_table_grid.specs.GridLaws.{OneTableGrid}
+use Rattle.lay_table_grid.specs.TableGrid.{TableGridValue}
 use Rattle.lay_table_sizes.specs.Laws.{OneTableWidths}
 use Rattle.lay_table_sizes.specs.PreferredWidths.{AreColumnWidths, HasFixedWidths, content_widths, own_or}
 use Rattle.lay_table_sizes.specs.TableBounds.{HasBounds, TableBoundsValue}

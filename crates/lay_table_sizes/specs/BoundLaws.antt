@@ -9,8 +9,8 @@ use Rattle.lay_units.specs.declared.records.Sides.{Sides}
 use Rattle.lay_style.specs.declared.style.Style.{Style}
 use Rattle.lay_box_tree.specs.declared.box_tree.BoxNode.{BoxNode}
 use Rattle.lay_measure.specs.declared.preferred_widths.PreferredWidths.{PreferredWidths}
-use Rattle.lay_auto_columns.specs.declared.bounds.Bound.{Bound}
-use Rattle.lay_table_borders.specs.TableGrid.{TableGridValue}
+use Rattle.lay_grid.specs.declared.automatic.bounds.Bound.{Bound}
+use Rattle.lay_table_grid.specs.TableGrid.{TableGridValue}
 use Rattle.lay_widths.specs.FloatWidths.{available_of}
 use Rattle.lay_widths.specs.Lengths.{edges_of}
 use Rattle.lay_table_sizes.specs.AutoWidth.{IsAutoWidth}

@@ -1,6 +1,6 @@
 -- Within which bounds the lengths of columns are, and which tables have few columns.
 use Rattle.std.specs.Prelude.{ℕ, ◌^◌, ◌<◌, ℤ, pos, ◌≤ℤ◌, All, List}
-use Rattle.lay_table_borders.specs.declared.grid.TableCell.{TableCell}
+use Rattle.lay_table_grid.specs.declared.grid.TableCell.{TableCell}
 
 -- the borders and the paddings of the left and the right side: four used sizes
 abbrev pub IsEdge : ℤ → Type 0

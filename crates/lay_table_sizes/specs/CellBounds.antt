@@ -15,8 +15,8 @@ use Rattle.lay_box_tree.specs.declared.box_tree.BoxNode.{BoxNode}
 use Rattle.lay_measure.specs.Contributions.{given_or, size_or_zero}
 use Rattle.lay_measure.specs.MeasureInValue.{no_widths}
 use Rattle.lay_measure.specs.declared.preferred_widths.PreferredWidths.{PreferredWidths}
-use Rattle.lay_auto_columns.specs.declared.bounds.SpanCell.{SpanCell}
-use Rattle.lay_table_borders.specs.declared.grid.TableCell.{TableCell}
+use Rattle.lay_grid.specs.declared.automatic.bounds.SpanCell.{SpanCell}
+use Rattle.lay_table_grid.specs.declared.grid.TableCell.{TableCell}
 
 -- the borders and paddings of a cell on its left and right
 abbrev pub cell_edges : Sides → Style → ℤ

@@ -14,7 +14,7 @@ use Rattle.lay_sizes.specs.UsedLengths.{edge_of, used_height}
 use Rattle.lay_sizes.specs.declared.sizing.BoxSizes.{BoxSizes}
 use Rattle.lay_sizes.specs.declared.sizing.ContainingBlock.{ContainingBlock}
 use Rattle.lay_grid.specs.Shares.{sum_of}
-use Rattle.lay_table_borders.specs.declared.grid.TableCell.{TableCell}
+use Rattle.lay_table_grid.specs.declared.grid.TableCell.{TableCell}
 use Rattle.lay_table_sizes.specs.declared.cell_size.CellSize.{CellSize}
 
 -- how wide the columns of a cell are, with the spacings between them

@@ -4,11 +4,11 @@ use Rattle.std.specs.Prelude.{ℕ, zero, suc, ◌+◌, ℤ, pos, ◌+ℤ◌, ◌
 use Rattle.lay_units.specs.declared.length.Unit.{Unit as Length}
 use Rattle.lay_box_tree.specs.declared.box_tree.BoxNode.{BoxNode}
 use Rattle.lay_measure.specs.declared.preferred_widths.PreferredWidths.{PreferredWidths}
-use Rattle.lay_auto_columns.specs.AutoColumns.{sum_max, sum_min}
-use Rattle.lay_auto_columns.specs.Bounds.{AreBounds}
-use Rattle.lay_auto_columns.specs.declared.bounds.Bound.{Bound}
-use Rattle.lay_auto_columns.specs.declared.bounds.BoundsIn.{BoundsIn}
-use Rattle.lay_table_borders.specs.TableGrid.{TableGridValue}
+use Rattle.lay_grid.specs.Automatic.AutoColumns.{sum_max, sum_min}
+use Rattle.lay_grid.specs.Automatic.Bounds.{AreBounds}
+use Rattle.lay_grid.specs.declared.automatic.bounds.Bound.{Bound}
+use Rattle.lay_grid.specs.declared.automatic.bounds.BoundsIn.{BoundsIn}
+use Rattle.lay_table_grid.specs.TableGrid.{TableGridValue}
 use Rattle.lay_table_sizes.specs.CellBounds.{span_cells}
 use Rattle.lay_table_sizes.specs.GivenWidths.{column_widths}
 use Rattle.lay_table_sizes.specs.GroupWidths.{group_spans}

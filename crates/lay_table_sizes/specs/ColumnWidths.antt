@@ -26,8 +26,8 @@ use Rattle.lay_measure.specs.Contributions.{size_or_zero}
 use Rattle.lay_measure.specs.ReplacedWidths.{length_or_auto}
 use Rattle.lay_grid.specs.declared.columns.ColumnsIn.{ColumnsIn}
 use Rattle.lay_grid.specs.declared.columns.FirstCell.{FirstCell}
-use Rattle.lay_table_borders.specs.TableGrid.{TableGridValue}
-use Rattle.lay_table_borders.specs.declared.grid.TableCell.{TableCell}
+use Rattle.lay_table_grid.specs.TableGrid.{TableGridValue}
+use Rattle.lay_table_grid.specs.declared.grid.TableCell.{TableCell}
 use Rattle.lay_table_sizes.specs.TableBoxes.{inset}
 
 -- what the spacings before so many columns and after the last leave of the width of a table, if anything

@@ -6,8 +6,8 @@
 use Rattle.std.specs.Prelude.{ℕ, suc, ◌+◌, ◌==◌, Bool, false, Option, Some, None, List, [], ◌∷◌, ◌++◌, map, slice_get, if◌then◌else◌}
 use Rattle.lay_units.specs.declared.length.Unit.{Unit as Length}
 use Rattle.lay_box_tree.specs.declared.box_tree.BoxNode.{BoxNode}
-use Rattle.lay_auto_columns.specs.declared.bounds.GroupSpan.{GroupSpan}
-use Rattle.lay_table_borders.specs.MeetingBorders.{around_column}
+use Rattle.lay_grid.specs.declared.automatic.bounds.GroupSpan.{GroupSpan}
+use Rattle.lay_table_grid.specs.MeetingBorders.{around_column}
 use Rattle.lay_table_sizes.specs.GivenWidths.{group_width_of}
 
 -- how many of these, from the first on, are this one

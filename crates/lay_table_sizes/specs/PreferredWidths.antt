@@ -17,8 +17,8 @@ use Rattle.lay_measure.specs.MeasureInValue.{no_widths}
 use Rattle.lay_measure.specs.declared.preferred_widths.PreferredWidths.{PreferredWidths}
 use Rattle.lay_grid.specs.Columns.{AreOwn}
 use Rattle.lay_grid.specs.Shares.{own_at}
-use Rattle.lay_table_borders.specs.TableGrid.{IsTableGrid, TableGridValue}
-use Rattle.lay_table_borders.specs.declared.grid.TableCell.{TableCell}
+use Rattle.lay_table_grid.specs.TableGrid.{IsTableGrid, TableGridValue}
+use Rattle.lay_table_grid.specs.declared.grid.TableCell.{TableCell}
 use Rattle.lay_table_sizes.specs.ColumnWidths.{cell_edges, columns_in, with_spacings}
 use Rattle.lay_table_sizes.specs.TableBoxes.{preferred_edges, table_style}
 

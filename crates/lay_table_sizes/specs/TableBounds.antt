@@ -7,10 +7,10 @@ use Rattle.lay_units.specs.declared.length.Unit.{Unit as Length}
 use Rattle.lay_units.specs.Lengths.{no_length}
 use Rattle.lay_box_tree.specs.declared.box_tree.BoxNode.{BoxNode}
 use Rattle.lay_measure.specs.declared.preferred_widths.PreferredWidths.{PreferredWidths}
-use Rattle.lay_auto_columns.specs.Bounds.{bound_at}
-use Rattle.lay_auto_columns.specs.Fit.{BoundFits}
-use Rattle.lay_auto_columns.specs.declared.bounds.Bound.{Bound}
-use Rattle.lay_table_borders.specs.TableGrid.{TableGridValue}
+use Rattle.lay_grid.specs.Automatic.Bounds.{bound_at}
+use Rattle.lay_grid.specs.Automatic.Fit.{BoundFits}
+use Rattle.lay_grid.specs.declared.automatic.bounds.Bound.{Bound}
+use Rattle.lay_table_grid.specs.TableGrid.{TableGridValue}
 use Rattle.lay_table_sizes.specs.ColumnBounds.{AreTableBounds}
 use Rattle.lay_table_sizes.specs.CaptionWidths.{captions_minimum}
 

@@ -12,7 +12,7 @@ use Rattle.lay_box_tree.specs.BoxColumns.{style_of_box}
 use Rattle.lay_box_tree.specs.declared.box_tree.BoxNode.{BoxNode}
 use Rattle.lay_sizes.specs.UsedLengths.{used_limit, used_margin, used_size, used_width}
 use Rattle.lay_measure.specs.Contributions.{size_or_zero}
-use Rattle.lay_table_borders.specs.TableGrid.{TableGridValue}
+use Rattle.lay_table_grid.specs.TableGrid.{TableGridValue}
 
 -- the wrapper stands first
 abbrev pub wrapper_style : List BoxNode → Style

@@ -22,8 +22,8 @@ use Rattle.lay_sizes.specs.declared.sizing.BoxSizes.{BoxSizes}
 use Rattle.lay_sizes.specs.declared.sizing.ContainingBlock.{ContainingBlock}
 use Rattle.lay_grid.specs.Columns.{AreColumns}
 use Rattle.lay_grid.specs.Shares.{sum_of}
-use Rattle.lay_auto_columns.specs.AutoColumns.{AreAutoColumns}
-use Rattle.lay_table_borders.specs.TableGrid.{IsTableGrid, TableGridValue}
+use Rattle.lay_grid.specs.Automatic.AutoColumns.{AreAutoColumns}
+use Rattle.lay_table_grid.specs.TableGrid.{IsTableGrid, TableGridValue}
 use Rattle.lay_table_sizes.specs.ColumnBounds.{spaces}
 use Rattle.lay_table_sizes.specs.TableLayouts.{is_fixed}
 use Rattle.lay_table_sizes.specs.CellSizes.{cell_size_at}

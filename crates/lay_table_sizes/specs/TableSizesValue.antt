@@ -4,7 +4,7 @@
 use Rattle.std.specs.Prelude.{ℕ, ◌≡◌, All, List, length, Option, None, slice_index_or}
 use Rattle.lay_units.specs.Units.{IsUsedSize}
 use Rattle.lay_units.specs.declared.length.Unit.{Unit as Length}
-use Rattle.lay_table_borders.specs.TableGrid.{TableGridValue}
+use Rattle.lay_table_grid.specs.TableGrid.{TableGridValue}
 use Rattle.lay_table_sizes.specs.declared.cell_size.CellSize.{CellSize}
 
 pub record TableSizesValue : Type 0 where

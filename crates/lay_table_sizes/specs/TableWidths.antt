@@ -7,7 +7,7 @@ use Rattle.lay_units.specs.declared.length.Unit.{Unit as Length}
 use Rattle.lay_style.specs.declared.style.Style.{Style}
 use Rattle.lay_box_tree.specs.declared.box_tree.BoxNode.{BoxNode}
 use Rattle.lay_measure.specs.declared.preferred_widths.PreferredWidths.{PreferredWidths}
-use Rattle.lay_table_borders.specs.TableGrid.{IsTableGrid, TableGridValue}
+use Rattle.lay_table_grid.specs.TableGrid.{IsTableGrid, TableGridValue}
 use Rattle.lay_table_sizes.specs.ColumnBounds.{greatest_content, least_content}
 use Rattle.lay_table_sizes.specs.TableLayouts.{is_fixed}
 use Rattle.lay_table_sizes.specs.PreferredWidths.{HasFixedWidths, bounded_content}

@@ -2,20 +2,20 @@
 
 ghost use Rattle.std.specs.Prelude.{◌≡◌, ◌≤◌, ◌-ℤ◌, ◌≤ℤ◌, All, IfOk, length};
 ghost use Rattle.lay_units.specs.Units.{IsSize};
-ghost use Rattle.lay_auto_columns.specs.AutoColumns.{AreAutoColumns};
-ghost use Rattle.lay_auto_columns.specs.Bounds.{bound_at};
-ghost use Rattle.lay_auto_columns.specs.Fit.{BoundFits};
-ghost use Rattle.lay_table_borders.specs.GridBounds.{PlacesAreBelow};
+ghost use Rattle.lay_grid.specs.Automatic.AutoColumns.{AreAutoColumns};
+ghost use Rattle.lay_grid.specs.Automatic.Bounds.{bound_at};
+ghost use Rattle.lay_grid.specs.Automatic.Fit.{BoundFits};
+ghost use Rattle.lay_table_grid.specs.GridBounds.{PlacesAreBelow};
 ghost use Rattle.lay_table_sizes.specs.ColumnBounds.{least_content, spaces};
 ghost use Rattle.lay_table_sizes.specs.Bounds.{most_columns};
 ghost use Rattle.lay_table_sizes.specs.TableBounds.{HasBounds, TableBoundsFit, bounds_of_columns, columns_or_none, first_bounds, no_bounds};
 
 use crate::caption_widths::captions_minimum;
 use crate::column_bounds::{auto_columns, table_bounds};
-use lay_auto_columns::{Bound, BoundList};
 use lay_box_tree::BoxNode;
+use lay_grid::automatic::{Bound, BoundList};
 use lay_measure::PreferredWidths;
-use lay_table_borders::TableGrid;
+use lay_table_grid::TableGrid;
 use lay_units::{NoMemory, Unit, UnitList};
 use std::alloc::Global;
 use std::marker::Model;

@@ -2,17 +2,17 @@
 
 ghost use Rattle.std.specs.Prelude.{◌≡◌, ◌<◌, ℕ, All, IfOk, length, slice_get, Some};
 ghost use Rattle.lay_box_tree.specs.BoxColumns.{style_of_box};
-ghost use Rattle.lay_auto_columns.specs.Fit.{CellFits};
-ghost use Rattle.lay_table_borders.specs.GridBounds.{CellFits as GridCellFits, PlacesAreBelow};
+ghost use Rattle.lay_grid.specs.Automatic.Fit.{CellFits};
+ghost use Rattle.lay_table_grid.specs.GridBounds.{CellFits as GridCellFits, PlacesAreBelow};
 ghost use Rattle.lay_table_sizes.specs.CellBounds.{cell_edges, cell_maximum, cell_minimum};
 ghost use Rattle.lay_table_sizes.specs.CellBounds.{span_cell, span_cells, widths_at};
 
 use crate::lengths::size;
-use lay_auto_columns::SpanCell;
 use lay_box_tree::BoxNode;
+use lay_grid::automatic::SpanCell;
 use lay_measure::{NO_WIDTHS, PreferredWidths, given_or, greater, size_or_zero, sum};
 use lay_style::Style;
-use lay_table_borders::{TableCell, TableGrid};
+use lay_table_grid::{TableCell, TableGrid};
 use lay_units::{NoMemory, Sides, Unit};
 use std::alloc::Global;
 

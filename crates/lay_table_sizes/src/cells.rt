@@ -4,14 +4,14 @@ ghost use Rattle.std.specs.Prelude.{◌≡◌, ◌≢◌, ◌<◌, ◌≤◌, �
 ghost use Rattle.std.specs.Prelude.{length, slice_get, slice_index_or, None};
 ghost use Rattle.lay_units.specs.Units.{IsUsedSize};
 ghost use Rattle.lay_grid.specs.Shares.{sum_of};
-ghost use Rattle.lay_table_borders.specs.GridBounds.{CellFits};
+ghost use Rattle.lay_table_grid.specs.GridBounds.{CellFits};
 ghost use Rattle.lay_table_sizes.specs.Bounds.{ArePlaced};
 ghost use Rattle.lay_table_sizes.specs.CellSizes.{cell_size, cell_size_at};
 
 use crate::cell_size::CellSize;
 use crate::spaces::spacings;
 use lay_measure::sum;
-use lay_table_borders::{TableCell, TableGrid};
+use lay_table_grid::{TableCell, TableGrid};
 use lay_units::{NoMemory, Unit};
 use std::alloc::Global;
 

@@ -2,22 +2,22 @@
 
 ghost use Rattle.std.specs.Prelude.{◌≡◌, ◌<◌, ◌-ℤ◌, ◌≤ℤ◌, ◌<ℤ◌, ◌^◌, pos, All, IfOk, length};
 ghost use Rattle.lay_units.specs.Units.{IsSize};
-ghost use Rattle.lay_auto_columns.specs.AutoColumns.{AreAutoColumns};
-ghost use Rattle.lay_auto_columns.specs.Fit.{BoundFits};
-ghost use Rattle.lay_table_borders.specs.GridBounds.{PlacesAreBelow};
+ghost use Rattle.lay_grid.specs.Automatic.AutoColumns.{AreAutoColumns};
+ghost use Rattle.lay_grid.specs.Automatic.Fit.{BoundFits};
+ghost use Rattle.lay_table_grid.specs.GridBounds.{PlacesAreBelow};
 ghost use Rattle.lay_table_sizes.specs.ColumnBounds.{AreTableBounds, least_content, spaces};
 
 use crate::cell_bounds::span_cells;
 use crate::contents::spaces;
 use crate::given_widths::column_widths;
 use crate::group_spans::group_spans;
-use lay_auto_columns::{
-    BoundList, BoundsIn, GroupSpans, SpanCells, bounds_are_sizes, column_bounds, columns_auto,
-};
 use lay_box_tree::BoxNode;
 use lay_grid::WidthOptions;
+use lay_grid::automatic::{
+    BoundList, BoundsIn, GroupSpans, SpanCells, bounds_are_sizes, column_bounds, columns_auto,
+};
 use lay_measure::PreferredWidths;
-use lay_table_borders::TableGrid;
+use lay_table_grid::TableGrid;
 use lay_units::{NoMemory, Unit, UnitList};
 use std::alloc::Global;
 

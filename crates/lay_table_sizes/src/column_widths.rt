@@ -5,7 +5,7 @@ ghost use Rattle.lay_units.specs.Units.{IsPosition, IsUsedSize};
 ghost use Rattle.lay_grid.specs.ColumnsFit.{ColumnsFit};
 ghost use Rattle.lay_grid.specs.Lengths.{MayBePosition};
 ghost use Rattle.lay_sizes.specs.SizeBounds.{IsUsedSizeOrAuto};
-ghost use Rattle.lay_table_borders.specs.UsedSides.{AreUsedSides};
+ghost use Rattle.lay_table_grid.specs.UsedSides.{AreUsedSides};
 ghost use Rattle.lay_table_sizes.specs.ColumnWidths.{cell_edges, cell_width, columns_in, element_widths};
 ghost use Rattle.lay_table_sizes.specs.ColumnWidths.{first_cell, first_cells, given_padding, given_width};
 ghost use Rattle.lay_table_sizes.specs.ColumnWidths.{left_by_spacings, left_for_columns};
@@ -18,7 +18,7 @@ use lay_grid::{ColumnsIn, FirstCell, FirstCells, WidthOptions};
 use lay_measure::{length_or_auto, size_or_zero};
 use lay_sizes::{used_size, used_width};
 use lay_style::{LengthPercentage, LengthPercentageOrAuto, Style};
-use lay_table_borders::{TableCell, TableGrid};
+use lay_table_grid::{TableCell, TableGrid};
 use lay_units::{Len, NoMemory, Sides, Unit};
 use std::alloc::Global;
 

@@ -1,7 +1,7 @@
 //! The preferred widths of columns by what is in their cells.
 
 ghost use Rattle.std.specs.Prelude.{◌≡◌, ◌≢◌, ◌<◌, ℕ, IfOk, length};
-ghost use Rattle.lay_table_borders.specs.UsedSides.{AreUsedSides};
+ghost use Rattle.lay_table_grid.specs.UsedSides.{AreUsedSides};
 ghost use Rattle.lay_table_sizes.specs.Bounds.{ArePlaced};
 ghost use Rattle.lay_table_sizes.specs.PreferredWidths.{cell_part, cell_widths, content_widths, wider, widths_at};
 
@@ -11,7 +11,7 @@ use crate::table_box::style_of_box;
 use lay_box_tree::BoxNode;
 use lay_measure::{NO_WIDTHS, PreferredWidths, bounded_width, greater, sum};
 use lay_style::Style;
-use lay_table_borders::{TableCell, TableGrid};
+use lay_table_grid::{TableCell, TableGrid};
 use lay_units::{NoMemory, Sides, Unit};
 use std::alloc::Global;
 

@@ -1,12 +1,12 @@
 //! The columns of a table together, with the spacings beside them.
 
 ghost use Rattle.std.specs.Prelude.{◌≡◌, ◌≤ℤ◌, pos, IfOk};
-ghost use Rattle.lay_auto_columns.specs.AutoColumns.{sum_max, sum_min};
+ghost use Rattle.lay_grid.specs.Automatic.AutoColumns.{sum_max, sum_min};
 ghost use Rattle.lay_table_sizes.specs.ColumnBounds.{greatest_content, least_content, spaces};
 
-use lay_auto_columns::Bound;
+use lay_grid::automatic::Bound;
 use lay_measure::sum;
-use lay_table_borders::TableGrid;
+use lay_table_grid::TableGrid;
 use lay_units::{NoMemory, Unit};
 
 /// How wide columns with these bounds are together at their minimums, with the spacings beside them, in 1/64 px. NoMemory is the answer

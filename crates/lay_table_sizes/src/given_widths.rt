@@ -7,7 +7,7 @@ ghost use Rattle.lay_table_sizes.specs.GivenWidths.{group_width_of, length_or_no
 use lay_box_tree::{BoxKind, BoxNode};
 use lay_measure::length_or_auto;
 use lay_style::{LengthPercentageOrAuto, Style};
-use lay_table_borders::TableGrid;
+use lay_table_grid::TableGrid;
 use lay_units::{Len, NoMemory, Unit};
 use std::alloc::Global;
 

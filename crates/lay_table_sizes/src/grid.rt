@@ -1,12 +1,12 @@
 //! The grid of a table, of few columns.
 
 ghost use Rattle.std.specs.Prelude.{◌<◌, ◌≤◌, IfOk, length};
-ghost use Rattle.lay_table_borders.specs.GridBounds.{PlacesAreBelow};
-ghost use Rattle.lay_table_borders.specs.TableGrid.{IsTableGrid};
+ghost use Rattle.lay_table_grid.specs.GridBounds.{PlacesAreBelow};
+ghost use Rattle.lay_table_grid.specs.TableGrid.{IsTableGrid};
 ghost use Rattle.lay_table_sizes.specs.Bounds.{most_columns};
 
 use lay_box_tree::BoxNode;
-use lay_table_borders::{TableGrid, grids_are_of_boxes, table_grid};
+use lay_table_grid::{TableGrid, grids_are_of_boxes, table_grid};
 use lay_units::NoMemory;
 use std::alloc::Global;
 

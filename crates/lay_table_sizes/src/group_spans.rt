@@ -1,13 +1,13 @@
 //! The column groups of a table that have a width.
 
 ghost use Rattle.std.specs.Prelude.{◌≡◌, ◌<◌, ◌≤◌, ◌^◌, ◌++◌, ℕ, IfOk, OnOk, None, Some, drop, length, map, slice_get};
-ghost use Rattle.lay_table_borders.specs.MeetingBorders.{around_column};
+ghost use Rattle.lay_table_grid.specs.MeetingBorders.{around_column};
 ghost use Rattle.lay_table_sizes.specs.GroupWidths.{goes_on, group_spans, run_of, span_at, span_with, spans_from};
 
 use crate::given_widths::group_width_at;
-use lay_auto_columns::GroupSpan;
 use lay_box_tree::BoxNode;
-use lay_table_borders::{TableGrid, is_column_group_at};
+use lay_grid::automatic::GroupSpan;
+use lay_table_grid::{TableGrid, is_column_group_at};
 use lay_units::{NoMemory, Unit};
 use std::alloc::Global;
 

@@ -1,8 +1,8 @@
 //! The preferred widths of a table.
 
 ghost use Rattle.std.specs.Prelude.{◌≡◌, ◌<◌, ◌≤◌, ◌-ℤ◌, IfOk, length};
-ghost use Rattle.lay_table_borders.specs.GridBounds.{PlacesAreBelow};
-ghost use Rattle.lay_table_borders.specs.TableGrid.{IsTableGrid};
+ghost use Rattle.lay_table_grid.specs.GridBounds.{PlacesAreBelow};
+ghost use Rattle.lay_table_grid.specs.TableGrid.{IsTableGrid};
 ghost use Rattle.lay_table_sizes.specs.Bounds.{most_columns};
 ghost use Rattle.lay_table_sizes.specs.TableWidths.{HasAutoWidths, HasTableWidths, auto_part};
 
@@ -15,7 +15,7 @@ use crate::table_box::{preferred_edges, style_of_box};
 use lay_box_tree::BoxNode;
 use lay_measure::{PreferredWidths, greater, sum};
 use lay_style::Style;
-use lay_table_borders::TableGrid;
+use lay_table_grid::TableGrid;
 use lay_units::{NoMemory, Unit};
 use std::alloc::Global;
 

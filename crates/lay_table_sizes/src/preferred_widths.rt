@@ -2,8 +2,8 @@
 
 ghost use Rattle.std.specs.Prelude.{◌≡◌, ◌<◌, ◌≤◌, IfOk, length};
 ghost use Rattle.lay_grid.specs.Shares.{own_at};
-ghost use Rattle.lay_table_borders.specs.GridBounds.{PlacesAreBelow};
-ghost use Rattle.lay_table_borders.specs.TableGrid.{IsTableGrid};
+ghost use Rattle.lay_table_grid.specs.GridBounds.{PlacesAreBelow};
+ghost use Rattle.lay_table_grid.specs.TableGrid.{IsTableGrid};
 ghost use Rattle.lay_table_sizes.specs.Bounds.{most_columns};
 ghost use Rattle.lay_table_sizes.specs.PreferredWidths.{AreColumnWidths, HasFixedWidths, all_beside};
 ghost use Rattle.lay_table_sizes.specs.PreferredWidths.{beside, bounded_content, own_or, table_part};
@@ -17,7 +17,7 @@ use lay_grid::own_widths;
 use lay_heights::with_min_max;
 use lay_measure::{NO_WIDTHS, PreferredWidths, given_or, greater, limit_of, size_or_zero, sum};
 use lay_style::Style;
-use lay_table_borders::TableGrid;
+use lay_table_grid::TableGrid;
 use lay_units::{NoMemory, Unit};
 use std::alloc::Global;
 

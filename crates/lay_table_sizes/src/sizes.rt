@@ -4,7 +4,7 @@ ghost use Rattle.std.specs.Prelude.{◌≡◌, ◌<◌, IfOk};
 ghost use Rattle.lay_table_sizes.specs.TableSizesValue.{TableSizesFit, cell_at};
 
 use crate::cell_size::CellSize;
-use lay_table_borders::TableGrid;
+use lay_table_grid::TableGrid;
 use lay_units::{NoMemory, Unit};
 use std::alloc::Global;
 use std::marker::Model;

@@ -5,7 +5,7 @@ ghost use Rattle.lay_units.specs.declared.length.Unit.{Unit as Length};
 ghost use Rattle.lay_units.specs.Units.{IsPosition, IsUsedSize};
 ghost use Rattle.lay_sizes.specs.SizeBounds.{SizeFits};
 ghost use Rattle.lay_sizes.specs.SizeColumns.{HaveSizeBounds, sizes_at};
-ghost use Rattle.lay_table_borders.specs.GridBounds.{PlacesAreBelow};
+ghost use Rattle.lay_table_grid.specs.GridBounds.{PlacesAreBelow};
 ghost use Rattle.lay_table_sizes.specs.Bounds.{most_columns};
 ghost use Rattle.lay_table_sizes.specs.TableSizes.{AreAutoWidths, AreFixedWidths, AreTableWidths, AreTableWidthsAs, HasTableSizes};
 ghost use Rattle.lay_table_sizes.specs.TableSizes.{held, held_width, sizes_of_box, table_box, table_width};
@@ -27,7 +27,7 @@ use lay_sizes::{
     BoxSizes, ContainingBlock, NO_SIZES, used_height, used_max_height, used_min_height,
 };
 use lay_style::Style;
-use lay_table_borders::TableGrid;
+use lay_table_grid::TableGrid;
 use lay_units::{NoMemory, Unit, UnitList, clamp_size};
 use lay_widths::BlockOut;
 use std::alloc::Global;

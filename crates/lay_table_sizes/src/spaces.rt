@@ -4,7 +4,7 @@ ghost use Rattle.std.specs.Prelude.{◌≡◌, ◌<◌, ◌^◌, ◌*ℤ◌, IfO
 ghost use Rattle.lay_table_sizes.specs.ColumnWidths.{with_spacings};
 
 use lay_measure::sum;
-use lay_table_borders::TableGrid;
+use lay_table_grid::TableGrid;
 use lay_units::{NoMemory, Unit};
 
 /// How wide columns are that come to so much, with the spacings beside them. NoMemory is the answer where that isn't within 2^63

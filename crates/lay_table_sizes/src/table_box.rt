@@ -12,7 +12,7 @@ use lay_box_tree::BoxNode;
 use lay_measure::size_or_zero;
 use lay_sizes::{used_limit, used_margin, used_size, used_width};
 use lay_style::{LengthPercentage, Style};
-use lay_table_borders::TableGrid;
+use lay_table_grid::TableGrid;
 use lay_units::{BlockIn, Sides, Unit};
 
 /// The style of the box at k.

@@ -2,7 +2,7 @@
 
 ghost use Rattle.std.specs.Prelude.{◌<◌, IfOk, length};
 ghost use Rattle.lay_units.specs.Units.{IsPosition, IsUsedSize, IsSize};
-ghost use Rattle.lay_table_borders.specs.GridBounds.{PlacesAreBelow};
+ghost use Rattle.lay_table_grid.specs.GridBounds.{PlacesAreBelow};
 ghost use Rattle.lay_table_sizes.specs.WantedWidth.{HasAutoWidth, IsFixedWidth};
 
 use crate::bounds::TableBounds;
@@ -10,7 +10,7 @@ use crate::contents::{greatest_content, least_content};
 use crate::table_box::{style_of_box, table_block};
 use crate::used_width::auto_width;
 use lay_box_tree::BoxNode;
-use lay_table_borders::TableGrid;
+use lay_table_grid::TableGrid;
 use lay_units::{NoMemory, Unit};
 use lay_widths::solve_block;
 

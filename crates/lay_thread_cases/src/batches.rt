@@ -4,12 +4,12 @@ ghost use Rattle.std.specs.Prelude.{◌<◌, ◌≤◌, IfSome};
 
 use crate::core_calls::{batch, claim_some, finish_all};
 use crate::shown;
-use lay_drive::cell_work::Claim;
-use lay_drive::claim_lists::{ClaimList, Outcome, Outcomes};
-use lay_drive::editing_core::{Core, Idle};
-use lay_drive::pool::{Hand, hands};
-use lay_layout::units::NoMemory;
+use lay_cell_work::Claim;
+use lay_cell_work::claim_lists::{ClaimList, Outcome, Outcomes};
+use lay_core::{Core, Idle};
 use lay_outside::Gate;
+use lay_pool::{Hand, hands};
+use lay_units::NoMemory;
 use std::alloc::Global;
 use std::thread;
 use std::thread::Threads;

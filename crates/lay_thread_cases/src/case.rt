@@ -3,7 +3,7 @@
 
 use crate::calls::OneCore;
 use anyhow::{Result, bail};
-use lay_layout::units::NoMemory;
+use lay_units::NoMemory;
 use std::alloc::{AllocError, Global};
 use std::sync::Wait;
 use std::thread::Threads;

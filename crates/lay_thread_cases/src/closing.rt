@@ -5,9 +5,9 @@ ghost use Rattle.std.specs.List.{All};
 
 use crate::core_calls::{closed, entries, latest};
 use lay_board::{Engine, Pass, Passes};
-use lay_layout::edit_lists::Reply;
-use lay_layout::run::RunDoc;
-use lay_layout::units::NoMemory;
+use lay_history::edits::Reply;
+use lay_run::RunDoc;
+use lay_units::NoMemory;
 use std::alloc::Global;
 use std::sync::Wait;
 

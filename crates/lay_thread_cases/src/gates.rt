@@ -1,7 +1,7 @@
 //! Gates of cases.
 
-use lay_layout::units::NoMemory;
 use lay_outside::{Gate, MeetGate, Point};
+use lay_units::NoMemory;
 use std::alloc::Global;
 
 /// The gate of a case.

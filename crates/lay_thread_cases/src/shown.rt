@@ -1,11 +1,11 @@
 //! How claims, what comes of them and what is made of that are written.
 
-use lay_drive::cell_work::Claim;
-use lay_drive::claim_lists::Outcome;
-use lay_drive::editing_core::{Idle, IdleKind, Tally};
-use lay_drive::shape::CellKey;
-use lay_layout::context::Phase;
-use lay_layout::units::NoMemory;
+use lay_cell_work::Claim;
+use lay_cell_work::claim_lists::Outcome;
+use lay_context::Phase;
+use lay_core::{Idle, IdleKind, Tally};
+use lay_shape::CellKey;
+use lay_units::NoMemory;
 use std::alloc::Global;
 
 pub(crate) fn key(alloc: Global, key: CellKey) -> Result<String, NoMemory> {

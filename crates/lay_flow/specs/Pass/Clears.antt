@@ -1,16 +1,16 @@
 -- What a pass over a context decides before it reads the top margin of a box with `clear`.
 use Rattle.std.specs.Prelude.{ℕ, ◌≡◌, ◌<◌, ◌≤◌, ℤ, false, List, length, Option, Some}
-use Rattle.lay_blocks.specs.declared.flow_box.FlowBox.{FlowBox}
+use Rattle.lay_flow.specs.declared.blocks.flow_box.FlowBox.{FlowBox}
 use Rattle.lay_units.specs.declared.length.Unit.{Unit as Length}
 use Rattle.lay_floats.specs.declared.placed.Placed.{Placed}
 use Rattle.lay_floats.specs.declared.requests.Side.{Side}
 use Rattle.lay_floats.specs.declared.requests.Clear.{Clear}
 use Rattle.lay_floats.specs.ClearEdge.{Clears, IsClearEdge}
-use Rattle.lay_blocks.specs.Lengths.{length_at}
-use Rattle.lay_blocks.specs.Children.{flag_at}
-use Rattle.lay_blocks.specs.BlockFloats.{shape_at}
-use Rattle.lay_blocks.specs.Clearance.{IsAbove}
-use Rattle.lay_blocks.specs.BlockLayout.{BlockLayout}
+use Rattle.lay_flow.specs.Blocks.Lengths.{length_at}
+use Rattle.lay_flow.specs.Blocks.Children.{flag_at}
+use Rattle.lay_flow.specs.Blocks.BlockFloats.{shape_at}
+use Rattle.lay_flow.specs.Blocks.Clearance.{IsAbove}
+use Rattle.lay_flow.specs.Blocks.BlockLayout.{BlockLayout}
 use Rattle.lay_flow.specs.declared.pass.Pass.{Pass}
 use Rattle.lay_flow.specs.Pass.State.{clearances_of}
 use Rattle.lay_flow.specs.Pass.Bounds.{state_of}

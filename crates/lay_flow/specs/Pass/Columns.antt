@@ -5,15 +5,15 @@ use Rattle.lay_units.specs.Units.{IsBoxSize, IsNear}
 use Rattle.lay_floats.specs.declared.requests.Place.{Place}
 use Rattle.lay_floats.specs.Within.{IsWithin}
 use Rattle.lay_flow.specs.declared.flow_columns.FlowColumns.{FlowColumns}
-use Rattle.lay_blocks.specs.declared.flow_box.FlowBox.{FlowBox}
-use Rattle.lay_blocks.specs.declared.flow_places.BoxPlace.{BoxPlace}
-use Rattle.lay_blocks.specs.Boxes.{box_at}
-use Rattle.lay_blocks.specs.Lengths.{length_at}
-use Rattle.lay_blocks.specs.MarginRuns.{block_at}
-use Rattle.lay_blocks.specs.BlockPositions.{is_solid}
-use Rattle.lay_blocks.specs.BlockFloats.{Spot}
-use Rattle.lay_blocks.specs.ContextFlow.{AreContextPlaces}
-use Rattle.lay_blocks.specs.FlowPlaces.{AreNearRows, border_box, box_place_at, own_place, corner_at, AreCorners}
+use Rattle.lay_flow.specs.declared.blocks.flow_box.FlowBox.{FlowBox}
+use Rattle.lay_flow.specs.declared.blocks.flow_places.BoxPlace.{BoxPlace}
+use Rattle.lay_flow.specs.Blocks.Boxes.{box_at}
+use Rattle.lay_flow.specs.Blocks.Lengths.{length_at}
+use Rattle.lay_flow.specs.Blocks.MarginRuns.{block_at}
+use Rattle.lay_flow.specs.Blocks.BlockPositions.{is_solid}
+use Rattle.lay_flow.specs.Blocks.BlockFloats.{Spot}
+use Rattle.lay_flow.specs.Blocks.ContextFlow.{AreContextPlaces}
+use Rattle.lay_flow.specs.Blocks.FlowPlaces.{AreNearRows, border_box, box_place_at, own_place, corner_at, AreCorners}
 
 -- a place at most 2^60 - 2^50 units away
 pub record IsFarPlace (p : Place) : Type 0 where

@@ -1,13 +1,13 @@
 -- What the code of a pass knows at each place: its columns have each placement but for the floats that its lines leave.
 use Rattle.std.specs.Prelude.{ℕ, ◌≡◌, List, length, map}
 use Rattle.lay_units.specs.declared.length.Unit.{Unit as Length}
-use Rattle.lay_blocks.specs.declared.flow_box.FlowBox.{FlowBox}
+use Rattle.lay_flow.specs.declared.blocks.flow_box.FlowBox.{FlowBox}
 use Rattle.lay_flow.specs.declared.pass.Pass.{Pass}
 use Rattle.lay_flow.specs.declared.placement.Placing.{Placing as PlacingState}
-use Rattle.lay_blocks.specs.BlockFloats.{Spot}
-use Rattle.lay_blocks.specs.MarginPlace.{margin_place}
+use Rattle.lay_flow.specs.Blocks.BlockFloats.{Spot}
+use Rattle.lay_flow.specs.Blocks.MarginPlace.{margin_place}
 use Rattle.lay_flow.specs.Pass.Bounds.{state_of}
-use Rattle.lay_blocks.specs.ContextFlow.{AreContextPlaces}
+use Rattle.lay_flow.specs.Blocks.ContextFlow.{AreContextPlaces}
 use Rattle.lay_flow.specs.Pass.Placed.{AreCornersNear, Placing, PlacesTo}
 use Rattle.lay_flow.specs.Pass.Knows.{ArePlacesKept, IsReady, Knows}
 

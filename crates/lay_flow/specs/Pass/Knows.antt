@@ -1,18 +1,18 @@
 -- What is known at each place of a pass over the boxes of a context.
 use Rattle.std.specs.Prelude.{ℕ, ◌≡◌, ◌+◌, ◌<◌, ◌≤◌, pos, true, false, List, length, Some, None}
-use Rattle.lay_blocks.specs.declared.flow_box.FlowBox.{FlowBox}
-use Rattle.lay_blocks.specs.Boxes.{parent_at}
+use Rattle.lay_flow.specs.declared.blocks.flow_box.FlowBox.{FlowBox}
+use Rattle.lay_flow.specs.Blocks.Boxes.{parent_at}
 use Rattle.lay_units.specs.declared.length.Unit.{Unit as Length}
 use Rattle.lay_floats.specs.declared.requests.Side.{Side}
-use Rattle.lay_blocks.specs.Lengths.{length_at}
-use Rattle.lay_blocks.specs.Children.{flag_at}
-use Rattle.lay_blocks.specs.MarginRuns.{block_at}
-use Rattle.lay_blocks.specs.BlockFloats.{Spot, spot_at, shape_at}
-use Rattle.lay_blocks.specs.BlockPositions.{IsBlockLayout, is_placed}
-use Rattle.lay_blocks.specs.Weights.{weight}
-use Rattle.lay_blocks.specs.BlockLayout.{BlockLayout, Extents}
-use Rattle.lay_blocks.specs.Clearance.{HasClearance}
-use Rattle.lay_blocks.specs.MarginPlace.{MarginPlace}
+use Rattle.lay_flow.specs.Blocks.Lengths.{length_at}
+use Rattle.lay_flow.specs.Blocks.Children.{flag_at}
+use Rattle.lay_flow.specs.Blocks.MarginRuns.{block_at}
+use Rattle.lay_flow.specs.Blocks.BlockFloats.{Spot, spot_at, shape_at}
+use Rattle.lay_flow.specs.Blocks.BlockPositions.{IsBlockLayout, is_placed}
+use Rattle.lay_flow.specs.Blocks.Weights.{weight}
+use Rattle.lay_flow.specs.Blocks.BlockLayout.{BlockLayout, Extents}
+use Rattle.lay_flow.specs.Blocks.Clearance.{HasClearance}
+use Rattle.lay_flow.specs.Blocks.MarginPlace.{MarginPlace}
 use Rattle.lay_flow.specs.Pass.State.{PassState, Clearances, IsAt, IsBefore, clearances_of}
 use Rattle.lay_flow.specs.Pass.Bounds.{StateFits, IsStartNear, IsEdgeNear}
 use Rattle.lay_flow.specs.Pass.Placed.{Placing, PlacesTo}

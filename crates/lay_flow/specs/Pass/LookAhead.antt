@@ -2,17 +2,17 @@
 -- reads margins until their run ends, or comes to the bottom margin of the outermost box whose top margin is in the run and
 -- which has the box in it. The box stands where the margins that are read collapse to.
 use Rattle.std.specs.Prelude.{ℕ, ◌≡◌, ◌<◌, ◌≤◌, ◌+◌, not, nat_lt, true, false, ℤ, ◌+ℤ◌, List, length}
-use Rattle.lay_blocks.specs.declared.flow_box.FlowBox.{FlowBox}
-use Rattle.lay_blocks.specs.Boxes.{parent_at}
+use Rattle.lay_flow.specs.declared.blocks.flow_box.FlowBox.{FlowBox}
+use Rattle.lay_flow.specs.Blocks.Boxes.{parent_at}
 use Rattle.lay_margins.specs.StrutValue.{StrutValue}
 use Rattle.lay_margins.specs.Collapse.{Holds, collapse}
 use Rattle.lay_flow.specs.declared.hypothetical_edge.Outset.{Outset}
-use Rattle.lay_blocks.specs.Children.{flag_at}
-use Rattle.lay_blocks.specs.Lengths.{length_at}
-use Rattle.lay_blocks.specs.MarginPlace.{IsAround, IsPlace, MarginPlace, margin_place}
-use Rattle.lay_blocks.specs.MarginRuns.{margins, has_top, run_before}
-use Rattle.lay_blocks.specs.BlockLayout.{BlockLayout}
-use Rattle.lay_blocks.specs.BlockPositions.{IsBlockLayout, start_before}
+use Rattle.lay_flow.specs.Blocks.Children.{flag_at}
+use Rattle.lay_flow.specs.Blocks.Lengths.{length_at}
+use Rattle.lay_flow.specs.Blocks.MarginPlace.{IsAround, IsPlace, MarginPlace, margin_place}
+use Rattle.lay_flow.specs.Blocks.MarginRuns.{margins, has_top, run_before}
+use Rattle.lay_flow.specs.Blocks.BlockLayout.{BlockLayout}
+use Rattle.lay_flow.specs.Blocks.BlockPositions.{IsBlockLayout, start_before}
 use Rattle.lay_flow.specs.Pass.Struts.{StrutFits}
 
 -- in this layout neither the box nor a later one has clearance, the strut holds the margins of the run before the top margin

@@ -1,6 +1,6 @@
 -- Floats, solid boxes and lines that are placed up to a place among the boxes, as a pass over a context has them.
 use Rattle.std.specs.Prelude.{ℕ, ◌≡◌, ◌+◌, ◌*◌, ◌<◌, ℤ, pos, ◌+ℤ◌, ◌-ℤ◌, true, false, List, length, Some, None, All}
-use Rattle.lay_blocks.specs.declared.flow_box.FlowBox.{FlowBox}
+use Rattle.lay_flow.specs.declared.blocks.flow_box.FlowBox.{FlowBox}
 use Rattle.lay_units.specs.declared.length.Unit.{Unit as Length}
 use Rattle.lay_floats.specs.declared.placed.Placed.{Placed}
 use Rattle.lay_floats.specs.declared.requests.Side.{Side}
@@ -8,12 +8,12 @@ use Rattle.lay_lines.specs.Lines.{LinesWithin}
 use Rattle.lay_floats.specs.FloatPlace.{IsFloatPlace}
 use Rattle.lay_floats.specs.SolidPlace.{IsSolidPlace}
 use Rattle.lay_floats.specs.Within.{BoxWithin, IsWithin}
-use Rattle.lay_blocks.specs.Lengths.{length_at}
-use Rattle.lay_blocks.specs.MarginRuns.{block_at}
-use Rattle.lay_blocks.specs.BlockPositions.{is_lines, is_solid}
-use Rattle.lay_blocks.specs.BlockFloats.{AreLinesAt, Spot, spot_at, shape_at, place_at, no_place, lines_at}
-use Rattle.lay_blocks.specs.BlockFloats.{no_lines, floats_before, float_request, solid_request, ceiling}
-use Rattle.lay_blocks.specs.Weights.{weight}
+use Rattle.lay_flow.specs.Blocks.Lengths.{length_at}
+use Rattle.lay_flow.specs.Blocks.MarginRuns.{block_at}
+use Rattle.lay_flow.specs.Blocks.BlockPositions.{is_lines, is_solid}
+use Rattle.lay_flow.specs.Blocks.BlockFloats.{AreLinesAt, Spot, spot_at, shape_at, place_at, no_place, lines_at}
+use Rattle.lay_flow.specs.Blocks.BlockFloats.{no_lines, floats_before, float_request, solid_request, ceiling}
+use Rattle.lay_flow.specs.Blocks.Weights.{weight}
 use Rattle.lay_flow.specs.Pass.Bounds.{reach}
 
 -- what a pass keeps of floats, solid boxes and lines: the depths of the boxes, as far as they are known, the floats that

@@ -1,17 +1,17 @@
 -- How far one pass over the boxes has come, which reads the margins of a context in document order.
 use Rattle.std.specs.Prelude.{ℕ, ◌≡◌, ◌⊎◌, ◌<◌, ◌≤◌, Bool, true, false, ℤ, List, [], length}
-use Rattle.lay_blocks.specs.declared.flow_box.FlowBox.{FlowBox}
-use Rattle.lay_blocks.specs.Boxes.{parent_at}
+use Rattle.lay_flow.specs.declared.blocks.flow_box.FlowBox.{FlowBox}
+use Rattle.lay_flow.specs.Blocks.Boxes.{parent_at}
 use Rattle.lay_units.specs.declared.length.Unit.{Unit as Length}
 use Rattle.lay_margins.specs.StrutValue.{StrutValue}
 use Rattle.lay_margins.specs.Collapse.{Holds}
-use Rattle.lay_blocks.specs.Children.{flag_at}
-use Rattle.lay_blocks.specs.MarginRuns.{margins, has_top, run_at, run_before}
-use Rattle.lay_blocks.specs.MarginPlace.{IsAround, MarginPlace, margin_place}
-use Rattle.lay_blocks.specs.Gathered.{Gathered}
-use Rattle.lay_blocks.specs.Lengths.{length_at}
-use Rattle.lay_blocks.specs.BlockPositions.{start_before}
-use Rattle.lay_blocks.specs.BlockLayout.{BlockLayout}
+use Rattle.lay_flow.specs.Blocks.Children.{flag_at}
+use Rattle.lay_flow.specs.Blocks.MarginRuns.{margins, has_top, run_at, run_before}
+use Rattle.lay_flow.specs.Blocks.MarginPlace.{IsAround, MarginPlace, margin_place}
+use Rattle.lay_flow.specs.Blocks.Gathered.{Gathered}
+use Rattle.lay_flow.specs.Blocks.Lengths.{length_at}
+use Rattle.lay_flow.specs.Blocks.BlockPositions.{start_before}
+use Rattle.lay_flow.specs.Blocks.BlockLayout.{BlockLayout}
 
 -- what the pass keeps: columns of the marks and heights as far as they are known, of the boxes that are known to be
 -- collapsed through, and of clearance as decided so far; and the run that it is in: its margins so far, and the first

@@ -1,5 +1,5 @@
 use Rattle.std.proofs.Common.{◌≡◌, ℕ, suc, ◌+◌, ◌++◌, [], Some, sym, ap, ◌∙◌, subst, arith, slice_get, slice_index_or}
-use Rattle.lay_edits.specs.declared.command.Reply.{Reply}
+use Rattle.lay_history.specs.declared.edits.command.Reply.{Reply}
 use Rattle.lay_audit.specs.declared.step.Step.TheVariants as step
 use Rattle.lay_audit.specs.NextLines.{BeginsWith, RepliesNext, StandsNext, StandsNot, command_front}
 use Rattle.lay_audit.specs.Presents.{next_command}

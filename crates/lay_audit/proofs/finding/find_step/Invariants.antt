@@ -1,5 +1,5 @@
 use Rattle.std.proofs.Common.{◌<◌, ℕ}
-use Rattle.lay_edits.specs.declared.command.Reply.{Reply}
+use Rattle.lay_history.specs.declared.edits.command.Reply.{Reply}
 use Rattle.lay_audit.specs.declared.step.Step.TheVariants as step
 use Rattle.lay_audit.specs.NextLines.{StandsNot}
 use Rattle.lay_audit.proofs.finding.find_step.Given as goal

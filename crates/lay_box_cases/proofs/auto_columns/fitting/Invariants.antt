@@ -1,5 +1,5 @@
 use Rattle.std.proofs.Common.{◌≤◌, length, All}
-use Rattle.lay_auto_columns.specs.Fit.{BoundFits}
+use Rattle.lay_grid.specs.Automatic.Fit.{BoundFits}
 use Rattle.lay_box_cases.proofs.auto_columns.fitting.Given as goal
 
 abbrev pub invariant-loop-bound : goal.invariant-loop-bound

@@ -1,5 +1,5 @@
 use Rattle.std.proofs.Common.{All}
-use Rattle.lay_auto_columns.specs.Fit.{SpanFits}
+use Rattle.lay_grid.specs.Automatic.Fit.{SpanFits}
 use Rattle.lay_box_cases.proofs.auto_columns.group_spans.Given as goal
 
 abbrev pub invariant-loop-word : goal.invariant-loop-word

@@ -1,8 +1,8 @@
 use Rattle.std.proofs.Common.{ap, pos, arith}
 use Rattle.std.proofs.lemmas.Int.{ints}
 use Rattle.std.proofs.lemmas.List.{drop_more}
-use Rattle.lay_auto_columns.specs.declared.bounds.Bound.{Bound}
-use Rattle.lay_auto_columns.specs.AutoColumns.{sum_min}
+use Rattle.lay_grid.specs.declared.automatic.bounds.Bound.{Bound}
+use Rattle.lay_grid.specs.Automatic.AutoColumns.{sum_min}
 use Rattle.lay_box_cases.proofs.auto_columns.minimums.Goals as goal
 
 abbrev none : Bound

@@ -1,5 +1,5 @@
 use Rattle.std.proofs.Common.{◌≡◌, ◌*◌, ◌^◌, drop, pos, ◌+ℤ◌, ◌≤ℤ◌}
-use Rattle.lay_auto_columns.specs.AutoColumns.{sum_min}
+use Rattle.lay_grid.specs.Automatic.AutoColumns.{sum_min}
 use Rattle.lay_box_cases.proofs.auto_columns.minimums.Given as goal
 
 abbrev pub invariant-loop-bound : goal.invariant-loop-bound

@@ -1,5 +1,5 @@
 use Rattle.std.proofs.Common.{◌≤◌, length, All}
-use Rattle.lay_auto_columns.specs.Sizes.{MayBeSize}
+use Rattle.lay_grid.specs.Automatic.Sizes.{MayBeSize}
 use Rattle.lay_box_cases.proofs.lengths.sizes_or_none.Given as goal
 
 abbrev pub invariant-loop-word : goal.invariant-loop-word

@@ -1,5 +1,5 @@
 use Rattle.std.proofs.Common.{◌≡◌, take}
-use Rattle.lay_layout.specs.sizes.OwnBoxes.{OwnBoxesFit, no_own_box}
+use Rattle.lay_sizes.specs.OwnBoxes.{OwnBoxesFit, no_own_box}
 use Rattle.lay_cell_work.specs.CellColumns.{filled}
 use Rattle.lay_cell_work.specs.CellValues.{Places, own_boxes}
 use Rattle.lay_cell_work.proofs.columns.filled_boxes.Given as goal

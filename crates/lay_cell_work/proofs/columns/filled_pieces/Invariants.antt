@@ -1,5 +1,5 @@
 use Rattle.std.proofs.Common.{◌≡◌, [], map, take}
-use Rattle.lay_layout.specs.pieces.InnerPieces.{AreNearInnerPieces, pieces_or_none}
+use Rattle.lay_placements.specs.InnerPieces.{AreNearInnerPieces, pieces_or_none}
 use Rattle.lay_cell_work.specs.CellColumns.{filled}
 use Rattle.lay_cell_work.specs.CellValues.{Places, own_pieces}
 use Rattle.lay_cell_work.proofs.columns.filled_pieces.Given as goal

@@ -1,4 +1,4 @@
-use Rattle.lay_layout.specs.measure.MeasureInValue.{no_widths}
+use Rattle.lay_measure.specs.MeasureInValue.{no_widths}
 use Rattle.lay_cell_work.specs.CellValues.{Widths, own_widths}
 use Rattle.lay_cell_work.proofs.FilledColumns.{all_filled, one_more_filled}
 use Rattle.lay_cell_work.proofs.columns.filled_widths.Goals as goal

@@ -1,5 +1,5 @@
 use Rattle.std.proofs.Common.{◌≡◌, take}
-use Rattle.lay_layout.specs.measure.MeasureInValue.{no_widths}
+use Rattle.lay_measure.specs.MeasureInValue.{no_widths}
 use Rattle.lay_cell_work.specs.CellValues.{Widths, own_widths}
 use Rattle.lay_cell_work.specs.CellColumns.{filled}
 use Rattle.lay_cell_work.proofs.columns.filled_widths.Given as goal

@@ -1,5 +1,5 @@
 use Rattle.std.proofs.Common.{◌∙◌, ap, length}
-use Rattle.lay_layout.specs.sizes.OwnBoxes.{no_own_box}
+use Rattle.lay_sizes.specs.OwnBoxes.{no_own_box}
 use Rattle.lay_cell_work.specs.CellValues.{Places, own_boxes}
 use Rattle.lay_cell_work.proofs.FilledColumns.{filled_count}
 use Rattle.lay_cell_work.proofs.FilledParts.{refilled_table}

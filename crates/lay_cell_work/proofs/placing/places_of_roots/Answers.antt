@@ -1,6 +1,6 @@
 use Rattle.std.proofs.Common.{◌∙◌, ◌+◌, ◌-◌, ◌<◌, List, ap, length, slice_index_or, subst, arith}
-use Rattle.lay_layout.specs.context.Local.{IsLocal}
-use Rattle.lay_layout.specs.context.declared.value.Value.TheVariants as value
+use Rattle.lay_context.specs.Local.{IsLocal}
+use Rattle.lay_context.specs.declared.value.Value.TheVariants as value
 use Rattle.lay_cell_work.specs.CellInputs.{RootInput}
 use Rattle.lay_cell_work.specs.CellLocal.{whole_input}
 use Rattle.lay_cell_work.specs.CellValues.{Places}

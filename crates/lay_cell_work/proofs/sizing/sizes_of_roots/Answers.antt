@@ -1,7 +1,7 @@
 use Rattle.std.proofs.Common.{◌∙◌, ◌<◌, ◌∷◌, [], List, ap, length, length-append, slice_index_or, subst, sym, arith}
 use Rattle.std.proofs.lemmas.Option.{slice_get_within}
-use Rattle.lay_layout.specs.context.Local.{IsLocal}
-use Rattle.lay_layout.specs.context.declared.value.Value.TheVariants as value
+use Rattle.lay_context.specs.Local.{IsLocal}
+use Rattle.lay_context.specs.declared.value.Value.TheVariants as value
 use Rattle.lay_cell_work.specs.CellInputs.{RootInput}
 use Rattle.lay_cell_work.specs.CellLocal.{whole_input}
 use Rattle.lay_cell_work.specs.CellValues.{Sizes}

@@ -1,5 +1,5 @@
 use Rattle.std.proofs.Common.{◌∙◌, ap}
-use Rattle.lay_layout.specs.doc.Document.{Document}
+use Rattle.lay_doc.specs.Document.{Document}
 use Rattle.lay_hit.specs.Hits.{hit_of}
 use Rattle.lay_cli.proofs.at_point.piece_at.Goals as goal
 

@@ -1,7 +1,7 @@
 use Rattle.std.proofs.Common.{◌∷◌, [], map, refl}
 use Rattle.std.proofs.lemmas.List.{map-append}
 use Rattle.lay_contexts.specs.FormattingContexts.{formatting_context_at}
-use Rattle.lay_pieces.specs.InnerPieces.{pieces_or_none}
+use Rattle.lay_placements.specs.InnerPieces.{pieces_or_none}
 use Rattle.lay_context.specs.DocumentLayout.{flow_number, pieces_in}
 use Rattle.lay_context.proofs.GivenFacts.{no_inner_pieces_are_near, one_more_near, one_more_of}
 use Rattle.lay_context.proofs.given.inner_pieces.Goals as goal

@@ -1,6 +1,6 @@
 use Rattle.std.proofs.Common.{◌≡◌, map, take}
 use Rattle.lay_contexts.specs.FormattingContexts.{formatting_context_at}
-use Rattle.lay_pieces.specs.InnerPieces.{AreNearInnerPieces, pieces_or_none}
+use Rattle.lay_placements.specs.InnerPieces.{AreNearInnerPieces, pieces_or_none}
 use Rattle.lay_context.specs.DocumentLayout.{flow_number, pieces_in}
 use Rattle.lay_context.proofs.given.inner_pieces.Given as goal
 

@@ -1,5 +1,5 @@
 use Rattle.std.proofs.Common.{◌≡◌, length}
-use Rattle.lay_pieces.specs.Corners.{AreNearCorners}
+use Rattle.lay_placements.specs.Corners.{AreNearCorners}
 use Rattle.lay_context.proofs.CornerSteps.{PageCornersTo}
 use Rattle.lay_context.proofs.page_corners.page_corners.Given as goal
 

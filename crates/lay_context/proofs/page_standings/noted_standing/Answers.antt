@@ -1,5 +1,5 @@
 use Rattle.std.proofs.Common.{◌∙◌, arith, sym, subst}
-use Rattle.lay_pieces.specs.Standings.{IsStandingNear}
+use Rattle.lay_placements.specs.Standings.{IsStandingNear}
 use Rattle.lay_context.proofs.page_standings.noted_standing.Goals as goal
 
 pub standing_at-requires : goal.standing_at-requires

@@ -1,4 +1,4 @@
-use Rattle.lay_pieces.specs.Standings.{AreNearStandings}
+use Rattle.lay_placements.specs.Standings.{AreNearStandings}
 use Rattle.lay_context.specs.PageCorners.{ArePageStandings}
 use Rattle.lay_context.proofs.page_standings.page_standings.Given as goal
 

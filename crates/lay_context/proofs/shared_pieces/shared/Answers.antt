@@ -1,6 +1,6 @@
 use Rattle.std.proofs.Common.{[], ◌∷◌, map, refl, arith}
 use Rattle.std.proofs.lemmas.List.{length-map, map-append, take_more}
-use Rattle.lay_pieces.specs.InnerPieces.{pieces_or_none}
+use Rattle.lay_placements.specs.InnerPieces.{pieces_or_none}
 use Rattle.lay_context.proofs.shared_pieces.shared.Goals as goal
 
 pub loop-k-preserved : goal.loop-k-preserved

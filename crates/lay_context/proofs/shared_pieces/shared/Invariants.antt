@@ -1,5 +1,5 @@
 use Rattle.std.proofs.Common.{◌≡◌, map, take}
-use Rattle.lay_pieces.specs.InnerPieces.{pieces_or_none}
+use Rattle.lay_placements.specs.InnerPieces.{pieces_or_none}
 use Rattle.lay_context.proofs.shared_pieces.shared.Given as goal
 
 abbrev pub invariant-loop-k : goal.invariant-loop-k

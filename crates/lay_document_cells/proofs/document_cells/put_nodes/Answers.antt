@@ -1,7 +1,7 @@
 use Rattle.std.proofs.Common.{subst, sym}
 use Rattle.std.proofs.lemmas.List.{take_all}
 use Rattle.std.proofs.lemmas.List.Elements.{All-more, All-same}
-use Rattle.lay_layout.specs.doc.Laws.{PutsNode}
+use Rattle.lay_doc.specs.Laws.{PutsNode}
 use Rattle.lay_document_cells.proofs.document_cells.put_nodes.Goals as goal
 
 pub loop-edit-preserved : goal.loop-edit-preserved

@@ -1,4 +1,4 @@
-use Rattle.lay_list_steps.specs.changes.ContextFlags.{AreContextFlagsTo}
+use Rattle.lay_shape.specs.Touched.ContextFlags.{AreContextFlagsTo}
 use Rattle.lay_document_cells.proofs.document_table.measured_contexts.Given as goal
 
 abbrev pub invariant-loop-c : goal.invariant-loop-c

@@ -1,6 +1,6 @@
 use Rattle.std.proofs.Common.{◌∙◌, ap, sym, subst}
-use Rattle.lay_list_steps.specs.shape.Shapes.{shape_of}
-use Rattle.lay_later_cells.specs.KeptBoxes.{KeepBoxes}
+use Rattle.lay_shape.specs.Shapes.{shape_of}
+use Rattle.lay_shape.specs.KeptShapes.KeptBoxes.{KeepBoxes}
 use Rattle.lay_document_cells.proofs.following.follow_any.Goals as goal
 
 pub changed_boxes-requires : goal.changed_boxes-requires

@@ -1,4 +1,4 @@
-use Rattle.lay_board.proofs.lay_core.Shown.{whole_of}
+use Rattle.lay_core.proofs.Shown.{whole_of}
 use Rattle.lay_drive.proofs.JobsRun.{calls_left, ended_answers, ended_tables, made_is, refreshed_answers, started, tables_of}
 use Rattle.lay_drive.proofs.run.drive.Goals as goal
 

@@ -1,7 +1,7 @@
 use Rattle.std.proofs.Common.{◌≡◌, ℕ, ap, ◌∙◌, length, ◌+◌}
-use Rattle.lay_blocks.specs.Boxes.{box_at}
-use Rattle.lay_blocks.specs.FlowPlaces.{IsNearPlace, border_box, own_place, corner_at}
-use Rattle.lay_blocks.specs.Lengths.{length_at}
+use Rattle.lay_flow.specs.Blocks.Boxes.{box_at}
+use Rattle.lay_flow.specs.Blocks.FlowPlaces.{IsNearPlace, border_box, own_place, corner_at}
+use Rattle.lay_flow.specs.Blocks.Lengths.{length_at}
 use Rattle.lay_flow.proofs.BorderBoxSteps.{one_longer, one_more}
 use Rattle.lay_flow.proofs.border_boxes.border_boxes.Goals as goal
 

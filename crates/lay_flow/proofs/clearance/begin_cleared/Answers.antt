@@ -3,13 +3,13 @@ use Rattle.std.proofs.lemmas.List.{length-map}
 use Rattle.lay_units.specs.declared.length.Unit.{Unit as Length}
 use Rattle.lay_floats.specs.ClearEdge.{IsClearEdge}
 use Rattle.lay_floats.specs.declared.requests.Clear.{Clear}
-use Rattle.lay_blocks.specs.Lengths.{length_at}
-use Rattle.lay_blocks.specs.Children.{flag_at}
+use Rattle.lay_flow.specs.Blocks.Lengths.{length_at}
+use Rattle.lay_flow.specs.Blocks.Children.{flag_at}
 use Rattle.lay_flow.specs.Pass.Bounds.{clears_of, clear_edges_of, state_of, IsMarkNear, IsEdgeNear}
 use Rattle.lay_flow.specs.Pass.Knows.{AreExtentsKept}
 use Rattle.lay_flow.specs.Pass.Known.{placing_of}
 use Rattle.lay_flow.specs.declared.pass.RunStart.TheVariants.{HangsFrom as hangs_from}
-use Rattle.lay_blocks.specs.Weights.{weight}
+use Rattle.lay_flow.specs.Blocks.Weights.{weight}
 use Rattle.lay_flow.proofs.ClearSteps.{ready_cleared}
 use Rattle.lay_flow.proofs.PassFits.{begins_near, marks_near}
 use Rattle.lay_flow.specs.Pass.Known.{ArePlacedOn, IsReadyAt}

@@ -1,7 +1,7 @@
 use Rattle.std.proofs.Common.{ℕ, refl, sym, subst}
 use Rattle.lay_flow.proofs.ClearSteps.{knows_placed, ready_unasked}
 use Rattle.lay_flow.proofs.PlacedOn.{known_placed, known_placed_on, places_count, placed_to}
-use Rattle.lay_blocks.specs.Boxes.{parent_at}
+use Rattle.lay_flow.specs.Blocks.Boxes.{parent_at}
 use Rattle.lay_flow.specs.Pass.Bounds.{state_of}
 use Rattle.lay_flow.specs.Pass.Known.{ArePlacedOn, IsKnown, placing_of}
 use Rattle.lay_flow.specs.Pass.Knows.{AreExtentsKept}

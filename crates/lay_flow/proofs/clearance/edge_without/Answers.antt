@@ -3,7 +3,7 @@ use Rattle.lay_units.specs.Units.{IsNear}
 use Rattle.lay_flow.specs.Pass.Known.{placing_of}
 use Rattle.lay_flow.specs.Pass.Bounds.{IsEdgeNear, state_of, position_of, is_hanging}
 use Rattle.lay_flow.specs.Pass.Clears.{IsEdgeWithout}
-use Rattle.lay_blocks.specs.Weights.{weight}
+use Rattle.lay_flow.specs.Blocks.Weights.{weight}
 use Rattle.lay_flow.proofs.PlacedOn.{edge_of}
 use Rattle.lay_flow.proofs.ClearSteps.{hanging_edge, flowing_edge}
 use Rattle.lay_flow.proofs.PassFits.{begins_near, start_edge_near, ahead_near}

@@ -2,7 +2,7 @@ use Rattle.std.proofs.Common.{◌≡◌, arith, inl, inr, refl, subst, sym, ℕ,
 use Rattle.std.proofs.lemmas.Bool.{cases_lt}
 use Rattle.lay_floats.specs.declared.requests.Clear.{Clear}
 use Rattle.lay_floats.specs.declared.requests.Side.{Side}
-use Rattle.lay_blocks.specs.BlockFloats.{shape_at}
+use Rattle.lay_flow.specs.Blocks.BlockFloats.{shape_at}
 use Rattle.lay_flow.specs.Pass.Clears.{IsSideToClear}
 use Rattle.lay_flow.proofs.clearance.has_waiting_float.Goals as goal
 

@@ -1,5 +1,5 @@
 use Rattle.std.proofs.Common.{◌<◌, ◌≤◌, ℕ}
-use Rattle.lay_blocks.specs.BlockFloats.{shape_at}
+use Rattle.lay_flow.specs.Blocks.BlockFloats.{shape_at}
 use Rattle.lay_flow.specs.Pass.Clears.{IsSideToClear}
 use Rattle.lay_flow.proofs.clearance.has_waiting_float.Given as goal
 

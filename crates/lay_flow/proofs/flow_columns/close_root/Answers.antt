@@ -3,11 +3,11 @@ use Rattle.lay_units.specs.declared.length.Unit.{Unit as Length}
 use Rattle.lay_units.specs.Units.{IsNear}
 use Rattle.lay_floats.specs.declared.requests.Clear.TheVariants.{Both as clear_both}
 use Rattle.lay_heights.specs.AutoHeights.{root_height_of}
-use Rattle.lay_blocks.specs.declared.block.Block.{Block}
-use Rattle.lay_blocks.specs.Lengths.{length_at}
-use Rattle.lay_blocks.specs.BlockPositions.{border_height, is_solid, held_end}
-use Rattle.lay_blocks.specs.BlockSizes.{IsLineDepth}
-use Rattle.lay_blocks.specs.Weights.{weight}
+use Rattle.lay_flow.specs.declared.blocks.block.Block.{Block}
+use Rattle.lay_flow.specs.Blocks.Lengths.{length_at}
+use Rattle.lay_flow.specs.Blocks.BlockPositions.{border_height, is_solid, held_end}
+use Rattle.lay_flow.specs.Blocks.BlockSizes.{IsLineDepth}
+use Rattle.lay_flow.specs.Blocks.Weights.{weight}
 use Rattle.lay_flow.specs.Pass.Bounds.{state_of, IsMarkNear}
 use Rattle.lay_flow.specs.Pass.Knows.{AreExtentsKept}
 use Rattle.lay_flow.specs.Pass.Known.{placing_of}
@@ -15,7 +15,7 @@ use Rattle.lay_flow.proofs.SoFar.{Wrote}
 use Rattle.lay_flow.proofs.PassFits.{begins_near, mark_is_near, marks_near, end_is_near}
 use Rattle.lay_flow.specs.Pass.Known.{ArePlacedOn, IsFinished}
 use Rattle.lay_flow.proofs.PlacedOn.{known_placed, line_depth, known_placed_on, places_count, within_extents, placed_to}
-use Rattle.lay_blocks.proofs.WeightFacts.{light_at}
+use Rattle.lay_flow.proofs.BlocksLemmas.WeightFacts.{light_at}
 use Rattle.lay_flow.proofs.PlaceSteps.{clear_edge_position}
 use Rattle.lay_flow.proofs.PassEnds.{all_places, sized_boxes}
 use Rattle.lay_flow.proofs.RunReach.{RunEnds}

@@ -1,7 +1,7 @@
 use Rattle.std.proofs.Common.{◌<◌, ◌≤◌, ◌-◌, arith, length, ℕ, subst, sym, inl, inr}
 use Rattle.std.proofs.lemmas.Bool.{cases_lt}
-use Rattle.lay_blocks.specs.Boxes.{parent_at}
-use Rattle.lay_blocks.proofs.BoxTrees.{parent_before, parents_together}
+use Rattle.lay_flow.specs.Blocks.Boxes.{parent_at}
+use Rattle.lay_flow.proofs.BlocksLemmas.BoxTrees.{parent_before, parents_together}
 use Rattle.lay_flow.specs.Pass.Known.{IsKnown}
 use Rattle.lay_flow.proofs.flow_columns.close_to.Goals as goal
 

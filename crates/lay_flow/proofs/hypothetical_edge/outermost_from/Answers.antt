@@ -1,7 +1,7 @@
 use Rattle.std.proofs.Common.{arith, inl, inr, ap}
 use Rattle.std.proofs.lemmas.Bool.{cases_lt, cases_eq}
-use Rattle.lay_blocks.specs.Boxes.{parent_at}
-use Rattle.lay_blocks.proofs.BoxTrees.{parents_together}
+use Rattle.lay_flow.specs.Blocks.Boxes.{parent_at}
+use Rattle.lay_flow.proofs.BlocksLemmas.BoxTrees.{parents_together}
 use Rattle.lay_flow.proofs.hypothetical_edge.outermost_from.Goals as goal
 
 pub loop-outermost-preserved : goal.loop-outermost-preserved

@@ -1,15 +1,15 @@
-use Rattle.lay_blocks.specs.declared.block.Block.{Block}
-use Rattle.lay_blocks.specs.BlockPositions.{is_solid}
-use Rattle.lay_blocks.specs.MarginRuns.{block_at}
+use Rattle.lay_flow.specs.declared.blocks.block.Block.{Block}
+use Rattle.lay_flow.specs.Blocks.BlockPositions.{is_solid}
+use Rattle.lay_flow.specs.Blocks.MarginRuns.{block_at}
 use Rattle.std.proofs.Common.{◌≡◌, false, arith, subst, sym, List, ap}
 use Rattle.lay_units.specs.declared.length.Unit.{Unit as Length}
 use Rattle.lay_units.specs.Units.{IsNear}
-use Rattle.lay_blocks.specs.Lengths.{length_at}
+use Rattle.lay_flow.specs.Blocks.Lengths.{length_at}
 use Rattle.lay_flow.specs.Pass.Known.{placing_of}
 use Rattle.lay_flow.specs.Pass.Bounds.{state_of}
-use Rattle.lay_blocks.proofs.WeightFacts.{light_at}
-use Rattle.lay_blocks.specs.Weights.{weight}
-use Rattle.lay_blocks.proofs.BlockKinds.{joins_flow, placed_none}
+use Rattle.lay_flow.proofs.BlocksLemmas.WeightFacts.{light_at}
+use Rattle.lay_flow.specs.Blocks.Weights.{weight}
+use Rattle.lay_flow.proofs.BlocksLemmas.BlockKinds.{joins_flow, placed_none}
 use Rattle.lay_flow.proofs.SoFar.{Wrote}
 use Rattle.lay_flow.proofs.PassFits.{begins_near, mark_is_near, box_height_position}
 use Rattle.lay_flow.proofs.PassSteps.{knows_joined}

@@ -1,17 +1,17 @@
 use Rattle.std.proofs.Common.{◌≡◌, ◌<◌, ℕ, false, arith, subst, sym, List, ap, ◌∙◌, length, refl}
 use Rattle.lay_units.specs.Units.{IsPosition, IsBoxSize, IsNear}
 use Rattle.lay_units.specs.declared.length.Unit.{Unit as Length}
-use Rattle.lay_blocks.specs.declared.block.Block.{Block}
-use Rattle.lay_blocks.specs.Lengths.{length_at}
-use Rattle.lay_blocks.specs.BlockSizes.{IsLineDepth}
-use Rattle.lay_blocks.specs.BlockPositions.{is_solid}
-use Rattle.lay_blocks.specs.MarginRuns.{block_at}
+use Rattle.lay_flow.specs.declared.blocks.block.Block.{Block}
+use Rattle.lay_flow.specs.Blocks.Lengths.{length_at}
+use Rattle.lay_flow.specs.Blocks.BlockSizes.{IsLineDepth}
+use Rattle.lay_flow.specs.Blocks.BlockPositions.{is_solid}
+use Rattle.lay_flow.specs.Blocks.MarginRuns.{block_at}
 use Rattle.lay_flow.specs.Pass.Bounds.{state_of, IsMarkNear}
-use Rattle.lay_blocks.specs.Boxes.{parent_at}
+use Rattle.lay_flow.specs.Blocks.Boxes.{parent_at}
 use Rattle.lay_flow.specs.Pass.Known.{placing_of}
 use Rattle.lay_flow.specs.declared.pass.RunStart.TheVariants.{At as starts_at}
-use Rattle.lay_blocks.proofs.WeightFacts.{light_at}
-use Rattle.lay_blocks.specs.Weights.{weight}
+use Rattle.lay_flow.proofs.BlocksLemmas.WeightFacts.{light_at}
+use Rattle.lay_flow.specs.Blocks.Weights.{weight}
 use Rattle.lay_flow.proofs.SoFar.{Wrote}
 use Rattle.lay_flow.proofs.PassFits.{begins_near, mark_is_near, marks_near, end_is_near, box_height_position, extent_position}
 use Rattle.lay_flow.proofs.PassSteps.{knows_parted}
@@ -19,7 +19,7 @@ use Rattle.lay_flow.specs.Pass.Known.{ArePlacedOn, IsKnown}
 use Rattle.lay_flow.proofs.PlacedOn.{known_placed, line_depth, known_placed_on, places_count, within_extents, placed_to}
 use Rattle.lay_flow.specs.Pass.Knows.{AreExtentsKept}
 use Rattle.lay_flow.proofs.RunReach.{RunEnds}
-use Rattle.lay_blocks.proofs.Truths.{true_or}
+use Rattle.lay_flow.proofs.BlocksLemmas.Truths.{true_or}
 use Rattle.lay_flow.proofs.WroteColumns.{wrote_length}
 use Rattle.lay_flow.proofs.margin_steps.close_parted.Goals as goal
 

@@ -1,7 +1,7 @@
 use Rattle.std.proofs.Common.{arith, true, subst, sym, List, Bool, pos}
 use Rattle.lay_units.specs.declared.length.Unit.{Unit as Length}
-use Rattle.lay_blocks.specs.Lengths.{length_at}
-use Rattle.lay_blocks.specs.Children.{flag_at}
+use Rattle.lay_flow.specs.Blocks.Lengths.{length_at}
+use Rattle.lay_flow.specs.Blocks.Children.{flag_at}
 use Rattle.lay_flow.specs.Pass.Known.{placing_of}
 use Rattle.lay_flow.specs.Pass.Bounds.{state_of}
 use Rattle.lay_flow.proofs.SoFar.{Wrote}

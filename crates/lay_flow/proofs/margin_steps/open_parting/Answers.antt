@@ -1,11 +1,11 @@
 use Rattle.std.proofs.Common.{arith, ap, ◌∙◌, ◌+ℤ◌}
 use Rattle.std.proofs.lemmas.Int.{ints}
 use Rattle.lay_units.specs.declared.length.Unit.{Unit as Length}
-use Rattle.lay_blocks.specs.declared.block.Block.{Block}
+use Rattle.lay_flow.specs.declared.blocks.block.Block.{Block}
 use Rattle.lay_flow.specs.Pass.Known.{placing_of}
 use Rattle.lay_flow.specs.Pass.Bounds.{state_of, position_of}
-use Rattle.lay_blocks.proofs.WeightFacts.{light_at, weight_up}
-use Rattle.lay_blocks.specs.Weights.{weight}
+use Rattle.lay_flow.proofs.BlocksLemmas.WeightFacts.{light_at, weight_up}
+use Rattle.lay_flow.specs.Blocks.Weights.{weight}
 use Rattle.lay_flow.proofs.PassFits.{begins_near, end_near, mark_is_near}
 use Rattle.lay_flow.proofs.PassSteps.{knows_parting}
 use Rattle.lay_flow.proofs.Openings.{pushed}

@@ -1,15 +1,15 @@
 use Rattle.std.proofs.Common.{◌≡◌, ◌<◌, arith, sym, ap, ◌∙◌, subst, ◌+ℤ◌}
 use Rattle.std.specs.Int.{int_max}
-use Rattle.lay_blocks.specs.Boxes.{parent_at}
-use Rattle.lay_blocks.proofs.BoxTrees.{parent_before}
+use Rattle.lay_flow.specs.Blocks.Boxes.{parent_at}
+use Rattle.lay_flow.proofs.BlocksLemmas.BoxTrees.{parent_before}
 use Rattle.lay_units.specs.Units.{IsPosition}
 use Rattle.lay_units.specs.declared.length.Unit.{Unit as Length}
-use Rattle.lay_blocks.specs.Lengths.{length_at}
-use Rattle.lay_blocks.specs.MarginRuns.{block_at}
-use Rattle.lay_blocks.proofs.FlowBoxFacts.{block_fits}
+use Rattle.lay_flow.specs.Blocks.Lengths.{length_at}
+use Rattle.lay_flow.specs.Blocks.MarginRuns.{block_at}
+use Rattle.lay_flow.proofs.BlocksLemmas.FlowBoxFacts.{block_fits}
 use Rattle.lay_flow.proofs.PlaceSteps.{ceiling_near, mark_is_position}
-use Rattle.lay_blocks.specs.Weights.{weight}
-use Rattle.lay_blocks.proofs.WeightFacts.{light_at, weight_up}
+use Rattle.lay_flow.specs.Blocks.Weights.{weight}
+use Rattle.lay_flow.proofs.BlocksLemmas.WeightFacts.{light_at, weight_up}
 use Rattle.lay_flow.proofs.placement.ceiling.Goals as goal
 
 pub sum_of-content-requires-clause-a : goal.sum_of-content-requires-clause-a

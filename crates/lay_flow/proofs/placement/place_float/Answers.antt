@@ -2,17 +2,17 @@ use Rattle.std.proofs.Common.{◌≡◌, arith, refl, sym, ap, ◌∙◌, subst,
 use Rattle.lay_floats.specs.declared.requests.FloatReq.{FloatReq}
 use Rattle.lay_floats.specs.Fits.{BoxFits, RequestFits}
 use Rattle.lay_floats.specs.FloatPlace.{IsFloatPlace, placed_at}
-use Rattle.lay_blocks.specs.declared.block.Block.{Block}
-use Rattle.lay_blocks.specs.BlockFloats.{Spot, float_request, no_lines}
-use Rattle.lay_blocks.specs.BlockPositions.{is_placed}
-use Rattle.lay_blocks.specs.MarginRuns.{block_at}
-use Rattle.lay_blocks.specs.Weights.{weight}
+use Rattle.lay_flow.specs.declared.blocks.block.Block.{Block}
+use Rattle.lay_flow.specs.Blocks.BlockFloats.{Spot, float_request, no_lines}
+use Rattle.lay_flow.specs.Blocks.BlockPositions.{is_placed}
+use Rattle.lay_flow.specs.Blocks.MarginRuns.{block_at}
+use Rattle.lay_flow.specs.Blocks.Weights.{weight}
 use Rattle.lay_flow.specs.Pass.Placed.{IsCeilingNear}
 use Rattle.lay_flow.specs.Pass.Known.{placing_of}
-use Rattle.lay_blocks.proofs.FlowBoxFacts.{float_block, positive_float, shape_fits}
+use Rattle.lay_flow.proofs.BlocksLemmas.FlowBoxFacts.{float_block, positive_float, shape_fits}
 use Rattle.lay_flow.proofs.PlaceSteps.{box_fits, request_fits, knows_float}
 use Rattle.lay_flow.proofs.PlacedOn.{pushed_on, counted, placed_count, placed_so_far}
-use Rattle.lay_blocks.proofs.WeightFacts.{light_at}
+use Rattle.lay_flow.proofs.BlocksLemmas.WeightFacts.{light_at}
 use Rattle.lay_flow.proofs.placement.place_float.Goals as goal
 
 pub ceiling-top-requires : goal.ceiling-top-requires

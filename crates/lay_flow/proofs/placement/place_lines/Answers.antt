@@ -2,18 +2,18 @@ use Rattle.std.proofs.Common.{slice_index_or, ◌≡◌, ◌+◌, ◌+ℤ◌, �
 use Rattle.lay_units.specs.Units.{IsPosition}
 use Rattle.lay_units.specs.declared.length.Unit.{Unit as Length}
 use Rattle.lay_lines.specs.Lines.{lines_of}
-use Rattle.lay_blocks.specs.BlockFloats.{Spot}
-use Rattle.lay_blocks.specs.Lengths.{length_at}
-use Rattle.lay_blocks.specs.MarginRuns.{block_at}
-use Rattle.lay_blocks.specs.Weights.{weight}
+use Rattle.lay_flow.specs.Blocks.BlockFloats.{Spot}
+use Rattle.lay_flow.specs.Blocks.Lengths.{length_at}
+use Rattle.lay_flow.specs.Blocks.MarginRuns.{block_at}
+use Rattle.lay_flow.specs.Blocks.Weights.{weight}
 use Rattle.lay_flow.specs.Pass.Known.{placing_of}
-use Rattle.lay_blocks.proofs.BlockKinds.{lines_placed}
-use Rattle.lay_blocks.proofs.IndexedBoxes.{box_read}
+use Rattle.lay_flow.proofs.BlocksLemmas.BlockKinds.{lines_placed}
+use Rattle.lay_flow.proofs.BlocksLemmas.IndexedBoxes.{box_read}
 use Rattle.lay_flow.proofs.LaidLines.{end_near, floats_near, laid_lines, laid_near, mark_position, top_near}
 use Rattle.lay_flow.proofs.PlaceSteps.{knows_lines}
 use Rattle.lay_flow.proofs.PlacedOn.{pushed_on, counted, placed_count, placed_so_far}
 use Rattle.lay_flow.proofs.SoFar.{Wrote}
-use Rattle.lay_blocks.proofs.WeightFacts.{light_at}
+use Rattle.lay_flow.proofs.BlocksLemmas.WeightFacts.{light_at}
 use Rattle.lay_flow.proofs.WroteColumns.{wrote_extent, wrote_length}
 use Rattle.lay_flow.proofs.placement.place_lines.Goals as goal
 

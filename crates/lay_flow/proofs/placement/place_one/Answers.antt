@@ -1,6 +1,6 @@
 use Rattle.std.proofs.Common.{rules, ap}
 use Rattle.lay_floats.specs.declared.requests.Place.{Place}
-use Rattle.lay_blocks.specs.BlockFloats.{Spot, no_lines}
+use Rattle.lay_flow.specs.Blocks.BlockFloats.{Spot, no_lines}
 use Rattle.lay_flow.specs.Pass.Known.{placing_of}
 use Rattle.lay_flow.proofs.PlaceSteps.{knows_other}
 use Rattle.lay_flow.proofs.PlacedOn.{pushed_on, counted, placed_count, placed_so_far}

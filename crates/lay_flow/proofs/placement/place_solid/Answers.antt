@@ -4,14 +4,14 @@ use Rattle.lay_floats.specs.Fits.{SolidFits}
 use Rattle.lay_floats.specs.SolidPlace.{IsSolidPlace}
 use Rattle.lay_units.specs.declared.length.Unit.{Unit as Length}
 use Rattle.lay_units.specs.Units.{IsNear}
-use Rattle.lay_blocks.specs.Lengths.{length_at}
-use Rattle.lay_blocks.specs.BlockFloats.{Spot, no_lines, solid_request, shape_at}
-use Rattle.lay_blocks.specs.Weights.{weight}
+use Rattle.lay_flow.specs.Blocks.Lengths.{length_at}
+use Rattle.lay_flow.specs.Blocks.BlockFloats.{Spot, no_lines, solid_request, shape_at}
+use Rattle.lay_flow.specs.Blocks.Weights.{weight}
 use Rattle.lay_flow.specs.Pass.Known.{placing_of}
-use Rattle.lay_blocks.proofs.BlockKinds.{solid_placed}
-use Rattle.lay_blocks.proofs.FlowBoxFacts.{positive_solid, shape_fits, solid_flows}
+use Rattle.lay_flow.proofs.BlocksLemmas.BlockKinds.{solid_placed}
+use Rattle.lay_flow.proofs.BlocksLemmas.FlowBoxFacts.{positive_solid, shape_fits, solid_flows}
 use Rattle.lay_flow.proofs.PlacedOn.{pushed_on, counted, placed_count, placed_so_far}
-use Rattle.lay_blocks.proofs.WeightFacts.{light_at}
+use Rattle.lay_flow.proofs.BlocksLemmas.WeightFacts.{light_at}
 use Rattle.lay_flow.proofs.SoFar.{Wrote}
 use Rattle.lay_flow.proofs.WroteColumns.{wrote_extent, wrote_length}
 use Rattle.lay_flow.proofs.PassFits.{mark_is_near}

@@ -1,5 +1,5 @@
 use Rattle.std.proofs.Common.{◌≡◌, ◌∙◌, ap, false, sym}
-use Rattle.lay_items.specs.InlineContents.{AreMarkedContents}
+use Rattle.lay_line_items.specs.InlineContents.{AreMarkedContents}
 use Rattle.lay_flow_boxes.specs.AskedContents.{AreHolders, is_any_asked}
 use Rattle.lay_flow_boxes.proofs.AskedSteps.{asked_contents, marked_asked, nothing_asked}
 use Rattle.lay_flow_boxes.proofs.asked_contents.contents_of.Goals as goal

@@ -1,5 +1,5 @@
 use Rattle.std.proofs.Common.{◌≡◌, ◌∙◌, sym, arith}
-use Rattle.lay_content.specs.BoxMeasuresValue.{BoxMeasuresValue}
+use Rattle.lay_line_measures.specs.BoxMeasuresValue.{BoxMeasuresValue}
 use Rattle.lay_flow_boxes.specs.ContextBlocks.{flow_box_of, is_in_lines}
 use Rattle.lay_flow_boxes.specs.FlowShapes.{measures_in}
 use Rattle.lay_flow_boxes.proofs.FlowFacts.{box_is, first_out, in_lines_is, kind_inside, kind_outside, kind_with}

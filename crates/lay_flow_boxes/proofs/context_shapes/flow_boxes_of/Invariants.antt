@@ -1,5 +1,5 @@
 use Rattle.std.proofs.Common.{◌≡◌, ◌<◌, ℕ, length}
-use Rattle.lay_blocks.specs.Boxes.{box_at}
+use Rattle.lay_flow.specs.Blocks.Boxes.{box_at}
 use Rattle.lay_flow_boxes.specs.ContextBlocks.{flow_box_of}
 use Rattle.lay_flow_boxes.specs.FlowShapes.{measures_in}
 use Rattle.lay_flow_boxes.proofs.context_shapes.flow_boxes_of.Given as goal

@@ -1,5 +1,5 @@
 use Rattle.std.proofs.Common.{◌≡◌, ◌∙◌, refl}
-use Rattle.lay_items.specs.InlineSegments.{items_in}
+use Rattle.lay_line_items.specs.InlineSegments.{items_in}
 use Rattle.lay_flow_boxes.proofs.line_boxes.content_of_items.Goals as goal
 
 pub returns : goal.returns

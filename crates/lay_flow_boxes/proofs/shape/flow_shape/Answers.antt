@@ -1,5 +1,5 @@
 use Rattle.std.proofs.Common.{rules, ◌≤◌, length}
-use Rattle.lay_blocks.specs.Weights.{weight}
+use Rattle.lay_flow.specs.Blocks.Weights.{weight}
 use Rattle.lay_flow_boxes.specs.ContextBlocks.{AreFlowBoxesOf}
 use Rattle.lay_flow_boxes.specs.FlowShapes.{measures_in}
 use Rattle.lay_flow_boxes.proofs.FlowFacts.{are_flow_boxes}

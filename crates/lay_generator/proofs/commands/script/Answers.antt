@@ -1,5 +1,5 @@
 use Rattle.std.proofs.Common.{◌≡◌, ◌∙◌, ◌+◌, ◌-◌, ◌<◌, ◌≤◌, ◌∷◌, [], length, sym, ap, arith, length-append}
-use Rattle.lay_edits.specs.declared.command.Cmd.TheVariants.{Sync}
+use Rattle.lay_history.specs.declared.edits.command.Cmd.TheVariants.{Sync}
 use Rattle.lay_generator.proofs.Batching.{few_batches}
 use Rattle.lay_generator.proofs.Steps.{edits_step, state_after_step, few_more}
 use Rattle.lay_generator.proofs.commands.script.Goals as goal

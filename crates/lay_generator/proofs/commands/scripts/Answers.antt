@@ -1,5 +1,5 @@
 use Rattle.std.proofs.Common.{◌≡◌, ◌∙◌, ◌+◌, ◌-◌, ◌<◌, ◌++◌, ◌∷◌, [], List, sym, ap, arith, append_assoc}
-use Rattle.lay_edits.specs.declared.command.Cmd.{Cmd}
+use Rattle.lay_history.specs.declared.edits.command.Cmd.{Cmd}
 use Rattle.lay_generator.specs.Commands.{script, script_end, scripts}
 use Rattle.lay_generator.proofs.Steps.{commands_counted, lists_counted, reads_counted, scripts_step}
 use Rattle.lay_generator.proofs.commands.scripts.Goals as goal

@@ -1,8 +1,8 @@
 use Rattle.std.proofs.Common.{◌≡◌, ◌∙◌, ◌++◌, ℕ, List, get_or, ap, sym, subst}
 use Rattle.std.proofs.lemmas.List.Elements.{All-get_or}
 use Rattle.lay_units.specs.Units.{IsUsed}
-use Rattle.lay_line_content.specs.declared.frame.Frame.{Frame}
-use Rattle.lay_line_content.specs.LineContents.{boxes_of}
+use Rattle.lay_lines.specs.declared.content.frame.Frame.{Frame}
+use Rattle.lay_lines.specs.Content.LineContents.{boxes_of}
 use Rattle.lay_inlines.specs.Bounds.{RowWithin}
 use Rattle.lay_inlines.specs.LinePieces.{pieces_if_seen}
 use Rattle.lay_inlines.specs.OpenBoxes.{open_after}

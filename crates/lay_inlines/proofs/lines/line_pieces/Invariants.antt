@@ -1,6 +1,6 @@
 use Rattle.std.proofs.Common.{◌≡◌, ◌≤◌, ◌^◌, ◌++◌, [], drop}
 use Rattle.lay_units.specs.Units.{IsUsed}
-use Rattle.lay_line_content.specs.LineContents.{boxes_of, spread_of}
+use Rattle.lay_lines.specs.Content.LineContents.{boxes_of, spread_of}
 use Rattle.lay_inlines.specs.LinePieces.{pieces_of, pieces_from}
 use Rattle.lay_inlines.proofs.lines.line_pieces.Given as goal
 

@@ -1,5 +1,5 @@
 use Rattle.std.proofs.Common.{◌∙◌, ◌+◌, List, ℕ, drop, get_or, ap, sym, rules}
-use Rattle.lay_line_content.specs.declared.content.Part.{Part}
+use Rattle.lay_lines.specs.declared.content.content.Part.{Part}
 use Rattle.lay_inlines.specs.OpenBoxes.{open_after}
 use Rattle.lay_inlines.specs.Strokes.{parts_of}
 use Rattle.lay_inlines.proofs.Content.{parts_more}

@@ -1,7 +1,7 @@
 use Rattle.std.proofs.Common.{◌∙◌, ◌++◌, ◌+◌, List, drop, get_or, ap, sym, subst, rules}
-use Rattle.lay_line_content.specs.declared.content.Part.{Part}
-use Rattle.lay_line_content.specs.declared.pen.Pen.{Pen}
-use Rattle.lay_line_content.specs.Pens.{over_all}
+use Rattle.lay_lines.specs.declared.content.content.Part.{Part}
+use Rattle.lay_lines.specs.declared.content.pen.Pen.{Pen}
+use Rattle.lay_lines.specs.Content.Pens.{over_all}
 use Rattle.lay_inlines.specs.Bounds.{PensWithin}
 use Rattle.lay_inlines.specs.Looks.{LookAs}
 use Rattle.lay_inlines.specs.Raises.{RaisesValue, raises_after_all}

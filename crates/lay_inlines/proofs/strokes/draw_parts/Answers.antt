@@ -1,8 +1,8 @@
 use Rattle.std.proofs.Common.{◌∙◌, ◌++◌, ◌+◌, List, drop, ap, refl, sym, subst, rules}
 use Rattle.std.proofs.lemmas.List.{drop_more}
-use Rattle.lay_line_content.specs.declared.content.Part.{Part}
-use Rattle.lay_line_content.specs.declared.pen.Pen.{Pen}
-use Rattle.lay_line_content.specs.Pens.{over_all}
+use Rattle.lay_lines.specs.declared.content.content.Part.{Part}
+use Rattle.lay_lines.specs.declared.content.pen.Pen.{Pen}
+use Rattle.lay_lines.specs.Content.Pens.{over_all}
 use Rattle.lay_inlines.specs.Bounds.{PensWithin}
 use Rattle.lay_inlines.specs.Looks.{LookAs}
 use Rattle.lay_inlines.specs.Raises.{RaisesValue, raises_after_all}

@@ -1,5 +1,5 @@
 use Rattle.std.proofs.Common.{◌≡◌, ◌++◌, drop}
-use Rattle.lay_line_content.specs.Pens.{over_all}
+use Rattle.lay_lines.specs.Content.Pens.{over_all}
 use Rattle.lay_inlines.specs.Bounds.{PensWithin}
 use Rattle.lay_inlines.specs.Looks.{LookAs}
 use Rattle.lay_inlines.specs.Raises.{raises_after_all}

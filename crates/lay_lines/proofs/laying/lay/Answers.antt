@@ -1,10 +1,10 @@
 use Rattle.std.proofs.Common.{◌∙◌, ◌^◌, [], List, inl, inr, ap, arith, sym, subst}
 use Rattle.std.proofs.lemmas.Bool.{cases_lt}
 use Rattle.lay_floats.specs.declared.placed.Placed.{Placed}
-use Rattle.lay_line_content.specs.declared.content.Stretch.{Stretch}
-use Rattle.lay_line_content.specs.declared.frame.Frame.{Frame}
-use Rattle.lay_line_content.specs.LineContents.{boxes_of}
-use Rattle.lay_line_content.proofs.Outcomes.{at_err, not_both}
+use Rattle.lay_lines.specs.declared.content.content.Stretch.{Stretch}
+use Rattle.lay_lines.specs.declared.content.frame.Frame.{Frame}
+use Rattle.lay_lines.specs.Content.LineContents.{boxes_of}
+use Rattle.lay_lines.proofs.ContentLemmas.Outcomes.{at_err, not_both}
 use Rattle.lay_lines.specs.Lines.{AreLines, lines_of, frame_of}
 use Rattle.lay_lines.specs.Meeting.{none_met, IsFront}
 use Rattle.lay_lines.specs.Rows.{AreRows, CanLay, position_of}

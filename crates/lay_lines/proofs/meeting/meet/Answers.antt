@@ -2,7 +2,7 @@ use Rattle.std.proofs.Common.{◌≡◌, ◌∙◌, ◌++◌, ◌∷◌, [], ref
 use Rattle.lay_floats.specs.declared.requests.FloatReq.{FloatReq}
 use Rattle.lay_floats.specs.FloatPlace.{IsFloatPlace, placed_at}
 use Rattle.lay_floats.specs.Fits.{BoxFits}
-use Rattle.lay_line_content.proofs.Outcomes.{at_err}
+use Rattle.lay_lines.proofs.ContentLemmas.Outcomes.{at_err}
 use Rattle.lay_lines.specs.Meeting.{State, state_of, below, stood}
 use Rattle.lay_lines.specs.Meeting.MeetsFloat.{stands, waits}
 use Rattle.lay_lines.proofs.Chains.{front_trans, all_front}

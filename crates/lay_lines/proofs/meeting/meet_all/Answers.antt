@@ -1,5 +1,5 @@
 use Rattle.std.proofs.lemmas.Option.{slice_get-get_or}
-use Rattle.lay_line_content.proofs.Outcomes.{at_err}
+use Rattle.lay_lines.proofs.ContentLemmas.Outcomes.{at_err}
 use Rattle.lay_lines.specs.Meeting.{state_of, MeetsAt}
 use Rattle.lay_lines.proofs.Chains.{chain_more}
 use Rattle.lay_lines.proofs.Fronts.{meets_stopped}

@@ -1,8 +1,8 @@
 use Rattle.std.proofs.Common.{◌∙◌, ◌||◌, ◌+ℤ◌, if◌then◌else◌, refl, ap, sym}
-use Rattle.lay_line_content.specs.declared.frame.Extent.{Extent}
-use Rattle.lay_line_content.specs.Extents.{any_shows, height_of}
-use Rattle.lay_line_content.proofs.Outcomes.{at_err}
-use Rattle.lay_line_content.proofs.PenOrder.{some_at}
+use Rattle.lay_lines.specs.declared.content.frame.Extent.{Extent}
+use Rattle.lay_lines.specs.Content.Extents.{any_shows, height_of}
+use Rattle.lay_lines.proofs.ContentLemmas.Outcomes.{at_err}
+use Rattle.lay_lines.proofs.ContentLemmas.PenOrder.{some_at}
 use Rattle.lay_lines.specs.Meeting.{State, state_of}
 use Rattle.lay_lines.specs.Rows.{position_of}
 use Rattle.lay_lines.proofs.Chains.{all_front, front_trans}

@@ -1,7 +1,7 @@
 use Rattle.std.proofs.Common.{◌≡◌, ◌∙◌, sym, subst}
 use Rattle.std.proofs.lemmas.Option.{same_Some}
-use Rattle.lay_line_content.specs.declared.content.Stretch.{Stretch}
-use Rattle.lay_line_content.proofs.Outcomes.{at_err}
+use Rattle.lay_lines.specs.declared.content.content.Stretch.{Stretch}
+use Rattle.lay_lines.proofs.ContentLemmas.Outcomes.{at_err}
 use Rattle.lay_lines.specs.Meeting.{state_of, Meets}
 use Rattle.lay_lines.proofs.Steps.{stretch_is, heads_to, heads_from, can_heads}
 use Rattle.lay_lines.proofs.row.headed_top.Goals as goal

@@ -1,5 +1,5 @@
 use Rattle.std.proofs.Common.{◌≡◌, ℤ, [], refl, sym, subst}
-use Rattle.lay_line_content.proofs.Outcomes.{at_err}
+use Rattle.lay_lines.proofs.ContentLemmas.Outcomes.{at_err}
 use Rattle.lay_lines.specs.Meeting.{State, state_of, CanMeetAll, Meets}
 use Rattle.lay_lines.specs.Rows.{emptied, row_of, position_of}
 use Rattle.lay_lines.proofs.Chains.{front_trans}

@@ -1,8 +1,8 @@
 use Rattle.std.proofs.Common.{◌≡◌, List, IfOk, ap, subst}
 use Rattle.lay_valign.specs.declared.parts.Part.{Part as LinePart}
 use Rattle.lay_valign.specs.LineShape.{IsShape}
-use Rattle.lay_line_content.specs.declared.content.InlineStart.{InlineStart}
-use Rattle.lay_line_content.specs.Extents.{Reading}
+use Rattle.lay_lines.specs.declared.content.content.InlineStart.{InlineStart}
+use Rattle.lay_lines.specs.Content.Extents.{Reading}
 use Rattle.lay_lines.proofs.NoBoxes.{same_reading}
 use Rattle.lay_lines.proofs.row.row_shape.Goals as goal
 

@@ -1,6 +1,6 @@
 use Rattle.std.proofs.Common.{◌∙◌, ◌++◌, ◌∷◌, ◌+◌, ◌<◌, Bool, IsFalse, [], length, refl, ap, sym, subst, rules}
 use Rattle.lay_units.specs.declared.length.Unit.{Unit}
-use Rattle.lay_line_content.proofs.Outcomes.{at_err}
+use Rattle.lay_lines.proofs.ContentLemmas.Outcomes.{at_err}
 use Rattle.lay_lines.specs.Meeting.{none_met, state_of}
 use Rattle.lay_lines.specs.Rows.{Row, Laid, RowsTo, position_of, row_of}
 use Rattle.lay_lines.proofs.Chains.{all_front}

@@ -1,6 +1,6 @@
 use Rattle.std.proofs.Common.{◌≡◌, ◌<◌, inl, inr, false, refl, arith}
 use Rattle.std.proofs.lemmas.Bool.{cases_lt}
-use Rattle.lay_line_content.proofs.Outcomes.{not_both}
+use Rattle.lay_lines.proofs.ContentLemmas.Outcomes.{not_both}
 use Rattle.lay_lines.proofs.Steps.{first_alone, later_none, fit_at, fit_of}
 use Rattle.lay_lines.proofs.taking.is_taken.Goals as goal
 

@@ -1,7 +1,7 @@
 use Rattle.std.proofs.Common.{◌∙◌, ℕ, ◌+◌, ap, sym, subst, arith}
-use Rattle.lay_line_content.specs.declared.content.Stretch.{Stretch}
-use Rattle.lay_line_content.proofs.Outcomes.{at_err}
-use Rattle.lay_line_content.proofs.PenOrder.{some_at}
+use Rattle.lay_lines.specs.declared.content.content.Stretch.{Stretch}
+use Rattle.lay_lines.proofs.ContentLemmas.Outcomes.{at_err}
+use Rattle.lay_lines.proofs.ContentLemmas.PenOrder.{some_at}
 use Rattle.lay_lines.specs.Meeting.{state_of}
 use Rattle.lay_lines.specs.declared.reach.Reach.{Reach}
 use Rattle.lay_lines.specs.Filling.{FitsNext, TakesNext, Fills, Takes}

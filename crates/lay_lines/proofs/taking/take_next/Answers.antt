@@ -1,5 +1,5 @@
 use Rattle.std.proofs.Common.{◌≡◌, false, refl}
-use Rattle.lay_line_content.proofs.Outcomes.{not_both, at_err}
+use Rattle.lay_lines.proofs.ContentLemmas.Outcomes.{not_both, at_err}
 use Rattle.lay_lines.specs.Meeting.{state_of}
 use Rattle.lay_lines.proofs.Steps.{stretch_is, takes_from, takes_to, can_from}
 use Rattle.lay_lines.proofs.taking.take_next.Goals as goal

@@ -1,7 +1,7 @@
 use Rattle.std.proofs.Common.{ℤ, ◌≤ℤ◌, subst}
 use Rattle.lay_units.specs.declared.length.Unit.{Unit}
 use Rattle.lay_floats.specs.Beside.{IsNextBottom}
-use Rattle.lay_line_content.proofs.Outcomes.{not_both, if_some_map}
+use Rattle.lay_lines.proofs.ContentLemmas.Outcomes.{not_both, if_some_map}
 use Rattle.lay_lines.specs.Filling.{Begins}
 use Rattle.lay_lines.proofs.LineTops.{no_line_higher}
 use Rattle.lay_lines.proofs.top.next_top.Goals as goal

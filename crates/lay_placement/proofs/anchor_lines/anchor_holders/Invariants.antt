@@ -1,6 +1,6 @@
 use Rattle.std.proofs.Common.{◌≡◌, ◌<◌, ℕ, true, length}
 use Rattle.lay_box_tree.specs.Roles.{role_at}
-use Rattle.lay_blocks.specs.Children.{flag_at}
+use Rattle.lay_flow.specs.Blocks.Children.{flag_at}
 use Rattle.lay_box_tree.specs.Containing.{container_of}
 use Rattle.lay_flow_boxes.specs.ContextBlocks.{is_anchor}
 use Rattle.lay_placement.proofs.anchor_lines.anchor_holders.Given as goal

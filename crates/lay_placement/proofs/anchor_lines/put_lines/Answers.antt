@@ -1,5 +1,5 @@
 use Rattle.std.proofs.Common.{◌≡◌, ◌∙◌, ap, sym, length, arith, rules}
-use Rattle.lay_items.specs.InlineSegments.{segments_in}
+use Rattle.lay_line_items.specs.InlineSegments.{segments_in}
 use Rattle.lay_placement.specs.ContextPlaces.{ContextPlaces, rows_at}
 use Rattle.lay_placement.proofs.AnchorSteps.{put_none}
 use Rattle.lay_placement.proofs.anchor_lines.put_lines.Goals as goal

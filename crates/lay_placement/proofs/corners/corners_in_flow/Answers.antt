@@ -1,6 +1,6 @@
 use Rattle.std.proofs.Common.{arith}
 use Rattle.std.proofs.lemmas.Grind.{elements}
-use Rattle.lay_pieces.proofs.CornerColumns.{one_more, one_more_near}
+use Rattle.lay_placements.proofs.CornerColumns.{one_more, one_more_near}
 use Rattle.lay_placement.specs.BoxStandings.{corner_in_flow}
 use Rattle.lay_placement.proofs.corners.corners_in_flow.Goals as goal
 

@@ -1,6 +1,6 @@
 use Rattle.std.proofs.Common.{◌≡◌, ◌<◌, ℕ, length}
 use Rattle.lay_placement.specs.BoxStandings.{corner_in_flow}
-use Rattle.lay_pieces.specs.Corners.{AreNearCorners, corner_at}
+use Rattle.lay_placements.specs.Corners.{AreNearCorners, corner_at}
 use Rattle.lay_placement.proofs.corners.corners_in_flow.Given as goal
 
 abbrev pub invariant-loop-k : goal.invariant-loop-k

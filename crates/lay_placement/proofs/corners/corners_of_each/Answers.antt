@@ -1,5 +1,5 @@
 use Rattle.std.proofs.Common.{◌≡◌, ℕ, ap, ◌∙◌, arith, length}
-use Rattle.lay_pieces.specs.Corners.{corner_at}
+use Rattle.lay_placements.specs.Corners.{corner_at}
 use Rattle.lay_placement.specs.AtomicCorners.{corner_among}
 use Rattle.lay_placement.specs.BoxStandings.{corner_in_flow}
 use Rattle.lay_placement.specs.OnLines.{on_lines_to}

@@ -1,6 +1,6 @@
 use Rattle.std.proofs.Common.{◌≡◌, ◌<◌, ℕ, length, take}
 use Rattle.lay_placement.specs.AtomicCorners.{corner_among}
-use Rattle.lay_pieces.specs.Corners.{AreNearCorners, corner_at}
+use Rattle.lay_placements.specs.Corners.{AreNearCorners, corner_at}
 use Rattle.lay_placement.proofs.corners.put_atomics.Given as goal
 
 abbrev pub invariant-loop-i : goal.invariant-loop-i

@@ -1,5 +1,5 @@
 use Rattle.std.proofs.Common.{◌≡◌, ◌<◌, ℕ, false}
-use Rattle.lay_blocks.specs.Boxes.{box_at}
+use Rattle.lay_flow.specs.Blocks.Boxes.{box_at}
 use Rattle.lay_placement.specs.OnLines.{holds_lines}
 use Rattle.lay_placement.proofs.on_lines.has_lines.Given as goal
 

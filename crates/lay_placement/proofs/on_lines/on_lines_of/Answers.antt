@@ -1,6 +1,6 @@
 use Rattle.std.proofs.Common.{◌≡◌, ◌<◌, ℕ, List, length, false, refl, rules, subst}
-use Rattle.lay_blocks.specs.declared.flow_box.FlowBox.{FlowBox}
-use Rattle.lay_blocks.specs.Boxes.{box_at}
+use Rattle.lay_flow.specs.declared.blocks.flow_box.FlowBox.{FlowBox}
+use Rattle.lay_flow.specs.Blocks.Boxes.{box_at}
 use Rattle.lay_placement.specs.OnLines.{holds_lines}
 use Rattle.lay_placement.proofs.OnLineSteps.{none_on_lines}
 use Rattle.lay_placement.proofs.on_lines.on_lines_of.Goals as goal

@@ -1,5 +1,5 @@
 use Rattle.std.proofs.Common.{◌∙◌, sym, subst}
-use Rattle.lay_blocks.specs.FlowBoxes.{BlockBoxFits, KindFits}
+use Rattle.lay_flow.specs.Blocks.FlowBoxes.{BlockBoxFits, KindFits}
 use Rattle.lay_placement.proofs.on_lines.pieces_on_lines.Goals as goal
 
 pub line_pieces-requires : goal.line_pieces-requires

@@ -1,7 +1,7 @@
 use Rattle.std.proofs.Common.{pos, ap, sym, subst, ◌∙◌}
-use Rattle.lay_blocks.specs.declared.block.Block.{Block}
-use Rattle.lay_blocks.specs.BlockPositions.{border_height}
-use Rattle.lay_blocks.specs.BlockSizes.{BlockFits}
+use Rattle.lay_flow.specs.declared.blocks.block.Block.{Block}
+use Rattle.lay_flow.specs.Blocks.BlockPositions.{border_height}
+use Rattle.lay_flow.specs.Blocks.BlockSizes.{BlockFits}
 use Rattle.lay_placement.proofs.EmptyBlocks.{empty_fits, no_content}
 use Rattle.lay_placement.proofs.one_box.empty_height.Goals as goal
 

@@ -1,6 +1,6 @@
 use Rattle.std.proofs.Common.{List, ap, sym, subst, ◌∙◌}
 use Rattle.lay_box_tree.specs.declared.box_tree.BoxNode.{BoxNode}
-use Rattle.lay_pieces.specs.Placements.{PlacementFits}
+use Rattle.lay_placements.specs.Placements.{PlacementFits}
 use Rattle.lay_placement.specs.OneBox.{only_piece}
 use Rattle.lay_placement.proofs.OneBoxPlaces.{is_near, is_placement, placed}
 use Rattle.lay_placement.proofs.one_box.placement_of_one.Goals as goal

@@ -1,6 +1,6 @@
 use Rattle.std.proofs.Common.{◌≡◌, take}
 use Rattle.std.specs.List.{flat_map}
-use Rattle.lay_pieces.specs.PieceParts.{with_pieces}
+use Rattle.lay_placements.specs.PieceParts.{with_pieces}
 use Rattle.lay_placement.specs.ContextPieces.{pieces_on_line}
 use Rattle.lay_placement.proofs.pieces.push_lines.Given as goal
 

@@ -1,6 +1,6 @@
 use Rattle.std.proofs.Common.{List, ap, ◌∙◌, arith, length}
-use Rattle.lay_pieces.specs.declared.standing.Standing.{Standing}
-use Rattle.lay_pieces.specs.Standings.{standing_at}
+use Rattle.lay_placements.specs.declared.standing.Standing.{Standing}
+use Rattle.lay_placements.specs.Standings.{standing_at}
 use Rattle.lay_placement.proofs.StandingCounts.{length_standings, standing_in}
 use Rattle.lay_placement.proofs.pieces.standing_at.Goals as goal
 

@@ -1,6 +1,6 @@
 use Rattle.std.proofs.Common.{◌≡◌, ◌∙◌, ap, arith, length}
 use Rattle.std.proofs.lemmas.Grind.{elements}
-use Rattle.lay_pieces.proofs.StandingColumns.{one_more, one_more_near}
+use Rattle.lay_placements.proofs.StandingColumns.{one_more, one_more_near}
 use Rattle.lay_placement.specs.BoxStandings.{standing_of_box}
 use Rattle.lay_placement.proofs.StandingCounts.{all_standings}
 use Rattle.lay_placement.proofs.standings.standings_of.Goals as goal

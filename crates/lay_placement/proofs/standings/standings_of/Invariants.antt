@@ -1,5 +1,5 @@
 use Rattle.std.proofs.Common.{◌≡◌, ◌<◌, ℕ, length}
-use Rattle.lay_pieces.specs.Standings.{AreNearStandings, standing_at}
+use Rattle.lay_placements.specs.Standings.{AreNearStandings, standing_at}
 use Rattle.lay_placement.specs.BoxStandings.{standing_of_box}
 use Rattle.lay_placement.proofs.standings.standings_of.Given as goal
 

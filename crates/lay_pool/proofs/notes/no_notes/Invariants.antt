@@ -1,6 +1,6 @@
 -- Nothing is noted so far.
 use Rattle.std.proofs.Common.{◌≡◌, ◌≢◌, ℕ, Option, Some, slice_get, vec_len}
-use Rattle.lay_claims.specs.Outcomes.{Work}
+use Rattle.lay_cell_work.specs.ClaimLists.Outcomes.{Work}
 use Rattle.lay_pool.proofs.notes.no_notes.Given as goal
 
 abbrev pub invariant-loop-place : goal.invariant-loop-place

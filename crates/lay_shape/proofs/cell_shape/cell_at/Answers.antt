@@ -1,7 +1,7 @@
 use Rattle.std.proofs.Common.{List, slice_index_or, subst}
 use Rattle.std.proofs.lemmas.Option.{slice_get-get_or}
-use Rattle.lay_layout.specs.cells.Shapes.{IsIn}
-use Rattle.lay_layout.specs.context.declared.task.Phase.TheVariants.{Measure}
+use Rattle.lay_cells.specs.Shapes.{IsIn}
+use Rattle.lay_context.specs.declared.task.Phase.TheVariants.{Measure}
 use Rattle.lay_shape.specs.declared.context_phase.ContextPhase.{ContextPhase}
 use Rattle.lay_shape.proofs.CellOrder.{cell_within}
 use Rattle.lay_shape.proofs.cell_shape.cell_at.Goals as goal

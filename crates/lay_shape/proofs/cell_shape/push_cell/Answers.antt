@@ -1,6 +1,6 @@
 use Rattle.std.proofs.Common.{rules, ◌≡◌, ◌≢◌, ◌<◌, ◌≤◌, ◌+◌, ◌^◌, ◌++◌, ◌∷◌, [], List, Some, arith, length, slice_get, ap, subst, sym, ◌∙◌}
-use Rattle.lay_layout.specs.units.Limits.{most_nodes}
-use Rattle.lay_layout.specs.cells.Shapes.{Entry, IsEachOnce, IsIn}
+use Rattle.lay_units.specs.Limits.{most_nodes}
+use Rattle.lay_cells.specs.Shapes.{Entry, IsEachOnce, IsIn}
 use Rattle.lay_shape.specs.declared.cell_key.CellKey.{CellKey}
 use Rattle.lay_shape.specs.declared.context_phase.ContextPhase.{ContextPhase}
 use Rattle.lay_shape.specs.Dependencies.{needs_of}

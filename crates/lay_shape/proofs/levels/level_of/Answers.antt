@@ -1,8 +1,8 @@
 use Rattle.std.proofs.Common.{rules, ◌≡◌, ◌+◌, ◌≤◌, ap, arith, length, slice_index, ◌∙◌}
 use Rattle.std.proofs.lemmas.List.FromFn.{length-map-range_with_len}
-use Rattle.lay_layout.specs.units.Limits.{most_nodes}
-use Rattle.lay_layout.specs.contexts.Contexts.{context_at}
-use Rattle.lay_layout.specs.positioned.Levels.{one_if}
+use Rattle.lay_units.specs.Limits.{most_nodes}
+use Rattle.lay_contexts.specs.Contexts.{context_at}
+use Rattle.lay_positioned.specs.Levels.{one_if}
 use Rattle.lay_shape.specs.Levels.{level_of}
 use Rattle.lay_shape.specs.Ways.{is_absolute}
 use Rattle.lay_shape.proofs.BuildSteps.{level_read, level_sum}

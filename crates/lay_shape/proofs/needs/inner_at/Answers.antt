@@ -1,5 +1,5 @@
 use Rattle.std.proofs.Common.{rules, ◌≡◌}
-use Rattle.lay_layout.specs.contexts.Contexts.{context_at}
+use Rattle.lay_contexts.specs.Contexts.{context_at}
 use Rattle.lay_shape.proofs.BuildSteps.{inner_small}
 use Rattle.lay_shape.proofs.needs.inner_at.Goals as goal
 

@@ -1,5 +1,5 @@
 use Rattle.std.proofs.Common.{◌≡◌, ◌++◌, filter, map, take}
-use Rattle.lay_layout.specs.contexts.Contexts.{context_at}
+use Rattle.lay_contexts.specs.Contexts.{context_at}
 use Rattle.lay_shape.specs.Dependencies.{in_phase, is_inner_flow}
 use Rattle.lay_shape.specs.Keys.{key_of}
 use Rattle.lay_shape.proofs.needs.push_inner.Given as goal

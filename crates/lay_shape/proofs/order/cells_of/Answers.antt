@@ -1,6 +1,6 @@
 use Rattle.std.proofs.Common.{◌≡◌, ◌+◌, ◌<◌, ◌++◌, [], List, ℕ, ap, arith, length, map, reverse, slice_index_or, sym, ◌∙◌}
 use Rattle.std.proofs.lemmas.List.{get_or_read}
-use Rattle.lay_layout.specs.context.declared.task.Phase.TheVariants.{Measure, Place}
+use Rattle.lay_context.specs.declared.task.Phase.TheVariants.{Measure, Place}
 use Rattle.lay_shape.specs.Dependencies.{in_phase}
 use Rattle.lay_shape.specs.Shapes.{at_level, numbers_of}
 use Rattle.lay_shape.proofs.BuildSteps.{round_more}

@@ -1,6 +1,6 @@
 use Rattle.std.proofs.Common.{◌≡◌, ◌++◌, flat_map, map, reverse}
 use Rattle.std.specs.List.{range_with_len}
-use Rattle.lay_layout.specs.context.declared.task.Phase.TheVariants.{Measure}
+use Rattle.lay_context.specs.declared.task.Phase.TheVariants.{Measure}
 use Rattle.lay_shape.specs.Dependencies.{in_phase}
 use Rattle.lay_shape.specs.Shapes.{numbers_of, round_of}
 use Rattle.lay_shape.proofs.order.cells_of.Given as goal

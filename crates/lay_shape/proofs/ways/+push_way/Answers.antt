@@ -1,5 +1,5 @@
 use Rattle.std.proofs.Common.{rules, ◌≡◌, ◌++◌, ◌∷◌, [], true, false, ℕ, List, ap, sym, ◌∙◌, append_assoc}
-use Rattle.lay_layout.specs.contexts.Contexts.{context_at}
+use Rattle.lay_contexts.specs.Contexts.{context_at}
 use Rattle.lay_shape.specs.Building.{leads_on}
 use Rattle.lay_shape.specs.Ways.{way_from}
 use Rattle.lay_shape.proofs.WaySteps.{way_ends, way_goes}

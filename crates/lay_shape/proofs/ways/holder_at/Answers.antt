@@ -1,9 +1,9 @@
 use Rattle.std.proofs.Common.{rules, ◌≡◌, List, subst}
-use Rattle.lay_layout.specs.box_tree.declared.box_tree.BoxNode.{BoxNode}
-use Rattle.lay_layout.specs.contexts.Contexts.{boxes_in}
-use Rattle.lay_layout.specs.positioned.Holders.{IsHolderFor, holder_for}
-use Rattle.lay_layout.proofs.lay_positioned.OneSetting.{one_holder_for}
-use Rattle.lay_layout.proofs.lay_positioned.SettingValues.{holder_is}
+use Rattle.lay_box_tree.specs.declared.box_tree.BoxNode.{BoxNode}
+use Rattle.lay_contexts.specs.Contexts.{boxes_in}
+use Rattle.lay_positioned.specs.Holders.{IsHolderFor, holder_for}
+use Rattle.lay_positioned.proofs.OneSetting.{one_holder_for}
+use Rattle.lay_positioned.proofs.SettingValues.{holder_is}
 use Rattle.lay_shape.proofs.ways.holder_at.Goals as goal
 
 pub returns : goal.returns

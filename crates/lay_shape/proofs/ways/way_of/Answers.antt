@@ -1,5 +1,5 @@
 use Rattle.std.proofs.Common.{rules, ◌≡◌, ◌<◌, ◌++◌, [], true, false, All, ℕ, List, length, ap, subst, sym, ◌∙◌}
-use Rattle.lay_layout.specs.contexts.Contexts.{context_at}
+use Rattle.lay_contexts.specs.Contexts.{context_at}
 use Rattle.lay_shape.specs.Building.{is_inner_absolute}
 use Rattle.lay_shape.specs.Ways.{is_fixed, way_from, way_of}
 use Rattle.lay_shape.proofs.BuildSteps.{way_small}

@@ -1,6 +1,6 @@
 use Rattle.std.proofs.Common.{◌≡◌, [], ◌∷◌, false, sym, ◌∙◌}
 use Rattle.lay_box_tree.specs.ContextBoxes.{is_inner}
-use Rattle.lay_table_borders.specs.TableBoxes.{kind_at}
+use Rattle.lay_table_grid.specs.TableBoxes.{kind_at}
 use Rattle.lay_table.specs.declared.pieces.Extent.TheVariants.{Own, Rows}
 use Rattle.lay_table.specs.TablePieces.{extent_by_kind, pieces_of_box}
 use Rattle.lay_table.proofs.PieceSteps.{row_piece, own_piece}

@@ -1,5 +1,5 @@
 use Rattle.std.proofs.Common.{rules, ◌≡◌, length}
-use Rattle.lay_blocks.specs.FlowPlaces.{IsFlowOf}
+use Rattle.lay_flow.specs.Blocks.FlowPlaces.{IsFlowOf}
 use Rattle.lay_table.specs.TableStandings.{columns_of, content_corner}
 use Rattle.lay_table.specs.WrapperFlow.{boxes_in_wrapper, places_in_wrapper}
 use Rattle.lay_table.proofs.places.table_places.Goals as goal

@@ -1,5 +1,5 @@
 use Rattle.std.proofs.Common.{◌≡◌, ◌+◌, [], ◌∷◌, ◌++◌, length, length-append, arith}
-use Rattle.lay_pieces.specs.Standings.{IsStandingNear, no_standing}
+use Rattle.lay_placements.specs.Standings.{IsStandingNear, no_standing}
 use Rattle.lay_table.proofs.ColumnEntries.{one_more}
 use Rattle.lay_table.specs.TableStandings.{group_or_none}
 use Rattle.lay_table.proofs.standings.groups_or_none.Goals as goal

@@ -1,5 +1,5 @@
 use Rattle.std.proofs.Common.{◌≡◌, ◌<◌, ℕ, length}
-use Rattle.lay_pieces.specs.Standings.{AreNearStandings, standing_at}
+use Rattle.lay_placements.specs.Standings.{AreNearStandings, standing_at}
 use Rattle.lay_table.specs.TableStandings.{group_or_none}
 use Rattle.lay_table.proofs.standings.groups_or_none.Given as goal
 

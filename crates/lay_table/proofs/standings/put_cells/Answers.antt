@@ -1,5 +1,5 @@
 use Rattle.std.proofs.Common.{◌≡◌, length, ◌∙◌, arith}
-use Rattle.lay_table_borders.specs.declared.grid.TableCell.{TableCell}
+use Rattle.lay_table_grid.specs.declared.grid.TableCell.{TableCell}
 use Rattle.lay_table.specs.TableStandings.{cell_places, cell_standing}
 use Rattle.lay_table.proofs.ColumnSteps.{length_mapped}
 use Rattle.lay_table.proofs.StandingSteps.{one_more}

@@ -1,6 +1,6 @@
 use Rattle.std.proofs.Common.{◌≡◌, ◌<◌, ℕ, length}
-use Rattle.lay_blocks.specs.FlowPlaces.{box_place_at}
-use Rattle.lay_pieces.specs.Standings.{AreNearStandings, standing_at}
+use Rattle.lay_flow.specs.Blocks.FlowPlaces.{box_place_at}
+use Rattle.lay_placements.specs.Standings.{AreNearStandings, standing_at}
 use Rattle.lay_table.specs.TableStandings.{flow_standing, number_in, standing_by}
 use Rattle.lay_table.proofs.standings.put_in_flow.Given as goal
 

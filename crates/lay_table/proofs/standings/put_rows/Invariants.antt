@@ -1,5 +1,5 @@
 use Rattle.std.proofs.Common.{◌≡◌, ◌<◌, ℕ, length}
-use Rattle.lay_pieces.specs.Standings.{AreNearStandings, standing_at}
+use Rattle.lay_placements.specs.Standings.{AreNearStandings, standing_at}
 use Rattle.lay_table.specs.TableStandings.{number_in, row_places, row_standing, standing_by}
 use Rattle.lay_table.proofs.standings.put_rows.Given as goal
 

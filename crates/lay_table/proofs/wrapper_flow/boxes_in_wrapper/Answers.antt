@@ -1,5 +1,5 @@
 use Rattle.std.proofs.lemmas.List.Elements.{All-push}
-use Rattle.lay_blocks.specs.FlowBoxes.{KindFits}
+use Rattle.lay_flow.specs.Blocks.FlowBoxes.{KindFits}
 use Rattle.lay_table.proofs.wrapper_flow.boxes_in_wrapper.Goals as goal
 
 pub push_captions-requires-2-clause-fit : goal.push_captions-requires-2-clause-fit

@@ -1,5 +1,5 @@
 use Rattle.std.proofs.lemmas.List.Elements.{All-push}
-use Rattle.lay_blocks.specs.FlowBoxes.{KindFits}
+use Rattle.lay_flow.specs.Blocks.FlowBoxes.{KindFits}
 use Rattle.lay_table.proofs.WrapperBoxes.{captions_more}
 use Rattle.lay_table.proofs.wrapper_flow.push_captions.Goals as goal
 

@@ -1,6 +1,6 @@
 use Rattle.std.proofs.Common.{rules, ◌≤◌, length, ap, ◌∙◌}
-use Rattle.lay_blocks.specs.FlowPlaces.{IsFlowOf}
-use Rattle.lay_blocks.specs.Weights.{weight}
+use Rattle.lay_flow.specs.Blocks.FlowPlaces.{IsFlowOf}
+use Rattle.lay_flow.specs.Blocks.Weights.{weight}
 use Rattle.lay_table.proofs.WrapperBoxes.{are_wrapper_boxes, as_many_boxes}
 use Rattle.lay_table.proofs.wrapper_flow.wrapper_flow.Goals as goal
 

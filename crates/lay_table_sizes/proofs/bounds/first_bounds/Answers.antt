@@ -1,6 +1,6 @@
 use Rattle.std.proofs.Common.{◌∙◌, sym, subst}
 use Rattle.std.specs.List.{All}
-use Rattle.lay_auto_columns.specs.Fit.{BoundFits}
+use Rattle.lay_grid.specs.Automatic.Fit.{BoundFits}
 use Rattle.lay_table_sizes.proofs.ColumnBounds.{first_fit}
 use Rattle.lay_table_sizes.proofs.bounds.first_bounds.Goals as goal
 

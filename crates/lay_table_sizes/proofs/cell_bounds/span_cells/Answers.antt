@@ -1,6 +1,6 @@
 use Rattle.std.proofs.Common.{[], ◌∷◌, length}
 use Rattle.std.proofs.lemmas.List.Elements.{All-append, All-cons, All-nil}
-use Rattle.lay_auto_columns.specs.Fit.{CellFits}
+use Rattle.lay_grid.specs.Automatic.Fit.{CellFits}
 use Rattle.lay_table_sizes.specs.CellBounds.{span_cell}
 use Rattle.lay_table_sizes.proofs.BoundSteps.{mapped_step}
 use Rattle.lay_table_sizes.proofs.cell_bounds.span_cells.Goals as goal

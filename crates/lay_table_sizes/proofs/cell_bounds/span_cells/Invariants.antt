@@ -1,6 +1,6 @@
 use Rattle.std.proofs.Common.{◌≡◌, ◌++◌, drop}
 use Rattle.std.specs.List.{All}
-use Rattle.lay_auto_columns.specs.Fit.{CellFits}
+use Rattle.lay_grid.specs.Automatic.Fit.{CellFits}
 use Rattle.lay_table_sizes.specs.CellBounds.{span_cells}
 use Rattle.lay_table_sizes.proofs.cell_bounds.span_cells.Given as goal
 

@@ -1,5 +1,5 @@
 use Rattle.std.proofs.Common.{◌≡◌, ◌+ℤ◌, drop}
-use Rattle.lay_auto_columns.specs.AutoColumns.{sum_max}
+use Rattle.lay_grid.specs.Automatic.AutoColumns.{sum_max}
 use Rattle.lay_table_sizes.proofs.contents.maximums.Given as goal
 
 abbrev pub invariant-loop-k : goal.invariant-loop-k

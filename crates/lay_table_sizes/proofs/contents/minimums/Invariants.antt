@@ -1,5 +1,5 @@
 use Rattle.std.proofs.Common.{◌≡◌, ◌+ℤ◌, drop}
-use Rattle.lay_auto_columns.specs.AutoColumns.{sum_min}
+use Rattle.lay_grid.specs.Automatic.AutoColumns.{sum_min}
 use Rattle.lay_table_sizes.proofs.contents.minimums.Given as goal
 
 abbrev pub invariant-loop-k : goal.invariant-loop-k

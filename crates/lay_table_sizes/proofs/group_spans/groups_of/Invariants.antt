@@ -1,5 +1,5 @@
 use Rattle.std.proofs.Common.{◌≡◌, ◌++◌, drop, map}
-use Rattle.lay_table_borders.specs.MeetingBorders.{around_column}
+use Rattle.lay_table_grid.specs.MeetingBorders.{around_column}
 use Rattle.lay_table_sizes.proofs.group_spans.groups_of.Given as goal
 
 abbrev pub invariant-loop-place : goal.invariant-loop-place

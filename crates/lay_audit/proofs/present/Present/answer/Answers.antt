@@ -1,5 +1,5 @@
 use Rattle.std.proofs.Common.{sym, subst, arith, OnOk}
-use Rattle.lay_edits.specs.declared.history.Entry.{Entry}
+use Rattle.lay_history.specs.declared.edits.history.Entry.{Entry}
 use Rattle.lay_audit.specs.declared.step.Step.TheVariants as step
 use Rattle.lay_audit.specs.Presents.{IsStep, Moves}
 use Rattle.lay_audit.proofs.Answering.{answer_index, answer_place}

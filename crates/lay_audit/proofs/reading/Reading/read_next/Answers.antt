@@ -1,6 +1,6 @@
 use Rattle.std.proofs.Common.{List, ℕ, [], sym, ◌∙◌, subst}
 use Rattle.lay_doc.specs.Document.{Document}
-use Rattle.lay_edits.specs.declared.command.Cmd.{Cmd}
+use Rattle.lay_history.specs.declared.edits.command.Cmd.{Cmd}
 use Rattle.lay_audit.specs.Presents.{shown_in}
 use Rattle.lay_audit.specs.Readings.{IsRead, ReadsTo, basis_of}
 use Rattle.lay_audit.proofs.Taking.{if_next, pending_shown}

@@ -1,4 +1,4 @@
-use Rattle.lay_layout.specs.edit_lists.declared.history.Entry.TheVariants.{Latest}
+use Rattle.lay_history.specs.declared.edits.history.Entry.TheVariants.{Latest}
 use Rattle.lay_board.proofs.Additions.{latest_adds}
 use Rattle.lay_board.proofs.Turns.{calls_are_left, turned}
 use Rattle.lay_board.proofs.engine.Engine.latest.Goals as goal

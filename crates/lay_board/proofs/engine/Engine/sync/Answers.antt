@@ -1,4 +1,4 @@
-use Rattle.lay_layout.specs.edit_lists.declared.history.Entry.TheVariants.{Sync}
+use Rattle.lay_history.specs.declared.edits.history.Entry.TheVariants.{Sync}
 use Rattle.lay_board.proofs.Additions.{sync_adds}
 use Rattle.lay_board.proofs.Turns.{calls_are_left, turned}
 use Rattle.lay_board.proofs.engine.Engine.sync.Goals as goal

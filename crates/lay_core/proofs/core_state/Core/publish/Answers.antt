@@ -1,5 +1,5 @@
 use Rattle.std.proofs.Common.{refl, subst}
-use Rattle.lay_layout.specs.cells.Reads.{IsFirstDirtyKey}
+use Rattle.lay_cells.specs.Reads.{IsFirstDirtyKey}
 use Rattle.lay_core.specs.State.{State}
 use Rattle.lay_core.proofs.Kept.{publish_room}
 use Rattle.lay_core.proofs.PartsSteps.{publish_leaves, publishes_of}

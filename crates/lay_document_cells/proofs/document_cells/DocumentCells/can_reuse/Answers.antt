@@ -1,5 +1,5 @@
-use Rattle.lay_layout.specs.cells.Looks.{Looks}
-use Rattle.lay_layout.specs.cells.declared.answers.Look.TheVariants as look
+use Rattle.lay_cells.specs.Looks.{Looks}
+use Rattle.lay_cells.specs.declared.answers.Look.TheVariants as look
 use Rattle.lay_document_cells.proofs.UnchangedCells.{at_within, reusable}
 use Rattle.lay_document_cells.proofs.document_cells.DocumentCells.can_reuse.Goals as goal
 

@@ -1,6 +1,6 @@
 use Rattle.std.proofs.Common.{ℕ, refl, subst}
-use Rattle.lay_layout.specs.cells.Looks.{IsAt, IsGone}
-use Rattle.lay_list_steps.specs.cell_laws.SoundCells.{CellRow}
+use Rattle.lay_cells.specs.Looks.{IsAt, IsGone}
+use Rattle.lay_cell_work.specs.CellLaws.SoundCells.{CellRow}
 use Rattle.lay_document_cells.specs.State.{State}
 use Rattle.lay_document_cells.proofs.ClaimsWorking.{answer_draws, answer_of}
 use Rattle.lay_document_cells.proofs.document_cells.DocumentCells.claim.Goals as goal

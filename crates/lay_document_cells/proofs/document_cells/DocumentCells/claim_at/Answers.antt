@@ -1,7 +1,7 @@
 use Rattle.std.proofs.Common.{refl, subst}
-use Rattle.lay_layout.specs.cells.Looks.{Looks}
-use Rattle.lay_layout.specs.cells.Places.{AtPlace}
-use Rattle.lay_layout.specs.cells.declared.answers.Look.TheVariants as look
+use Rattle.lay_cells.specs.Looks.{Looks}
+use Rattle.lay_cells.specs.Places.{AtPlace}
+use Rattle.lay_cells.specs.declared.answers.Look.TheVariants as look
 use Rattle.lay_document_cells.specs.State.{State}
 use Rattle.lay_document_cells.proofs.document_cells.DocumentCells.claim_at.Goals as goal
 

@@ -1,12 +1,12 @@
 use Rattle.std.proofs.Common.{subst, sym}
 use Rattle.std.specs.Arc.{arc_value}
-use Rattle.lay_layout.specs.cells.Looks.{IsGone, Looks}
-use Rattle.lay_layout.specs.cells.Places.{AtPlace}
-use Rattle.lay_layout.specs.cells.declared.answers.Look.TheVariants as look
+use Rattle.lay_cells.specs.Looks.{IsGone, Looks}
+use Rattle.lay_cells.specs.Places.{AtPlace}
+use Rattle.lay_cells.specs.declared.answers.Look.TheVariants as look
 use Rattle.lay_document_cells.specs.State.{State}
 use Rattle.std.proofs.Common.{ap, arith, ◌+◌}
-use Rattle.lay_layout.specs.cells.declared.answers.Claimed.{Claimed}
-use Rattle.lay_layout.specs.cell_progress.Grants.{grants}
+use Rattle.lay_cells.specs.declared.answers.Claimed.{Claimed}
+use Rattle.lay_cells.specs.Progress.Grants.{grants}
 use Rattle.lay_document_cells.proofs.KnownSteps.{claim_known}
 use Rattle.lay_document_cells.proofs.KeptSteps.{claim_kept, claimed_to, no_grant}
 use Rattle.lay_document_cells.proofs.document_cells.DocumentCells.claim_input.Goals as goal

@@ -1,7 +1,7 @@
 use Rattle.std.proofs.Common.{ap, arith, inl, length, refl, subst, sym, ◌∙◌}
-use Rattle.lay_layout.specs.cells.Sound.{IsSound}
-use Rattle.lay_list_steps.specs.cell_work.CellLocal.{IsCellLocal}
-use Rattle.lay_claims.specs.ClaimLists.{ClaimList}
+use Rattle.lay_cells.specs.Sound.{IsSound}
+use Rattle.lay_cell_work.specs.CellLocal.{IsCellLocal}
+use Rattle.lay_cell_work.specs.ClaimLists.ClaimLists.{ClaimList}
 use Rattle.lay_document_cells.specs.Batches.{Grants, more, start}
 use Rattle.lay_document_cells.specs.State.{State}
 use Rattle.lay_document_cells.proofs.Batching.{claims_end, claims_full, grants_none, push_length}

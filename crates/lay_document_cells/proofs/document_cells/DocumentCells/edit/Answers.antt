@@ -1,13 +1,13 @@
 use Rattle.std.proofs.Common.{◌≡◌, ◌∙◌, ℕ, All, IfSome, List, Option, None, option_map, ap, subst, sym}
-use Rattle.lay_layout.specs.context.Solves.{medium_of}
-use Rattle.lay_layout.specs.doc.Document.{Document, IsDocument}
-use Rattle.lay_layout.specs.doc.Laws.{PutsNode}
-use Rattle.lay_layout.specs.doc.declared.edit.Edit.{Edit}
-use Rattle.lay_layout.specs.edit_lists.EditLists.{first}
-use Rattle.lay_layout.specs.cells.Reads.{AllClean}
-use Rattle.lay_list_steps.proofs.Viewports.{one_medium_of_all}
-use Rattle.lay_later_cells.specs.KeptBoxes.{KeepCells}
-use Rattle.lay_settled_cells.specs.Since.{IsSince, Since}
+use Rattle.lay_context.specs.Solves.{medium_of}
+use Rattle.lay_doc.specs.Document.{Document, IsDocument}
+use Rattle.lay_doc.specs.Laws.{PutsNode}
+use Rattle.lay_doc.specs.declared.edit.Edit.{Edit}
+use Rattle.lay_history.specs.Edits.EditLists.{first}
+use Rattle.lay_cells.specs.Reads.{AllClean}
+use Rattle.lay_kept_cells.proofs.ListStepsLemmas.Viewports.{one_medium_of_all}
+use Rattle.lay_shape.specs.KeptShapes.KeptBoxes.{KeepCells}
+use Rattle.lay_kept_cells.specs.Settled.Since.{IsSince, Since}
 use Rattle.lay_document_cells.specs.Kept.{since_edit}
 use Rattle.lay_document_cells.specs.State.{AreStyledLists, State}
 use Rattle.lay_document_cells.proofs.KnownSteps.{counts_fit, edit_known, some_map}

@@ -1,5 +1,5 @@
 use Rattle.std.proofs.Common.{IfNone, subst}
-use Rattle.lay_layout.specs.cells.Reads.{AllClean}
+use Rattle.lay_cells.specs.Reads.{AllClean}
 use Rattle.lay_document_cells.specs.State.{State}
 use Rattle.lay_document_cells.proofs.document_cells.DocumentCells.first_dirty.Goals as goal
 

@@ -1,5 +1,5 @@
 use Rattle.std.proofs.Common.{subst}
-use Rattle.lay_layout.specs.cells.Places.{IsFirstDirtyFrom}
+use Rattle.lay_cells.specs.Places.{IsFirstDirtyFrom}
 use Rattle.lay_document_cells.specs.State.{State}
 use Rattle.lay_document_cells.proofs.WalkSteps.{walked_first}
 use Rattle.lay_document_cells.proofs.document_cells.DocumentCells.first_walk.Goals as goal

@@ -1,5 +1,5 @@
 use Rattle.std.proofs.Common.{subst, IfNone, IfSome}
-use Rattle.lay_layout.specs.cells.Reads.{AllClean, IsFirstDirtyKey}
+use Rattle.lay_cells.specs.Reads.{AllClean, IsFirstDirtyKey}
 use Rattle.lay_document_cells.specs.State.{State}
 use Rattle.lay_document_cells.proofs.Answered.{settled_iff}
 use Rattle.lay_document_cells.proofs.document_cells.DocumentCells.is_settled.Goals as goal

@@ -1,7 +1,7 @@
 use Rattle.std.proofs.Common.{Option, IfSome, subst}
-use Rattle.lay_layout.specs.cells.Looks.{Looks}
-use Rattle.lay_layout.specs.cells.declared.answers.Look.TheVariants as look
-use Rattle.lay_settled_cells.specs.Since.{IsSince, Since}
+use Rattle.lay_cells.specs.Looks.{Looks}
+use Rattle.lay_cells.specs.declared.answers.Look.TheVariants as look
+use Rattle.lay_kept_cells.specs.Settled.Since.{IsSince, Since}
 use Rattle.lay_document_cells.proofs.UnchangedCells.{at_within, flags_fit, keeps_given, rows_fit}
 use Rattle.lay_document_cells.proofs.document_cells.DocumentCells.is_unchanged.Goals as goal
 

@@ -1,5 +1,5 @@
 use Rattle.std.proofs.Common.{IfNone, subst}
-use Rattle.lay_layout.specs.cells.Looks.{IsGone}
+use Rattle.lay_cells.specs.Looks.{IsGone}
 use Rattle.lay_document_cells.specs.State.{State}
 use Rattle.lay_document_cells.proofs.document_cells.DocumentCells.laid_of.Goals as goal
 

@@ -1,9 +1,9 @@
 use Rattle.std.proofs.Common.{subst}
-use Rattle.lay_layout.specs.cells.Looks.{Looks}
-use Rattle.lay_layout.specs.cells.Places.{AtPlace}
-use Rattle.lay_layout.specs.cells.Sound.{IsSound}
-use Rattle.lay_layout.specs.cells.declared.answers.Look.TheVariants as look
-use Rattle.lay_list_steps.specs.cell_work.CellLocal.{IsCellLocal}
+use Rattle.lay_cells.specs.Looks.{Looks}
+use Rattle.lay_cells.specs.Places.{AtPlace}
+use Rattle.lay_cells.specs.Sound.{IsSound}
+use Rattle.lay_cells.specs.declared.answers.Look.TheVariants as look
+use Rattle.lay_cell_work.specs.CellLocal.{IsCellLocal}
 use Rattle.lay_document_cells.specs.State.{State}
 use Rattle.lay_document_cells.proofs.Passing.{nothing_passes}
 use Rattle.lay_document_cells.proofs.document_cells.DocumentCells.pass.Goals as goal

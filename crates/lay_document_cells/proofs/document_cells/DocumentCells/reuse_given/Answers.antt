@@ -1,8 +1,8 @@
 use Rattle.std.proofs.Common.{subst, sym}
-use Rattle.lay_layout.specs.cells.Looks.{Looks}
-use Rattle.lay_layout.specs.cells.Places.{AtPlace}
-use Rattle.lay_layout.specs.cells.declared.answers.Claimed.TheVariants.{Reused}
-use Rattle.lay_layout.specs.cells.declared.answers.Look.TheVariants as look
+use Rattle.lay_cells.specs.Looks.{Looks}
+use Rattle.lay_cells.specs.Places.{AtPlace}
+use Rattle.lay_cells.specs.declared.answers.Claimed.TheVariants.{Reused}
+use Rattle.lay_cells.specs.declared.answers.Look.TheVariants as look
 use Rattle.lay_document_cells.specs.State.{State}
 use Rattle.lay_document_cells.specs.Unchanged.{CanReuseGiven}
 use Rattle.lay_document_cells.proofs.KeptSteps.{claim_kept, no_grant}

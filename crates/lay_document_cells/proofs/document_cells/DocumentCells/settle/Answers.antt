@@ -1,5 +1,5 @@
 use Rattle.std.proofs.Common.{arith, ap, length, refl, subst, ◌∙◌}
-use Rattle.lay_layout.specs.cells.Places.{AreCleanFrom, IsFirstDirtyFrom}
+use Rattle.lay_cells.specs.Places.{AreCleanFrom, IsFirstDirtyFrom}
 use Rattle.lay_document_cells.specs.Settling.{none}
 use Rattle.lay_document_cells.specs.State.{State}
 use Rattle.lay_document_cells.proofs.SettledPlaces.{clean_to_first, few_rows, first_within, settled_all, settled_already, settled_more}

@@ -1,7 +1,7 @@
 use Rattle.std.proofs.Common.{refl, subst, sym}
 use Rattle.std.specs.Arc.{arc_value}
-use Rattle.lay_layout.specs.cells.Sound.{IsSound}
-use Rattle.lay_list_steps.specs.cell_work.CellLocal.{IsCellLocal}
+use Rattle.lay_cells.specs.Sound.{IsSound}
+use Rattle.lay_cell_work.specs.CellLocal.{IsCellLocal}
 use Rattle.lay_document_cells.specs.Settling.{GivesUpAt}
 use Rattle.lay_document_cells.specs.State.{State}
 use Rattle.lay_document_cells.proofs.Answered.{back_as, err_any, key_same, on_err, on_ok, work_as}

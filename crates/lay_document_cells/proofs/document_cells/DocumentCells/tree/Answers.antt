@@ -1,6 +1,6 @@
 use Rattle.std.proofs.Common.{subst, sym, ◌∙◌}
-use Rattle.lay_layout.specs.cells.Reads.{AllClean}
-use Rattle.lay_layout.specs.contexts.Contexts.{AreContexts}
+use Rattle.lay_cells.specs.Reads.{AllClean}
+use Rattle.lay_contexts.specs.Contexts.{AreContexts}
 use Rattle.lay_document_cells.specs.State.{State}
 use Rattle.lay_document_cells.proofs.Answered.{cells_on, counted, ok_then, solved}
 use Rattle.lay_document_cells.proofs.document_cells.DocumentCells.tree.Goals as goal

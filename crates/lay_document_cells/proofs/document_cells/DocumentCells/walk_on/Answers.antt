@@ -1,8 +1,8 @@
 use Rattle.std.proofs.Common.{◌≡◌, ◌<◌, ap, arith, length, map, refl, subst, sym, ◌∙◌}
-use Rattle.lay_layout.specs.cells.Rows.{entry_of}
-use Rattle.lay_layout.specs.cells.Shapes.{IsShape}
-use Rattle.lay_layout.specs.cells.Sound.{IsSound}
-use Rattle.lay_list_steps.specs.cell_work.CellLocal.{IsCellLocal}
+use Rattle.lay_cells.specs.Rows.{entry_of}
+use Rattle.lay_cells.specs.Shapes.{IsShape}
+use Rattle.lay_cells.specs.Sound.{IsSound}
+use Rattle.lay_cell_work.specs.CellLocal.{IsCellLocal}
 use Rattle.lay_document_cells.specs.Claims.{none}
 use Rattle.lay_document_cells.specs.State.{State}
 use Rattle.lay_document_cells.specs.Walks.{IsWalked, PassesAt}

@@ -1,5 +1,5 @@
 use Rattle.std.proofs.Common.{◌≡◌, ◌+◌, ◌≤◌, length, map}
-use Rattle.lay_layout.specs.cells.Rows.{entry_of}
+use Rattle.lay_cells.specs.Rows.{entry_of}
 use Rattle.lay_document_cells.specs.Claims.{Passes}
 use Rattle.lay_document_cells.specs.Walks.{IsWalked}
 use Rattle.lay_document_cells.proofs.document_cells.DocumentCells.walk_on.Given as goal

@@ -1,9 +1,9 @@
 use Rattle.std.proofs.Common.{◌≡◌, ◌∙◌, List, ap, subst, sym}
 use Rattle.std.specs.Arc.{arc_value}
-use Rattle.lay_layout.specs.style.declared.style.Style.{Style}
-use Rattle.lay_layout.specs.style.ComputedStyle.{HasStyles}
-use Rattle.lay_layout.specs.doc.Document.{Document, declarations_of, parents_of}
-use Rattle.lay_layout.specs.doc.Edits.{after}
+use Rattle.lay_style.specs.declared.style.Style.{Style}
+use Rattle.lay_style.specs.ComputedStyle.{HasStyles}
+use Rattle.lay_doc.specs.Document.{Document, declarations_of, parents_of}
+use Rattle.lay_doc.specs.Edits.{after}
 use Rattle.lay_document_cells.specs.Kept.{TableValue}
 use Rattle.lay_document_cells.proofs.TextStyles.{texts-have-no-styles}
 use Rattle.lay_document_cells.proofs.document_table.DocumentTable.styles_after.Goals as goal

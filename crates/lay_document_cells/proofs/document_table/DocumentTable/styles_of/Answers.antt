@@ -1,10 +1,10 @@
 use Rattle.std.proofs.Common.{◌≡◌, ◌∙◌, List, Bool, IfSome, ap, subst, sym}
 use Rattle.std.specs.Arc.{arc_value}
-use Rattle.lay_layout.specs.style.declared.style.Style.{Style}
-use Rattle.lay_layout.specs.style.ComputedStyle.{HasStyles, style_at}
-use Rattle.lay_layout.specs.doc.Document.{Document, declarations_of, parents_of}
-use Rattle.lay_layout.specs.edit_lists.EditLists.{after_all}
-use Rattle.lay_later_contexts.specs.Changed.{AreMadeAnew, AreStaying}
+use Rattle.lay_style.specs.declared.style.Style.{Style}
+use Rattle.lay_style.specs.ComputedStyle.{HasStyles, style_at}
+use Rattle.lay_doc.specs.Document.{Document, declarations_of, parents_of}
+use Rattle.lay_history.specs.Edits.EditLists.{after_all}
+use Rattle.lay_after_edits.specs.Contexts.Changed.{AreMadeAnew, AreStaying}
 use Rattle.lay_document_cells.specs.Kept.{TableValue}
 use Rattle.lay_document_cells.proofs.TextStyles.{texts-keep-styles}
 use Rattle.lay_document_cells.proofs.document_table.DocumentTable.styles_of.Goals as goal

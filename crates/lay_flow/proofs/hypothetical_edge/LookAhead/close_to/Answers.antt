@@ -1,8 +1,8 @@
 use Rattle.std.proofs.Common.{◌<◌, ◌∙◌, sym, arith, subst, ℕ, length, inl, inr}
 use Rattle.std.proofs.lemmas.Bool.{cases_eq}
-use Rattle.lay_blocks.specs.Boxes.{parent_at}
+use Rattle.lay_flow.specs.Blocks.Boxes.{parent_at}
 use Rattle.lay_flow.specs.Pass.LookAhead.{IsReading, reading}
-use Rattle.lay_blocks.specs.MarginRuns.{block_at, may_collapse_through}
+use Rattle.lay_flow.specs.Blocks.MarginRuns.{block_at, may_collapse_through}
 use Rattle.lay_flow.proofs.LookAheadSteps.{closed_read, closed_last, closed_reading, after_outset, goes_past, ends_parted}
 use Rattle.lay_flow.proofs.hypothetical_edge.LookAhead.close_to.Goals as goal
 

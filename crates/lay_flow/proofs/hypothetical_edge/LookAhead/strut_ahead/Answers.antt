@@ -1,8 +1,8 @@
 use Rattle.std.proofs.Common.{◌≡◌, ◌<◌, ℕ, arith, length, refl, subst, sym}
 use Rattle.lay_flow.specs.Pass.LookAhead.{IsReading, HasRead, reading}
-use Rattle.lay_blocks.proofs.Truths.{true_or}
+use Rattle.lay_flow.proofs.BlocksLemmas.Truths.{true_or}
 use Rattle.lay_flow.proofs.LookAheadSteps.{begins_reading, ends_before_root}
-use Rattle.lay_blocks.proofs.MarginWalk.{place_before}
+use Rattle.lay_flow.proofs.BlocksLemmas.MarginWalk.{place_before}
 use Rattle.lay_flow.proofs.hypothetical_edge.LookAhead.strut_ahead.Goals as goal
 
 pub loop-m-init : goal.loop-m-init

@@ -1,6 +1,6 @@
 use Rattle.std.proofs.Common.{◌≡◌, ◌++◌, ◌∷◌, [], List, Option, sym, ap, ◌∙◌, append-nil}
 use Rattle.lay_doc.specs.declared.edit.Edit.{Edit}
-use Rattle.lay_edits.specs.declared.command.Cmd.TheVariants.{Edits}
+use Rattle.lay_history.specs.declared.edits.command.Cmd.TheVariants.{Edits}
 use Rattle.lay_generator.specs.Commands.{batches}
 use Rattle.lay_generator.proofs.Batching.{all_batches, last_command}
 use Rattle.lay_generator.proofs.batches.Batches.into_commands.Goals as goal

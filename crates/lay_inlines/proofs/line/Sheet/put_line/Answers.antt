@@ -2,8 +2,8 @@ use Rattle.std.proofs.Common.{◌≡◌, ◌∙◌, ◌++◌, ◌∷◌, [], Lis
 use Rattle.std.proofs.lemmas.List.{append_assoc}
 use Rattle.std.proofs.lemmas.List.Elements.{All-same}
 use Rattle.lay_units.specs.declared.length.Unit.{Unit}
-use Rattle.lay_line_content.specs.declared.pen.Pen.{Pen}
-use Rattle.lay_line_content.specs.Pens.{over_all}
+use Rattle.lay_lines.specs.declared.content.pen.Pen.{Pen}
+use Rattle.lay_lines.specs.Content.Pens.{over_all}
 use Rattle.lay_inlines.specs.Bounds.{PenWithin, StrokeWithin}
 use Rattle.lay_inlines.specs.LinePieces.{baseline_of, blank_of, content_end, line_spans, origin_of, piece_of}
 use Rattle.lay_inlines.specs.Looks.{LookAs}

@@ -2,9 +2,9 @@ use Rattle.std.proofs.Common.{◌≡◌, ◌∷◌, ◌++◌, [], ◌⊎◌, ⊎
 use Rattle.std.specs.List.{All}
 use Rattle.std.specs.Vec.Iter.{into_iter_items}
 use Rattle.std.proofs.lemmas.List.Elements.{All-contains_itself, All-head, All-nil, All-push, All-same, All-tail}
-use Rattle.lay_claims.specs.cell_work.Claims.{Claim}
-use Rattle.lay_claims.specs.declared.outcome.Outcome.{Outcome}
-use Rattle.lay_claims.specs.declared.outcome.Outcome.TheVariants as outcome
+use Rattle.lay_cell_work.specs.Claims.{Claim}
+use Rattle.lay_cell_work.specs.declared.claim_lists.outcome.Outcome.{Outcome}
+use Rattle.lay_cell_work.specs.declared.claim_lists.outcome.Outcome.TheVariants as outcome
 use Rattle.lay_pool.specs.Hands.{IsRefusedOf}
 use Rattle.lay_pool.proofs.hand.Hand.deal.Goals as goal
 

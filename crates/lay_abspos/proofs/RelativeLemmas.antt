@@ -1,0 +1,7 @@
+pub mod NoMoves
+pub mod SomeFormers
+pub mod Ends
+pub mod MoveSteps
+pub mod Nearest
+pub mod NextParts
+pub mod OneMoves

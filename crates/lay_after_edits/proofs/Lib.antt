@@ -1,0 +1,2 @@
+pub mod StylesLemmas
+pub mod ContextsLemmas

@@ -1,0 +1,7 @@
+pub mod InsertedPlace
+pub mod StyleLists
+pub mod MovedStyles
+pub mod ChangedNodes
+pub mod InsertedNodes
+pub mod RemovedNodes
+pub mod EditedStyles

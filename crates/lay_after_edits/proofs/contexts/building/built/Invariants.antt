@@ -1,0 +1,5 @@
+use Rattle.lay_after_edits.specs.Contexts.Building.{AreBuiltTo}
+use Rattle.lay_after_edits.proofs.contexts.building.built.Given as goal
+
+abbrev pub invariant-loop-i : goal.invariant-loop-i
+invariant-loop-i l = AreBuiltTo l.before l.of.later.now.nodes l.of.styles.now l.places l.items.items l.reached.items l.i

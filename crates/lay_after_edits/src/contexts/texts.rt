@@ -1,0 +1,43 @@
+//! Whether a box is generated of a text before an edit and after it.
+
+ghost use Rattle.std.specs.Prelude.{◌≡◌, ◌<◌, IsTrue, length};
+ghost use Rattle.std.specs.List.{list_all};
+ghost use Rattle.lay_boxgen.specs.WhiteSpace.{is_white_byte};
+ghost use Rattle.lay_after_edits.specs.Contexts.Reach.{IsSeen, IsSeenAt, StaysSeen};
+
+use crate::contexts::edited_doc::EditedDoc;
+use lay_doc::{Doc, Edit};
+
+fn is_white(bytes: &[u8]) -> bool
+    ensures { result ≡ list_all is_white_byte bytes.now }
+{
+    bytes
+        .iter()
+        .all(|byte| matches!(*byte, b' ' | b'\t' | b'\n' | b'\r'))
+}
+
+/// Whether a text has more than white space.
+pub(crate) fn is_seen(text: &str) -> bool
+    ensures { IsTrue result → IsSeen text.now }
+{
+    !is_white(text.as_bytes())
+}
+
+/// Whether the text of the node at a place has.
+fn is_seen_at(doc: &Doc, place: usize) -> bool
+    requires { place < length doc.now.nodes }
+    ensures { IsTrue result → IsSeenAt doc.now.nodes place }
+{
+    is_seen(doc.nodes()[place].text.as_str())
+}
+
+/// Whether the text of the node at a place, if it is changed, has before the edit and after it.
+pub(crate) fn stays_seen(of: &EditedDoc<'_>, place: usize) -> bool
+    requires { place < length of.now.doc.now.nodes }
+    ensures { IsTrue result → StaysSeen of.now.edit.now of.now.doc.now.nodes place }
+{
+    match of.edit {
+        Edit::SetText { text, .. } => is_seen(text.as_str()) && is_seen_at(of.doc, place),
+        _ => true,
+    }
+}

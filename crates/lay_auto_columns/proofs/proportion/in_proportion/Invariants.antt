@@ -1,5 +1,0 @@
-use Rattle.lay_auto_columns.specs.Pass.Steps.{SharedTo}
-use Rattle.lay_auto_columns.proofs.proportion.in_proportion.Given as goal
-
-abbrev pub invariant-loop-bound : goal.invariant-loop-bound
-invariant-loop-bound l = SharedTo l.bounds l.fn.space.0 l.more l.bound-index l.widths.items

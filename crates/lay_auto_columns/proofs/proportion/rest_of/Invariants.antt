@@ -1,9 +1,0 @@
-use Rattle.std.proofs.Common.{◌≡◌, drop, ◌-ℤ◌, ◌≤ℤ◌}
-use Rattle.lay_auto_columns.specs.AutoColumns.{sum_min}
-use Rattle.lay_auto_columns.proofs.proportion.rest_of.Given as goal
-
-abbrev pub invariant-loop-bound : goal.invariant-loop-bound
-invariant-loop-bound l = record {
-  value : (l.rest -ℤ sum_min (drop l.bound-index l.bounds)) ≡ (l.fn.space.0 -ℤ sum_min l.bounds);
-  most : l.rest ≤ℤ l.fn.space.0;
-}

@@ -1,3 +1,0 @@
-mod CountedGrants
-mod ChangedRows
-mod CleanedCells

@@ -1,5 +1,0 @@
-use Rattle.lay_cell_progress.proofs.ChangedRows.{give_backs_keep_rows_lem}
-use Rattle.lay_cell_progress.proofs.progress.give_backs_keep_rows.Goals as goal
-
-pub returns : goal.returns
-returns g c = give_backs_keep_rows_lem

@@ -1,5 +1,0 @@
-use Rattle.lay_cell_progress.proofs.CleanedCells.{finished_cells_are_clean_lem}
-use Rattle.lay_cell_progress.proofs.settled.finished_cells_are_clean.Goals as goal
-
-pub returns : goal.returns
-returns g c = finished_cells_are_clean_lem _

@@ -1,5 +1,0 @@
-use Rattle.lay_cell_steps.proofs.EditedRows.{edits_keep_cells_lem}
-use Rattle.lay_cell_steps.proofs.edited_cells.edits_keep_cells.Goals as goal
-
-pub returns : goal.returns
-returns c = edits_keep_cells_lem c.edits_leave_documents.ensures c.inputs_are_kept.ensures c.root_stays_first.ensures

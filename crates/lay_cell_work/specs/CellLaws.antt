@@ -1,0 +1,5 @@
+pub mod SoundCells
+pub mod DocumentCells
+pub mod Laws
+pub mod SameContexts
+pub mod KeptInputs

@@ -1,0 +1,2 @@
+pub mod ClaimLists
+pub mod Outcomes

@@ -1,0 +1,3 @@
+pub mod CountedGrants
+pub mod ChangedRows
+pub mod CleanedCells

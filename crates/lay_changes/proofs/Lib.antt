@@ -1,4 +1,0 @@
-mod NodeNumbers
-mod RisingNumbers
-mod TouchedSteps
-mod TouchedLaws

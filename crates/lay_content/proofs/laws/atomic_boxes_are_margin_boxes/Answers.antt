@@ -1,5 +1,0 @@
-use Rattle.lay_content.proofs.AtomicExtents.{atomic_extents_lem}
-use Rattle.lay_content.proofs.laws.atomic_boxes_are_margin_boxes.Goals as goal
-
-pub returns : goal.returns
-returns c = atomic_extents_lem

@@ -1,5 +1,0 @@
-use Rattle.lay_content.proofs.SeenRows.{seen_lines_lem}
-use Rattle.lay_content.proofs.laws.seen_lines_are_seen.Goals as goal
-
-pub returns : goal.returns
-returns c = seen_lines_lem

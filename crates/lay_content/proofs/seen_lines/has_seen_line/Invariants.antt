@@ -1,6 +1,0 @@
-use Rattle.std.proofs.Common.{◌≡◌, drop}
-use Rattle.lay_content.specs.SeenLines.{has_seen_line}
-use Rattle.lay_content.proofs.seen_lines.has_seen_line.Given as goal
-
-abbrev pub invariant-loop-k : goal.invariant-loop-k
-invariant-loop-k l = has_seen_line (drop l.k l.stretches) ≡ has_seen_line l.stretches

@@ -1,7 +1,0 @@
-use Rattle.std.proofs.Common.{◌≡◌, ◌++◌, drop}
-use Rattle.lay_content.specs.TextParts.{text_parts}
-use Rattle.lay_content.proofs.text_parts.put_text.Given as goal
-
-abbrev pub invariant-loop-k : goal.invariant-loop-k
-invariant-loop-k l =
-    l.parts.items ++ text_parts l.run.of l.run.text.now (drop l.k l.widths) ≡ l.fn.parts.items ++ text_parts l.run.of l.run.text.now l.widths

@@ -1,0 +1,12 @@
+pub mod OneLists
+pub mod GivenOnce
+pub mod ReadyGiven
+pub mod WholeLayouts
+pub mod ListedChanges
+pub mod TurnSteps
+pub mod WorkTurns
+pub mod CarriedTurns
+pub mod LaterHistories
+pub mod QuietCalls
+pub mod ReachedTurns
+pub mod GrantedClaims

@@ -1,5 +1,0 @@
-use Rattle.lay_core_laws.proofs.ReachedTurns.{origins_stay_lem}
-use Rattle.lay_core_laws.proofs.laws.origins_stay.Goals as goal
-
-pub returns : goal.returns
-returns c = origins_stay_lem c.claims_work.ensures.claims c.claims_work.ensures.next_claims c.claims_work.ensures.batches c.claims_work.ensures.outcomes

@@ -1,6 +1,0 @@
-use Rattle.lay_gather.specs.ListedDocuments.{listed_document}
-use Rattle.lay_gather.specs.Standing.{HasPut}
-use Rattle.lay_gather.proofs.walk.in_order.Given as goal
-
-abbrev pub invariant-loop-place : goal.invariant-loop-place
-invariant-loop-place l = HasPut (listed_document l.width l.height l.fn.listing.items.items) l.fn.listing.items.items l.nexts.items l.doc l.items.items l.at l._place

@@ -1,0 +1,5 @@
+use Rattle.lay_grid.proofs.AutomaticLemmas.Exists.{columns_have_widths_lem}
+use Rattle.lay_grid.proofs.automatic.laws.columns_have_widths.Goals as goal
+
+pub returns : goal.returns
+returns c = columns_have_widths_lem

@@ -1,6 +1,0 @@
-use Rattle.std.proofs.Common.{◌≡◌, replicate}
-use Rattle.lay_input.specs.NamesByPlace.{no_names}
-use Rattle.lay_input.proofs.by_place.none_named.Given as goal
-
-abbrev pub invariant-loop-k : goal.invariant-loop-k
-invariant-loop-k l = l.named.items ≡ replicate l._k no_names

@@ -1,5 +1,0 @@
-use Rattle.lay_input.proofs.OneStyledCheck.{runs_are_styled_beside_reports_lem}
-use Rattle.lay_input.proofs.laws.runs_are_styled_beside_reports.Goals as goal
-
-pub returns : goal.returns
-returns c = runs_are_styled_beside_reports_lem

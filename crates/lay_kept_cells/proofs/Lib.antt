@@ -1,0 +1,4 @@
+pub mod StepsLemmas
+pub mod ListStepsLemmas
+pub mod TableLemmas
+pub mod SettledLemmas

@@ -1,0 +1,10 @@
+pub mod RowsOfContexts
+pub mod InputsBeside
+pub mod ChangedRow
+pub mod StepsKeep
+pub mod ReadyRows
+pub mod CarriedRows
+pub mod NewRows
+pub mod FollowedRows
+pub mod EditedRows
+pub mod ReachedContexts

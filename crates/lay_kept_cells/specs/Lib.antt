@@ -1,0 +1,4 @@
+pub mod Steps
+pub mod ListSteps
+pub mod Table
+pub mod Settled

@@ -1,0 +1,4 @@
+pub mod CellSteps
+pub mod ReadyCells
+pub mod EditedCells
+pub mod TouchedContexts

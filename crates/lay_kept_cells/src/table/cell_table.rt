@@ -1,0 +1,232 @@
+//! The contexts of a document with the places of their cells.
+
+ghost use Rattle.std.specs.Prelude.{◌≡◌, ◌<◌, ◌+◌, IfOk, Some, length, map, slice_get};
+ghost use Rattle.lay_contexts.specs.FormattingContextList.{AreFormattingContextsOf, first_number};
+ghost use Rattle.lay_context.specs.Measured.{is_measured};
+ghost use Rattle.lay_context.specs.MeasuredFlags.{AreMeasured};
+ghost use Rattle.lay_context.specs.PlacedContexts.{not_placed};
+ghost use Rattle.lay_context_sizes.specs.ContextSizes.{not_sized};
+ghost use Rattle.lay_context_sizes.specs.MeasuredContexts.{not_measured};
+ghost use Rattle.lay_cell_work.specs.PresentInputs.{root_count};
+ghost use Rattle.lay_shape.specs.Dependencies.{in_phase};
+ghost use Rattle.lay_shape.specs.Keys.{AreOfOwnNodes, key_of, node_of};
+ghost use Rattle.lay_shape.specs.Shapes.{cells_of, shape_of};
+ghost use Rattle.lay_kept_cells.specs.Table.RootColumns.{IsRootOf};
+
+use crate::table::cell_places::{CellPlaces, cell_in, cell_places, place_in};
+use crate::table::context_root::ContextRoot;
+use crate::table::root_columns::{RootColumns, number_in, root_columns};
+use lay_cells::Shape;
+use lay_context::{Phase, PlacedContext, measured_flags, no_pieces, not_placed, not_sized};
+use lay_context_sizes::{MeasuredContext, SizedContext};
+use lay_contexts::{Contexts, FormattingContexts, formatting_contexts};
+use lay_doc::NodeId;
+use lay_shape::{CellKey, ContextPhase, cells_of, shape};
+use lay_units::NoMemory;
+use std::alloc::Global;
+use std::marker::Model;
+
+/// The contexts of a document with their formatting contexts. It is known which root each of these is, and where the cells of each
+/// context stand, so that nothing is searched for.
+#[derive(Drop)]
+pub struct CellTable {
+    contexts: Contexts,
+    formatting_contexts: FormattingContexts,
+    measured: Vec<bool>,
+    roots: RootColumns,
+    cells: Vec<ContextPhase>,
+    places: Vec<CellPlaces>,
+    no_widths: MeasuredContext,
+    no_sizes: SizedContext,
+    no_place: PlacedContext,
+}
+
+impl Model for CellTable {
+    ghost use Rattle.lay_kept_cells.specs.Table.CellTables.{AreTableColumns, CellTable as Plain};
+
+    ghost Value = { Plain };
+
+    ghost view = { λ t. record { contexts = t.contexts; formatting_contexts = t.formatting_contexts } };
+
+    ghost invariant = { λ t. AreTableColumns (record { contexts = t.contexts; formatting_contexts = t.formatting_contexts }) (record {
+      measured = t.measured.items;
+      roots = t.roots.roots.items;
+      firsts = t.roots.firsts.items;
+      cells = t.cells.items;
+      places = t.places.items;
+      no_widths = t.no_widths;
+      no_sizes = t.no_sizes;
+      no_place = t.no_place;
+    }) };
+}
+
+impl CellTable {
+    /// That of these contexts. NoMemory is also the answer for more formatting contexts than 16,777,216, which no document has.
+    pub fn new(alloc: Global, contexts: Contexts) -> Result<CellTable, NoMemory>
+        ensures contexts { IfOk result (λ t. t.contexts ≡ contexts) }
+        ensures are { IfOk result (λ t. AreFormattingContextsOf t.contexts t.formatting_contexts) }
+    {
+        let _ = contexts.len();
+        let formatting_contexts = formatting_contexts(alloc, &contexts)?;
+        let measured = measured_flags(alloc, &formatting_contexts)?;
+        let roots = root_columns(alloc, &contexts, &formatting_contexts)?;
+        let cells = cells_of(alloc, &contexts)?;
+        let places = cell_places(alloc, &contexts, &cells)?;
+        let no_sizes = not_sized(alloc)?;
+        let no_place = not_placed(alloc, &no_pieces(alloc)?)?;
+        Ok(CellTable {
+            contexts,
+            formatting_contexts,
+            measured,
+            roots,
+            cells,
+            places,
+            no_widths: MeasuredContext::none(),
+            no_sizes,
+            no_place,
+        })
+    }
+
+    /// The contexts.
+    pub fn contexts(&self) -> &Contexts
+        ensures { result.now ≡ self.now.contexts }
+    {
+        &self.contexts
+    }
+
+    /// Their formatting contexts.
+    pub fn formatting_contexts(&self) -> &FormattingContexts
+        ensures contexts { result.now ≡ self.now.formatting_contexts }
+        ensures are { AreFormattingContextsOf self.now.contexts self.now.formatting_contexts }
+    {
+        &self.formatting_contexts
+    }
+
+    /// For each formatting context whether it is measured.
+    pub(crate) fn measured(&self) -> &[bool]
+        ensures { AreMeasured self.now.formatting_contexts result.now }
+    {
+        self.measured.as_slice()
+    }
+
+    /// Whether the preferred widths of the own box of a context count.
+    pub fn is_measured(&self, c: usize) -> bool
+        requires { c < length self.now.contexts }
+        ensures { result ≡ is_measured self.now.formatting_contexts (first_number self.now.contexts c) }
+    {
+        let number = self.first_number(c);
+        self.measured[number]
+    }
+
+    /// The number of the first formatting context of a context, that of its own box.
+    pub(crate) fn first_number(&self, c: usize) -> usize
+        requires { c < length self.now.contexts }
+        ensures { result ≡ first_number self.now.contexts c }
+    {
+        number_in(&self.roots.firsts, c)
+    }
+
+    /// How many roots a context has.
+    pub(crate) fn root_count(&self, c: usize) -> usize
+        requires { c < length self.now.contexts }
+        ensures { result ≡ root_count self.now.contexts c }
+    {
+        number_in(&self.roots.firsts, c + 1) - number_in(&self.roots.firsts, c)
+    }
+
+    /// Which root the formatting context with this number is.
+    pub(crate) fn root_at(&self, i: usize) -> ContextRoot
+        requires { i < length self.now.formatting_contexts }
+        ensures { IsRootOf self.now.contexts result i }
+    {
+        self.roots.roots[i]
+    }
+
+    /// How many cells there are.
+    pub fn len(&self) -> usize
+        ensures { result ≡ length (cells_of self.now.contexts) }
+    {
+        self.cells.len()
+    }
+
+    /// The cell at a place.
+    pub fn cell_at(&self, place: usize) -> ContextPhase
+        requires { place < length (cells_of self.now.contexts) }
+        ensures cell { slice_get (cells_of self.now.contexts) place ≡ Some result }
+        ensures within { result.context < length self.now.contexts }
+    {
+        cell_in(&self.contexts, &self.cells, place)
+    }
+
+    /// The place of the cell of a context for a phase.
+    pub fn place_of(&self, context: usize, phase: Phase) -> usize
+        requires { context < length self.now.contexts }
+        ensures { slice_get (cells_of self.now.contexts) result ≡ Some (in_phase phase context) }
+    {
+        place_in(self.places[context], phase)
+    }
+
+    /// The key of the cell at a place.
+    pub fn key_at(&self, place: usize) -> CellKey
+        requires { place < length (cells_of self.now.contexts) }
+        ensures { slice_get (map (key_of self.now.contexts) (cells_of self.now.contexts)) place ≡ Some result }
+    {
+        key_of(&self.contexts, self.cell_at(place))
+    }
+
+    /// The key of a cell.
+    pub fn key_of(&self, cell: ContextPhase) -> CellKey
+        requires { cell.context < length self.now.contexts }
+        ensures { result ≡ key_of self.now.contexts cell }
+    {
+        key_of(&self.contexts, cell)
+    }
+
+    /// The shape of the cells.
+    pub fn shape(&self, alloc: Global) -> Result<Shape<CellKey>, NoMemory>
+        requires { AreOfOwnNodes self.now.contexts }
+        ensures { IfOk result (λ s. s ≡ shape_of self.now.contexts) }
+    {
+        shape(alloc, &self.contexts)
+    }
+
+    /// What is read of the preferred widths of a context that has none.
+    pub(crate) fn no_widths(&self) -> &MeasuredContext
+        ensures { result.now ≡ not_measured }
+    {
+        &self.no_widths
+    }
+
+    /// What is read of the sizes of a context that has none.
+    pub(crate) fn no_sizes(&self) -> &SizedContext
+        ensures { result.now ≡ not_sized }
+    {
+        &self.no_sizes
+    }
+
+    /// What is read of the placement of a context that has none.
+    pub(crate) fn no_place(&self) -> &PlacedContext
+        ensures { result.now ≡ not_placed }
+    {
+        &self.no_place
+    }
+}
+
+/// The key of a cell.
+fn key_of(contexts: &Contexts, cell: ContextPhase) -> CellKey
+    requires { cell.context < length contexts.now }
+    ensures { result ≡ key_of contexts.now cell }
+{
+    CellKey {
+        node: node_of(contexts, cell.context),
+        phase: cell.phase,
+    }
+}
+
+/// The node of a context.
+fn node_of(contexts: &Contexts, c: usize) -> NodeId
+    requires { c < length contexts.now }
+    ensures { result ≡ node_of contexts.now c }
+{
+    contexts.at(c).boxes().as_slice()[0].node
+}

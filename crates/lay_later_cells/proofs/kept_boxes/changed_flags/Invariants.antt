@@ -1,5 +1,0 @@
-use Rattle.lay_later_cells.specs.KeptBoxes.{AreBoxFlagsTo}
-use Rattle.lay_later_cells.proofs.kept_boxes.changed_flags.Given as goal
-
-abbrev pub invariant-loop-i : goal.invariant-loop-i
-invariant-loop-i l = AreBoxFlagsTo l.before l.after l.flags.items l.i

@@ -1,5 +1,0 @@
-use Rattle.lay_later_contexts.specs.Building.{AreBuiltTo}
-use Rattle.lay_later_contexts.proofs.building.built.Given as goal
-
-abbrev pub invariant-loop-i : goal.invariant-loop-i
-invariant-loop-i l = AreBuiltTo l.before l.of.later.now.nodes l.of.styles.now l.places l.items.items l.reached.items l.i

@@ -1,6 +1,0 @@
-use Rattle.std.proofs.Common.{◌≡◌, ◌<◌, ℕ, slice_get}
-use Rattle.lay_later_contexts.specs.Unstyled.{all_unstyled}
-use Rattle.lay_later_contexts.proofs.unstyled.are_unstyled_same.Given as goal
-
-abbrev pub invariant-loop-k : goal.invariant-loop-k
-invariant-loop-k l = (m : ℕ) → m < l.k → slice_get (all_unstyled l.a) m ≡ slice_get (all_unstyled l.b) m

@@ -1,6 +1,0 @@
-use Rattle.std.proofs.Common.{◌≡◌, drop}
-use Rattle.lay_line_content.specs.Extents.{any_shows}
-use Rattle.lay_line_content.proofs.extents.any_shows.Given as goal
-
-abbrev pub invariant-loop-k : goal.invariant-loop-k
-invariant-loop-k l = any_shows (drop l.k l.boxes) ≡ any_shows l.boxes

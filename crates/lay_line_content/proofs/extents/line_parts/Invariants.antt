@@ -1,6 +1,0 @@
-use Rattle.std.proofs.Common.{◌≡◌}
-use Rattle.lay_line_content.specs.Extents.{reading_of, reading_to}
-use Rattle.lay_line_content.proofs.extents.line_parts.Given as goal
-
-abbrev pub invariant-loop-k : goal.invariant-loop-k
-invariant-loop-k l = reading_of l.boxes.items l.line ≡ reading_to l.frame l.fn.boxes.items l.stretches l.k

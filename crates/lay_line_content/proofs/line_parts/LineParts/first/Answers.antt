@@ -1,6 +1,0 @@
-use Rattle.std.proofs.Common.{drop}
-use Rattle.lay_line_content.proofs.LineParts.{first_few}
-use Rattle.lay_line_content.proofs.line_parts.LineParts.first.Goals as goal
-
-pub open-requires : goal.open-requires
-open-requires c = first_few c.loop-k.line (drop c.loop-k.k c.args.boxes.now) _ c.loop-k.invariant c.requires

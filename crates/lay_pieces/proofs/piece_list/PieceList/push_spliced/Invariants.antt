@@ -1,7 +1,0 @@
-use Rattle.std.proofs.Common.{◌≡◌, take}
-use Rattle.lay_pieces.specs.PieceParts.{with_pieces}
-use Rattle.lay_pieces.specs.Splicing.{spliced}
-use Rattle.lay_pieces.proofs.piece_list.PieceList.push_spliced.Given as goal
-
-abbrev pub invariant-loop-k : goal.invariant-loop-k
-invariant-loop-k l = l.self ≡ with_pieces l.initial.self (take l.k (spliced l.width l.standing l.pieces))

@@ -1,0 +1,40 @@
+//! Corners of boxes.
+
+ghost use Rattle.std.specs.Prelude.{◌≡◌, IfErr, IfOk};
+ghost use Rattle.lay_units.specs.Units.{IsNear};
+ghost use Rattle.lay_placements.specs.Corners.{IsCornerNear};
+
+use lay_units::{NoMemory, Unit};
+
+/// The greatest distance of an edge from the origin.
+const FAR: i64 = 1152921504606846976;
+
+/// The top left corner of a border box, in 1/64 px.
+#[derive(Clone, Copy, PartialEq, Eq)]
+pub struct Corner {
+    pub x: Unit,
+    pub y: Unit,
+}
+
+/// A corner. NoMemory is the answer where it is more than 2^60 units away, and nowhere else.
+pub fn near_corner(x: Unit, y: Unit) -> Result<Corner, NoMemory>
+    ensures corner { IfOk result (λ c. c ≡ record { x = x; y = y }) }
+    ensures near { IfOk result IsCornerNear }
+    ensures far { IfErr result (λ e. IsCornerNear (record { x = x; y = y }) → ⊥) }
+{
+    let x = near_position(x)?;
+    let y = near_position(y)?;
+    Ok(Corner { x, y })
+}
+
+/// A position. NoMemory is the answer where it is more than 2^60 units from 0, and nowhere else.
+pub fn near_position(v: Unit) -> Result<Unit, NoMemory>
+    ensures value { IfOk result (λ u. u ≡ v) }
+    ensures near { IfOk result (λ u. IsNear u.0) }
+    ensures far { IfErr result (λ e. IsNear v.0 → ⊥) }
+{
+    if v.0 < -FAR || v.0 > FAR {
+        return Err(NoMemory);
+    }
+    Ok(v)
+}

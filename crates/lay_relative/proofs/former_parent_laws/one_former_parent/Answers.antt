@@ -1,5 +1,0 @@
-use Rattle.lay_relative.proofs.Nearest.{one_former_parent}
-use Rattle.lay_relative.proofs.former_parent_laws.one_former_parent.Goals as goal
-
-pub returns : goal.returns
-returns c = one_former_parent

@@ -1,5 +1,0 @@
-use Rattle.lay_relative.specs.SubtreeEnds.{AreEndsTo}
-use Rattle.lay_relative.proofs.subtree_end.subtree_ends.Given as goal
-
-abbrev pub invariant-loop-k : goal.invariant-loop-k
-invariant-loop-k l = AreEndsTo l.boxes l.ends.items l.k

@@ -1,8 +1,0 @@
-//! The law of the definition.
-
-ghost use Rattle.lay_relative.specs.Laws.{OneColumnOfMoves};
-
-/// The boxes of a formatting context are moved in one way.
-pub fn one_column_of_moves()
-    ensures { OneColumnOfMoves }
-{}

@@ -1,7 +1,0 @@
-mod InsertedPlace
-mod StyleLists
-mod MovedStyles
-mod ChangedNodes
-mod InsertedNodes
-mod RemovedNodes
-mod EditedStyles

@@ -1,0 +1,4 @@
+pub mod ShapedNeeds
+pub mod WayContexts
+pub mod FirstNodes
+pub mod FirstContexts

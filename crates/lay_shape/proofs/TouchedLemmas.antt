@@ -1,0 +1,4 @@
+pub mod NodeNumbers
+pub mod RisingNumbers
+pub mod TouchedSteps
+pub mod TouchedLaws

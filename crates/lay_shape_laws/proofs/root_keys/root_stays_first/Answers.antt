@@ -1,5 +1,0 @@
-use Rattle.lay_shape_laws.proofs.FirstContexts.{root_stays_first_lem}
-use Rattle.lay_shape_laws.proofs.root_keys.root_stays_first.Goals as goal
-
-pub returns : goal.returns
-returns c = root_stays_first_lem

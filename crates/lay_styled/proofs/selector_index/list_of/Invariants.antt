@@ -1,9 +1,0 @@
-use Rattle.std.proofs.Common.{◌≡◌, ◌<◌, drop}
-use Rattle.lay_styled.specs.Index.{list_from, list_of}
-use Rattle.lay_styled.proofs.selector_index.list_of.Given as goal
-
-abbrev pub invariant-loop-byte : goal.invariant-loop-byte
-invariant-loop-byte l = record {
-  below : l.sum < 4096;
-  goes_on : list_from l.sum (drop l.byte-index l.name) ≡ list_of l.name;
-}

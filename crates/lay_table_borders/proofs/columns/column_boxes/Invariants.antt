@@ -1,5 +1,0 @@
-use Rattle.lay_table_borders.specs.Pass.ColumnMarks.{AreColumnsTo}
-use Rattle.lay_table_borders.proofs.columns.column_boxes.Given as goal
-
-abbrev pub invariant-loop-k : goal.invariant-loop-k
-invariant-loop-k l = AreColumnsTo l.boxes l.k l.columns.items

@@ -1,5 +1,0 @@
-use Rattle.lay_table_borders.specs.Pass.ColumnMarks.{ColumnMarksTo}
-use Rattle.lay_table_borders.proofs.columns.column_marks.Given as goal
-
-abbrev pub invariant-loop-k : goal.invariant-loop-k
-invariant-loop-k l = ColumnMarksTo l.boxes l.k l.marks.items

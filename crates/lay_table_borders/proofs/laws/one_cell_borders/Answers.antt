@@ -1,5 +1,0 @@
-use Rattle.lay_table_borders.proofs.OneBorders.{one_cell_borders_lem}
-use Rattle.lay_table_borders.proofs.laws.one_cell_borders.Goals as goal
-
-pub returns : goal.returns
-returns c = one_cell_borders_lem

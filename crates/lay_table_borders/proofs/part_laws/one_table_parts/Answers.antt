@@ -1,5 +1,0 @@
-use Rattle.lay_table_borders.proofs.OneTableParts.{one_table_parts_lem}
-use Rattle.lay_table_borders.proofs.part_laws.one_table_parts.Goals as goal
-
-pub returns : goal.returns
-returns c = one_table_parts_lem
