@@ -93,7 +93,7 @@ impl Engine {
         (reply, pass)
     }
 
-    /// The length of the history at one moment: one load, and no lock.
+    /// The length of the history at one moment: one load, and no lock. No program calls it.
     pub fn front(&self, pass: &mut Pass) -> u64
         requires of { pass.old.table ≡ self.now.table }
         ensures seen { pass.old.knows.seen ≤ result }

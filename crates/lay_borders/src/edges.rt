@@ -12,7 +12,7 @@ use std::alloc::Global;
 /// The borders that meet at the edges of a grid of so many rows and columns. First come the
 /// horizontal edges row by row, from above the first row to below the last, and then the vertical
 /// ones row by row, from left of the first column to right of the last. At an edge inside a cell no
-/// borders meet.
+/// borders meet. It is what `resolve` takes.
 #[derive(Drop)]
 pub struct GridBorders {
     pub rows: u32,
@@ -27,7 +27,7 @@ pub struct EdgeGrid {
     pub edges: CandOptions,
 }
 
-/// The collapsed border of each edge.
+/// The collapsed border of each edge. No program calls it: lay_table_grid asks `edge_border` of one edge at a time.
 pub fn resolve(alloc: Global, grid: &GridBorders) -> Result<EdgeGrid, NoMemory>
     ensures { IfOk result (λ resolved. AreResolved grid.now.edges resolved.edges) }
 {

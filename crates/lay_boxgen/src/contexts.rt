@@ -12,7 +12,8 @@ use lay_doc::{Doc, Node, NodeId, parent_at};
 use lay_style::{Computed, Style};
 
 /// Whether the node with this id is a context: an element that generates a box and establishes a new block
-/// formatting context, or a replaced element that generates a box. A style is given for each node.
+/// formatting context, or a replaced element that generates a box. A style is given for each node. No program calls it:
+/// `context_flags` answers it of every node.
 pub fn is_context(doc: &Doc, style: &Computed, node: NodeId) -> bool
     requires styles { length style.now ≡ length doc.now.nodes }
     ensures { IsTrue result ↔ IsContext doc.now style.now node.0 }

@@ -24,19 +24,6 @@ use lay_table::table_placement;
 use lay_units::NoMemory;
 use std::alloc::Global;
 
-/// The value of a task that is given this, by itself: the content of its lines is made for it alone.
-pub fn compute(alloc: Global, input: &Input) -> Result<Value, NoMemory>
-    ensures { IfOk result (IsLocal input.now) }
-{
-    match input {
-        Input::Measure(parts) => value_of_measure(alloc, parts.share(alloc)?),
-        Input::Unmeasured => Ok(Value::Measure(MeasuredContext::none())),
-        Input::Size(input) => value_of_size(alloc, input),
-        Input::Place(parts, stand) => value_of_flow(alloc, parts.share(alloc)?, stand),
-        Input::PlaceTable(parts, stand) => value_of_table(alloc, parts.share(alloc)?, stand),
-    }
-}
-
 /// The preferred widths of a formatting context that is measured.
 pub fn value_of_measure(alloc: Global, parts: MeasureParts) -> Result<Value, NoMemory>
     ensures { IfOk result (IsLocal (Measure parts)) }

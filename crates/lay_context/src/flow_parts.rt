@@ -1,6 +1,6 @@
 //! What a formatting context in block flow is placed of.
 
-ghost use Rattle.std.specs.Prelude.{◌≡◌, length, IfOk};
+ghost use Rattle.std.specs.Prelude.{◌≡◌, length};
 ghost use Rattle.lay_line_items.specs.InlineContents.{AreContents};
 ghost use Rattle.lay_sizes.specs.SizeColumns.{sizes_at};
 ghost use Rattle.lay_flow_boxes.specs.PlaceInputs.{HeightRuleFits, PlaceInputFits, height_rule_of};
@@ -14,8 +14,6 @@ use lay_flow_boxes::PlaceInput;
 use lay_line_items::InlineContents;
 use lay_placements::{ContextSizes, OwnBoxes};
 use lay_sizes::BoxSizes;
-use lay_units::NoMemory;
-use std::alloc::Global;
 use std::marker::Model;
 use std::sync::Arc;
 
@@ -152,25 +150,6 @@ impl FlowParts {
         let input = PlaceInput::new(self.boxes, self.sizes, self.inner, pieces, self.face);
         input.with_own_height(own_height).with_contents(contents)
     }
-
-    /// The same, shared.
-    pub(crate) fn share(&self, alloc: Global) -> Result<FlowParts, NoMemory>
-        ensures { IfOk result (λ i. i ≡ self.now) }
-    {
-        let boxes = self.boxes.share()?;
-        let sizes = self.sizes.share()?;
-        let inner = copied(alloc, &self.inner)?;
-        let pieces = self.pieces.share(alloc)?;
-        let face = self.face.clone()?;
-        Ok(FlowParts {
-            boxes,
-            sizes,
-            inner,
-            pieces,
-            own_height: self.own_height,
-            face,
-        })
-    }
 }
 
 /// The used sizes of the own box.
@@ -180,12 +159,4 @@ fn own_sizes(boxes: &ContextBoxes, sizes: &ContextSizes) -> BoxSizes
 {
     let _ = boxes.as_slice();
     sizes.as_slice()[0]
-}
-
-/// The same own boxes.
-pub(crate) fn copied(alloc: Global, boxes: &OwnBoxes) -> Result<OwnBoxes, NoMemory>
-    ensures { IfOk result (λ b. b ≡ boxes.now) }
-{
-    let items = Vec::from_slice(alloc, boxes.as_slice())?;
-    Ok(OwnBoxes::new(items))
 }

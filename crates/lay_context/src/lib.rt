@@ -39,7 +39,7 @@ mod value;
 mod values;
 
 pub use assembling::assemble;
-pub use computing::{compute, value_of_flow, value_of_measure, value_of_size, value_of_table};
+pub use computing::{value_of_flow, value_of_measure, value_of_size, value_of_table};
 pub use flow_parts::FlowParts;
 pub use formatted_document::FormattedDocument;
 pub use given::input_of;

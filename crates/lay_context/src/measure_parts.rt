@@ -1,6 +1,6 @@
 //! What a formatting context is measured of.
 
-ghost use Rattle.std.specs.Prelude.{◌≡◌, IfOk};
+ghost use Rattle.std.specs.Prelude.{◌≡◌};
 ghost use Rattle.lay_line_items.specs.InlineContents.{AreContents};
 
 use lay_box_tree::ContextBoxes;
@@ -8,8 +8,6 @@ use lay_context_sizes::MeasureInput;
 use lay_face::Face;
 use lay_line_items::InlineContents;
 use lay_measure::PreferredWidths;
-use lay_units::NoMemory;
-use std::alloc::Global;
 use std::marker::Model;
 use std::sync::Arc;
 
@@ -65,15 +63,5 @@ impl MeasureParts {
         ensures { result ≡ self }
     {
         MeasureInput::new(self.boxes, self.inner, self.face).with_contents(contents)
-    }
-
-    /// The same, shared.
-    pub(crate) fn share(&self, alloc: Global) -> Result<MeasureParts, NoMemory>
-        ensures { IfOk result (λ i. i ≡ self.now) }
-    {
-        let boxes = self.boxes.share()?;
-        let inner = Vec::from_slice(alloc, self.inner.as_slice())?;
-        let face = self.face.clone()?;
-        Ok(MeasureParts { boxes, inner, face })
     }
 }

@@ -1,16 +1,13 @@
 //! What a table's formatting context is placed of.
 
-ghost use Rattle.std.specs.Prelude.{◌≡◌, IfOk};
+ghost use Rattle.std.specs.Prelude.{◌≡◌};
 ghost use Rattle.lay_table.specs.TableInputs.{TableInputFits};
 
-use crate::flow_parts::copied;
 use crate::shared_pieces::SharedPieces;
 use lay_box_tree::ContextBoxes;
 use lay_placements::{ContextSizes, OwnBoxes};
 use lay_table::TableInput;
 use lay_table_sizes::TableSizes;
-use lay_units::NoMemory;
-use std::alloc::Global;
 use std::marker::Model;
 
 /// The boxes of a table's formatting context (CSS 2.2, 17.4), their used sizes, those of the table's columns and cells, the own boxes
@@ -98,23 +95,5 @@ impl TableParts {
     {
         let pieces = self.pieces.into_inner();
         TableInput::new(self.boxes, self.sizes, self.table, self.inner, pieces)
-    }
-
-    /// The same, shared.
-    pub(crate) fn share(&self, alloc: Global) -> Result<TableParts, NoMemory>
-        ensures { IfOk result (λ i. i ≡ self.now) }
-    {
-        let boxes = self.boxes.share()?;
-        let sizes = self.sizes.share()?;
-        let table = self.table.share()?;
-        let inner = copied(alloc, &self.inner)?;
-        let pieces = self.pieces.share(alloc)?;
-        Ok(TableParts {
-            boxes,
-            sizes,
-            table,
-            inner,
-            pieces,
-        })
     }
 }

@@ -6,7 +6,7 @@
 //! (`specs/Blocks/MarginRuns.antt`), positions and heights (`specs/Blocks/BlockPositions.antt`), floats and boxes that they may not
 //! overlap, with lines beside floats (`specs/Blocks/BlockFloats.antt`), and clearance (`specs/Blocks/Clearance.antt`), each as a column
 //! of a value per box in document order. The laws in `specs/Blocks/Laws.antt` say that a context has one flow, and its blocks one
-//! layout. lay_flow makes it.
+//! layout. `flow` computes it.
 
 mod block;
 mod block_height;

@@ -3,7 +3,7 @@
 //! The first fault of a list, with its place, and the document after a list that has none are said in `specs/Edits/EditLists.antt`,
 //! over the edits of lay_doc; `specs/Edits/Laws.antt` says what follows. `apply_all` takes a list whole or leaves the document as it
 //! was; `check_all` says which of both it would be. `SpareDoc` does so without a copy for each list: a second document is kept in step.
-//! Commands, the replies to them and the entries of a history are types alone: which histories are right is said in lay_history.
+//! Commands, the replies to them and the entries of a history are types alone: `specs/Histories.antt` says which histories are right.
 
 mod applying;
 mod batch_fault;

@@ -8,7 +8,6 @@
 
 mod align;
 mod arithmetic;
-mod bounds;
 mod laws;
 mod line;
 mod line_piece;
@@ -21,7 +20,6 @@ mod stroke_list;
 mod strokes;
 
 pub use align::Align;
-pub use bounds::{is_area_within, is_row_within};
 pub use laws::{
     content_ends_with_its_pen, each_atomic_box_has_one_piece, each_inline_box_has_one_piece,
     each_text_has_one_piece, raises_are_shifts_of_parts, removed_spaces_show_nothing,

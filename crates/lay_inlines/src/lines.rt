@@ -40,8 +40,8 @@ pub struct LinesGeometry<'a> {
 
 /// The pieces of these lines (CSS 2.2, 9.4.2, 10.8.1, 16.2): line by line the line box, and then in document order its
 /// inline boxes, atomic boxes and texts, each on its own baseline. A line that isn't seen has none. All lengths are in
-/// 1/64 px; the left edge is within 2^50 of 0, and lines and areas within the bounds of `is_row_within` and
-/// `is_area_within`. It gives NoMemory where memory runs out.
+/// 1/64 px; the left edge is within 2^50 of 0, and lines and areas within the bounds of `specs/Bounds.antt`. It gives
+/// NoMemory where memory runs out.
 pub fn line_pieces(alloc: Global, lines: &LinesGeometry) -> Result<LinePieceList, NoMemory>
     requires { GeometryWithin lines.now.container lines.now.rows.now lines.now.areas.now }
     ensures { IfOk result (λ l. l

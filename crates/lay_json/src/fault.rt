@@ -119,7 +119,7 @@ pub enum InputFault {
     TooManyCommands,
     /// I10: the batch that this command is has more than 1,024 edits.
     BatchTooLong { editor: u32, index: u32 },
-    /// I11: the style sheet has more than 4,096 selectors. It is found where the sheet is read (lay_json).
+    /// I11: the style sheet has more than 4,096 selectors. It is found where the sheet is read (`styled`).
     TooManySelectors,
     /// Memory ran out.
     NoMemory,

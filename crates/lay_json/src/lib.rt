@@ -7,9 +7,8 @@
 //! two for nodes (`specs/NodeForms.antt`, `specs/Nodes.antt`) and three for the commands of editors
 //! (`specs/EditCommands.antt`, `specs/Commands.antt`, `specs/Editors.antt`).
 //!
-//! `read_names` answers the style sheet of a run document and what its nodes are called (`specs/SheetNames.antt`), and
-//! `read_input` the run with both, of one reading of the bytes. `read_check` answers these and a report that stands beside the
-//! run document (`specs/CheckDocuments.antt`).
+//! `read_input` answers the run with the style sheet and what the nodes are called (`specs/SheetNames.antt`), of one reading of
+//! the bytes. `read_check` answers these and a report that stands beside the run document (`specs/CheckDocuments.antt`).
 //!
 //! - `styled`: a run document with its style sheet.
 #![tactic(auto)]
@@ -36,5 +35,5 @@ pub mod styled;
 pub use check_in::CheckIn;
 pub use fault::{Field, InputFault, Spot};
 pub use laws::{nodes_are_counted, one_check, one_input, one_reading, runs_read_beside_reports};
-pub use reading::{read_check, read_input, read_names, read_run};
+pub use reading::{read_check, read_input, read_run};
 pub use sheet_in::SheetIn;

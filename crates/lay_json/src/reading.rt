@@ -4,7 +4,7 @@ ghost use Rattle.std.specs.Prelude.{◌≢◌, Err};
 ghost use Rattle.serde_json.specs.View.{view};
 ghost use Rattle.lay_json.specs.Fields.{Gives};
 ghost use Rattle.lay_json.specs.SheetNames.{input_of};
-ghost use Rattle.lay_json.specs.Reading.{IsReading, AreNames, IsInput, IsCheck};
+ghost use Rattle.lay_json.specs.Reading.{IsReading, IsInput, IsCheck};
 
 use crate::check::check_of;
 use crate::check_in::CheckIn;
@@ -32,21 +32,6 @@ pub fn read_run(alloc: Global, bytes: &[u8]) -> Result<RunDoc, InputFault>
     }
 }
 
-/// The style sheet that the bytes of a run document say, and what its nodes are called, or the first fault of these, where
-/// `read_run` finds none.
-pub fn read_names(alloc: Global, bytes: &[u8]) -> Result<SheetIn, InputFault>
-    ensures { result ≢ Err InputFault.NoMemory → AreNames bytes.now result }
-{
-    if bytes.len() > MOST_BYTES {
-        return Err(InputFault::TooLong);
-    }
-    match Value::from_slice(alloc, bytes) {
-        Ok(value) => sheet_of(alloc, &value),
-        Err(fault) if fault.classify() == Category::Memory => Err(InputFault::NoMemory),
-        Err(_) => Err(InputFault::BadJson),
-    }
-}
-
 /// The run with its sheet and names that a value says.
 pub(crate) fn input_of(alloc: Global, value: &Value) -> Result<(RunDoc, SheetIn), InputFault>
     ensures { Gives result (input_of (view value.now)) }
@@ -56,7 +41,8 @@ pub(crate) fn input_of(alloc: Global, value: &Value) -> Result<(RunDoc, SheetIn)
     Ok((run, sheet))
 }
 
-/// What `read_run` and `read_names` answer, of one reading of the bytes.
+/// The run that the bytes of a run document say, with its style sheet and what its nodes are called, or their first fault. Faults of
+/// the run come before those of the sheet and the names.
 pub fn read_input(alloc: Global, bytes: &[u8]) -> Result<(RunDoc, SheetIn), InputFault>
     ensures { result ≢ Err InputFault.NoMemory → IsInput bytes.now result }
 {

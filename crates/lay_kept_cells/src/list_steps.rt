@@ -1,7 +1,7 @@
-//! Lists of edits keep the cells of a document its cells, as single edits do (lay_kept_cells). What cells keep after a list is found by
+//! Lists of edits keep the cells of a document its cells, as single edits do (`steps`). What cells keep after a list is found by
 //! comparing the contexts before its first edit with those after its last one: those between have no cells.
 //!
-//! `specs/ListSteps/EditedLists.antt` says it, over `FollowsContexts` of lay_kept_cells.
+//! `specs/ListSteps/EditedLists.antt` says it, over `FollowsContexts` of `specs/Steps/EditedCells.antt`.
 
 mod laws;
 

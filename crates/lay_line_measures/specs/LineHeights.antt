@@ -35,7 +35,7 @@ line_height_in face size (line.Length u) = clamp_size_of u.0
 abbrev pub line_height : FaceValue → TextStyle → ℤ
 line_height face s = line_height_in face (font_size s) s.line_height
 
--- the half of the leading that is added above
+-- the leading, half of which is added above
 abbrev pub leading : ℤ → ℤ → ℤ → ℤ
 leading a d height = height -ℤ (a +ℤ d)
 

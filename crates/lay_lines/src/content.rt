@@ -1,5 +1,5 @@
 //! The content of lines, measured: what a line is made of, how far its content comes, and how high it is (CSS 2.2, 9.4.2,
-//! 10.8, 10.8.1, 16.1 and 16.6). lay_lines makes lines of it beside floats.
+//! 10.8, 10.8.1, 16.1 and 16.6). The modules around this one make lines of it beside floats.
 //!
 //! Contracts cite `LineContentValue` of `specs/Content/LineContents.antt`, the content of a container with its bounds,
 //! `specs/Content/Pens.antt` (how far content comes) and `specs/Content/Extents.antt` (the parts of which lay_valign makes the shape of a

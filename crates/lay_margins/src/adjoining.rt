@@ -9,6 +9,7 @@ use lay_units::NoMemory;
 use std::alloc::Global;
 
 /// The runs of adjoining margins of a block formatting context, in order. There are fewer than 2^32 edges.
+/// No program calls it: the pass of lay_flow follows the runs as it goes.
 pub fn runs(alloc: Global, edges: &[Edge]) -> Result<RunList, NoMemory>
     requires { length edges.now < 2 ^ 32 }
     ensures { IfOk result (λ runs. AreRuns edges.now runs) }

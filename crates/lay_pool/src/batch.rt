@@ -20,7 +20,7 @@ use std::thread::Threads;
 
 /// What comes of each claim, at its place, computed by so many threads that steal from each other: by the calling one alone, in order,
 /// where there is one worker or one claim. The gate is told of the start and the end of each. For want of memory before the first claim is
-/// computed, the claims come back.
+/// computed, the claims come back. No program calls it.
 pub fn run_batch<R: Threads + Sync, G: Gate + Sync>(
     rt: &R,
     alloc: Global,

@@ -76,7 +76,7 @@ impl Hand {
     }
 
     /// What comes of its own claims and, once it has none, of those of others: of at most 64, and of none where there is none to take.
-    /// The gate is told of the start and the end of each. On an error none was taken.
+    /// The gate is told of the start and the end of each. On an error none was taken. No program calls it: workers go on with `work_on`.
     pub fn work<G: Gate>(&mut self, alloc: Global, gate: &G) -> Result<Outcomes, NoMemory>
         ensures { IfOk result (λ os. All ComesOf os) }
     {
@@ -84,7 +84,8 @@ impl Hand {
         Ok(self.work_on(alloc, gate, Outcomes::new(room), BATCH))
     }
 
-    /// The same behind outcomes that it has already: of at most so many more claims, until there are 64 outcomes or no room for another.
+    /// What comes of such claims, behind outcomes that it has already: of at most so many more, until there are 64 outcomes or no room for
+    /// another.
     pub fn work_on<G: Gate>(
         &mut self,
         alloc: Global,

@@ -3,8 +3,8 @@
 //!
 //! Contracts cite `IsSized` of `specs/BoxSizes.antt`, whose lengths are those of `specs/UsedLengths.antt`; the sizes of
 //! replaced elements are those of `specs/ReplacedBoxes.antt`. It is a relation, and has one value (`specs/Laws.antt`).
-//! Contexts size their boxes by it, and so will tables and absolute boxes; nothing of them is known here. What a context
-//! sees of the box of a context inside it is an `OwnBox` (`specs/OwnBoxes.antt`).
+//! Formatting contexts size their boxes by it, those of tables and absolutely positioned boxes too; nothing of them is known here. What
+//! a formatting context sees of the box of one inside it is an `OwnBox` (`specs/OwnBoxes.antt`).
 #![tactic(auto)]
 
 mod laws;

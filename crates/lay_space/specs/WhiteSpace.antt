@@ -1,6 +1,6 @@
 -- White space (CSS 2.2, 16.6.1): what its four steps leave of the inline content of a block container. The
 -- steps work inside each text, but that a space after a collapsible space is removed also across texts.
--- That a space at the start or the end of a line is removed comes when there are lines.
+-- A space at the start or the end of a line is removed where lines are made (lay_lines, lay_inlines).
 --
 -- The texts "a \t\n b" and " c" of an inline box leave "a b" and " c" under `normal`, and "a\nb" and " c"
 -- under `pre-line`.

@@ -1,4 +1,4 @@
--- What the definitions of this crate must meet.
+-- What the definitions of readings must meet.
 use Rattle.std.specs.Prelude.{ℕ, ◌≡◌, ◌++◌, List, map, Some, Err}
 use Rattle.std.specs.Char.{to_ascii_lowercase}
 use Rattle.lay_style.specs.declared.property.Property.{Property}
