@@ -1,6 +1,7 @@
 -- What stands after a command is answered.
 use Rattle.std.proofs.Common.{◌≡◌, ℕ, suc, ◌+◌, ◌<◌, ◌≤◌, List, [], length, fold, Some, refl, sym, ap, ◌∙◌, subst, arith, slice_index_or, slice_set, inl, inr}
 use Rattle.std.proofs.lemmas.Bool.{cases_lt}
+use Rattle.std.proofs.lemmas.Option.{same_Some}
 use Rattle.lay_history.specs.Edits.EditLists.{after_all}
 use Rattle.lay_history.specs.declared.edits.command.Cmd.{Cmd}
 use Rattle.lay_history.specs.declared.edits.command.Cmd.TheVariants as command
@@ -9,7 +10,6 @@ use Rattle.lay_history.specs.declared.edits.command.Reply.TheVariants.{Accepted,
 use Rattle.lay_history.specs.declared.edits.history.Entry.{Entry}
 use Rattle.lay_history.specs.declared.edits.history.Entry.TheVariants as entry
 use Rattle.lay_history.specs.Histories.{list_in, last_or, shown_version, shown_by, version_in}
-use Rattle.lay_history.proofs.Lists.{some_is}
 use Rattle.lay_audit.specs.declared.step.Step.{Step}
 use Rattle.lay_audit.specs.declared.step.Step.TheVariants as step
 use Rattle.lay_audit.specs.Presents.{Accepts, AllAnswered, Answers, IsAnswer, IsStep, Moves, PresentValue, entry_of, next_command, shown_in}
@@ -62,7 +62,7 @@ moves_on scripts p m q place v c e is at accepts document count last next = reco
 }
   where
     entry_same : e ≡ entry_of (suc place) (slice_index_or p.next place 0) c (Accepted v)
-    entry_same = is.entry_is ∙ ap (λ x. entry_of (suc place) (slice_index_or p.next place 0) x (Accepted v)) (some_is is.command c (sym is.command_is ∙ at))
+    entry_same = is.entry_is ∙ ap (λ x. entry_of (suc place) (slice_index_or p.next place 0) x (Accepted v)) (same_Some is.command c (sym is.command_is ∙ at))
 
     parts : (m.document ≡ fold after_all p.document (list_in (entry_of (suc place) (slice_index_or p.next place 0) c (Accepted v))))
         × (m.count ≡ p.count + length (list_in (entry_of (suc place) (slice_index_or p.next place 0) c (Accepted v)))) × (m.last ≡ p.last) × (m.next ≡ p.next)
@@ -70,7 +70,7 @@ moves_on scripts p m q place v c e is at accepts document count last next = reco
 
 pub answers_right : (scripts : List (List Cmd)) (p : PresentValue) (place : ℕ) (r : Reply) (c : Cmd) (e : Entry) → IsAnswer scripts p place r e
     → next_command scripts p place ≡ Some c → Answers p c r
-answers_right scripts p place r c e is at = subst (λ x. Answers p x r) (some_is is.command c (sym is.command_is ∙ at)) is.answers
+answers_right scripts p place r c e is at = subst (λ x. Answers p x r) (same_Some is.command c (sym is.command_is ∙ at)) is.answers
 
 pub answer_place : (scripts : List (List Cmd)) (p : PresentValue) (place : ℕ) (r : Reply) (e : Entry) → IsAnswer scripts p place r e → place < length scripts
 answer_place scripts p place r e is = place_within scripts p place is.command is.command_is

@@ -3,6 +3,7 @@
 use Rattle.std.proofs.Common.{◌≡◌, ℕ, ◌+◌, ◌<◌, ◌≤◌, ◌*◌, zero, suc, List, [], ◌∷◌, ◌++◌, length, fold, Option, Some, None, IfSome, refl, sym, ap, ◌∙◌, subst, arith, append_assoc, append-nil, slice_get, slice_index_or, slice_set, inl, inr}
 use Rattle.std.proofs.lemmas.Bool.{cases_eq, cases_lt}
 use Rattle.std.proofs.lemmas.List.{get_or-set_other, get_or-set_same}
+use Rattle.std.proofs.lemmas.Option.{same_Some, none-some}
 use Rattle.lay_history.specs.Edits.EditLists.{IsFirst, after_all, first}
 use Rattle.lay_history.proofs.EditsLemmas.Firsts.{first_is}
 use Rattle.lay_doc.specs.declared.edit.EditFault.{EditFault}
@@ -15,7 +16,7 @@ use Rattle.lay_history.specs.declared.edits.history.Entry.{Entry}
 use Rattle.lay_history.specs.declared.edits.history.Entry.TheVariants.{Publish, Latest, Sync}
 use Rattle.lay_history.specs.Histories.{accepted, list_in, last_or, version_in}
 use Rattle.lay_history.specs.Trees.{PublishedTreeValue, tree_at}
-use Rattle.lay_history.proofs.Lists.{not_none, some_is, get_some}
+use Rattle.lay_history.proofs.Lists.{get_some}
 use Rattle.lay_context.specs.Laws.{OneSolution}
 use Rattle.lay_audit.specs.declared.step.Step.TheVariants as step
 use Rattle.lay_audit.specs.LegalReports.{Basis, IsWholeRun}
@@ -236,10 +237,10 @@ ends_so basis h p t played layout = by all.goes.now.last refl
         }
 
     by : (o : Option ℕ) → all.goes.now.last ≡ o → EndsSo basis h
-    by None e = publishes (λ f. not_none all.goes.now.count (sym e ∙ f))
+    by None e = publishes (λ f. none-some all.goes.now.count (sym e ∙ f))
     by (Some v) e = elim (cases_eq v all.goes.now.count) [
       | inl own ↦ published (e ∙ ap (λ n. Some n) own)
-      | inr other ↦ publishes (λ f. other (some_is v all.goes.now.count (sym e ∙ f)))
+      | inr other ↦ publishes (λ f. other (same_Some v all.goes.now.count (sym e ∙ f)))
     ]
 
 -- so a legal report begins with what was read and with the lines that come next

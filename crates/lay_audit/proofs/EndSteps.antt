@@ -3,9 +3,9 @@ use Rattle.std.proofs.Common.{◌≡◌, ℕ, ◌+◌, ◌*◌, List, [], ◌∷
 use Rattle.std.specs.List.{flat_map}
 use Rattle.std.specs.Fmt.{decimal}
 use Rattle.std.proofs.lemmas.List.{append_cancel_left}
+use Rattle.std.proofs.lemmas.Option.{same_Some}
 use Rattle.lay_history.specs.declared.edits.history.Entry.{Entry}
 use Rattle.lay_history.specs.Histories.{accepted, shown_version}
-use Rattle.lay_history.proofs.Lists.{some_is}
 use Rattle.lay_history.specs.Trees.{PublishedTreeValue, tree_at}
 use Rattle.lay_report.specs.Report.{entry_line, entry_text, final_line, final_text, laid_line, shown_lines}
 use Rattle.lay_report.proofs.Joined.{decimal_lacks, lacks_append}
@@ -94,7 +94,7 @@ reads_final one basis text r rest is may at = record {
         let on : GoesOn is.history legal.history = record { later = []; history_is = goes } in
         let counted : accepted legal.history ≡ r.present.count = ap accepted same ∙ sym is.played.present.count_is in
         let lasts : legal.last ≡ (last_tree basis text r [] is may).tree
-        = some_is legal.last (last_tree basis text r [] is may).tree (sym legal.last_is ∙ (ap (λ n. tree_at n legal.trees) counted ∙ at_last legal.history legal.trees legal.run on)) in
+        = same_Some legal.last (last_tree basis text r [] is may).tree (sym legal.last_is ∙ (ap (λ n. tree_at n legal.trees) counted ∙ at_last legal.history legal.trees legal.run on)) in
         record {
           laid = legal.laid;
           enough = let c = (last_tree basis text r [] is may).contexts_are in let l = ap (λ x. length x) lasts in let e = legal.enough in omega (arith, c, l, e);

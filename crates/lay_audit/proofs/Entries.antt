@@ -2,7 +2,7 @@
 use Rattle.std.proofs.Common.{◌≡◌, ℕ, ◌+◌, ◌<◌, ◌^◌, suc, List, [], ◌∷◌, ◌++◌, length, Some, codes, refl, sym, ap, ◌∙◌, subst, arith, append_assoc, slice_index_or}
 use Rattle.std.specs.Fmt.{decimal}
 use Rattle.std.specs.List.{All}
-use Rattle.std.proofs.lemmas.Option.{get_or_from_slice_get}
+use Rattle.std.proofs.lemmas.Option.{get_or_from_slice_get, same_Some}
 use Rattle.lay_doc.specs.declared.edit.Edit.{Edit as Change}
 use Rattle.lay_history.proofs.EditsLemmas.Firsts.{first_within}
 use Rattle.lay_history.specs.declared.edits.command.Cmd.{Cmd}
@@ -12,7 +12,6 @@ use Rattle.lay_history.specs.declared.edits.command.Reply.TheVariants.{Accepted,
 use Rattle.lay_history.specs.declared.edits.history.Entry.{Entry}
 use Rattle.lay_history.specs.declared.edits.history.Entry.TheVariants.{Edit, Publish, Latest, Sync}
 use Rattle.lay_history.specs.Laws.{ShowsSame}
-use Rattle.lay_history.proofs.Lists.{some_is}
 use Rattle.lay_report.specs.Laws.{IsEntryWithin, IsReplyWithin}
 use Rattle.lay_report.specs.Report.{entry_line, final_line}
 use Rattle.lay_report.proofs.Joined.{decimal_lacks, lacks_append, same_front}
@@ -138,7 +137,7 @@ shows_same scripts p (step.Answer j r) (step.Answer k q) e f a b same =
     let parts = same_parts (suc j) (slice_index_or p.next j 0) (suc k) (slice_index_or p.next k 0) a.command b.command r q
     (subst (λ x. ShowsSame x (entry_of (suc k) (slice_index_or p.next k 0) b.command q)) a.entry_is (subst (λ x. ShowsSame e x) b.entry_is same)) in
     let place : j ≡ k = (let x = parts.editors in omega (arith, x)) in
-    let commands : a.command ≡ b.command = some_is a.command b.command (sym a.command_is ∙ (ap (next_command scripts p) place ∙ b.command_is)) in
+    let commands : a.command ≡ b.command = same_Some a.command b.command (sym a.command_is ∙ (ap (next_command scripts p) place ∙ b.command_is)) in
     a.entry_is ∙ (ap (λ x. entry_of (suc x) (slice_index_or p.next x 0) a.command r) place
     ∙ (ap (λ x. entry_of (suc k) (slice_index_or p.next k 0) x r) commands
     ∙ (ap (λ x. entry_of (suc k) (slice_index_or p.next k 0) b.command x) parts.replies ∙ sym b.entry_is)))

@@ -3,10 +3,11 @@ use Rattle.std.proofs.Common.{◌≡◌, ℕ, ◌+◌, ◌<◌, ◌≤◌, zero,
 use Rattle.std.proofs.lemmas.Bool.{cases_eq}
 use Rattle.std.proofs.lemmas.List.{get_or-set_other, get_or-set_same, length-take-le, take_all}
 use Rattle.std.proofs.lemmas.List.Concat.{flat_map-append}
+use Rattle.std.proofs.lemmas.Option.{same_Some, none-some}
 use Rattle.lay_history.specs.declared.edits.command.Cmd.{Cmd}
 use Rattle.lay_history.specs.declared.edits.history.Entry.{Entry}
 use Rattle.lay_history.specs.Calls.{AnswersScripts, Call, call_if_of, call_in, calls, calls_of, script_calls, script_of}
-use Rattle.lay_history.proofs.Lists.{not_none, some_is, take_more}
+use Rattle.lay_history.proofs.Lists.{take_more}
 use Rattle.lay_history.proofs.OneMore.{calls_more}
 use Rattle.lay_history.proofs.Shown.{own_first}
 use Rattle.lay_audit.specs.Presents.{answered_of}
@@ -60,9 +61,9 @@ pub record IsNextCall (script : List Cmd) (n : ℕ) (c : Call) : Type 0 where
   pub command_is : slice_get script n ≡ Some c.command
 
 named : (editor n : ℕ) (o : Option Cmd) (c : Call) → Some c ≡ option_map (call_at editor n) o → (c.index ≡ n) × (o ≡ Some c.command)
-named editor n None c e = absurd (not_none c (sym e))
+named editor n None c e = absurd (none-some c (sym e))
 named editor n (Some d) c e =
-    let same = some_is c (call_at editor n d) e in (ap (λ x. x.index) same, ap (λ x. Some x.command) (sym same))
+    let same = same_Some c (call_at editor n d) e in (ap (λ x. x.index) same, ap (λ x. Some x.command) (sym same))
 
 pub next_call : (scripts : List (List Cmd)) (h rest : List Entry) (e : Entry) (c : Call) (n : ℕ) → AnswersScripts (h ++ e ∷ rest) scripts
     → call_in e ≡ c ∷ [] → calls_of c.editor (calls h) ≡ script_calls c.editor 0 (take n (script_of scripts c.editor))

@@ -1,7 +1,8 @@
 -- The entries that may come next are those of steps.
 use Rattle.std.proofs.Common.{◌≡◌, ℕ, ◌+◌, ◌<◌, ◌≤◌, zero, suc, List, [], ◌∷◌, ◌++◌, length, take, fold, Option, Some, None, refl, sym, ap, ◌∙◌, subst, arith, slice_get, slice_index_or, slice_set, All, inl, inr}
 use Rattle.std.proofs.lemmas.Bool.{cases_eq, cases_lt}
-use Rattle.std.proofs.lemmas.List.{get_or-set_other, get_or-set_same, length-set}
+use Rattle.std.proofs.lemmas.List.{get_or-set_other, get_or-set_same, length-set, take-append-le}
+use Rattle.std.proofs.lemmas.Option.{none-some, slice_get_within}
 use Rattle.lay_doc.specs.Document.{Document}
 use Rattle.lay_history.specs.Edits.EditLists.{after_all}
 use Rattle.lay_history.specs.declared.edits.command.Cmd.{Cmd}
@@ -12,7 +13,7 @@ use Rattle.lay_history.specs.declared.edits.history.Entry.TheVariants.{Edit, Pub
 use Rattle.lay_history.specs.Calls.{AnswersScripts, call_in, calls, calls_of, script_calls, script_of}
 use Rattle.lay_history.specs.Histories.{accepted, list_in, last_or, last_published, published, version_in}
 use Rattle.lay_history.specs.Legal.{AnswersEdits, AnswersLatest, AnswersSync, IsLegal, MayFollow, doc_after}
-use Rattle.lay_history.proofs.Lists.{not_none, take_front, take_whole}
+use Rattle.lay_history.proofs.Lists.{take_whole}
 use Rattle.lay_history.proofs.OneMore.{accepted_more, doc_after_more, legal_more, published_more}
 use Rattle.lay_history.proofs.Versions.{all_below, last_of_all}
 use Rattle.lay_audit.specs.declared.step.Step.{Step}
@@ -26,7 +27,7 @@ middle [] x ys = refl
 middle (y ∷ xs) x ys = middle xs x ys
 
 front : (h rest : List Entry) → take (length h) (h ++ rest) ≡ h
-front h rest = take_front (length h) h rest (omega arith) ∙ take_whole h
+front h rest = take-append-le (length h) h rest (omega arith) ∙ take_whole h
 
 pub follows_in : (init : Document) (h rest : List Entry) (e : Entry) → IsLegal init (h ++ e ∷ rest) → MayFollow init h e
 follows_in init h rest e legal = subst (λ x. MayFollow init x e) (front h (e ∷ rest)) (legal (length h) e (middle h e rest))
@@ -41,7 +42,7 @@ answer_is : (basis : Basis) (h rest : List Entry) (p : PresentValue) (editor ind
     → call_in (entry_of editor index c reply) ≡ record { editor = editor; index = index; command = c } ∷ []
     → Answers p c reply → HasStep basis.scripts p (entry_of editor index c reply)
 answer_is basis h rest p zero index c reply present answers is right =
-    absurd (not_none c (next_call basis.scripts h rest (entry_of 0 index c reply) (record { editor = 0; index = index; command = c }) 0 answers is (present.answered 0) (omega arith)).command_is)
+    absurd (none-some c (next_call basis.scripts h rest (entry_of 0 index c reply) (record { editor = 0; index = index; command = c }) 0 answers is (present.answered 0) (omega arith)).command_is)
 answer_is basis h rest p (suc place) index c reply present answers is right =
     let next = next_call basis.scripts h rest (entry_of (suc place) index c reply) (record { editor = suc place; index = index; command = c }) (slice_index_or p.next place 0)
     answers is (present.answered (suc place)) (present.within place) in
@@ -105,11 +106,6 @@ call_of editor index (command.Edits edits) reply = refl
 call_of editor index command.Latest reply = refl
 call_of editor index command.Sync reply = refl
 
-get_some_below : {X : Type 0} (xs : List X) (k : ℕ) (x : X) → slice_get xs k ≡ Some x → k < length xs
-get_some_below [] k x e = absurd (not_none x e)
-get_some_below (y ∷ ys) zero x e = omega arith
-get_some_below (y ∷ ys) (suc k) x e = let lt = get_some_below ys k x e in omega (arith, lt)
-
 none_beyond : (scripts : List (List Cmd)) (place : ℕ) → length scripts ≤ place → slice_index_or scripts place [] ≡ []
 none_beyond [] place le = refl
 none_beyond (x ∷ xs) zero le = absurd (omega (arith, le))
@@ -118,12 +114,12 @@ none_beyond (x ∷ xs) (suc k) le = none_beyond xs k (omega (arith, le))
 pub place_within : (scripts : List (List Cmd)) (p : PresentValue) (place : ℕ) (c : Cmd) → next_command scripts p place ≡ Some c → place < length scripts
 place_within scripts p place c e = elim (cases_lt place (length scripts)) [
   | inl lt ↦ lt
-  | inr le ↦ absurd (not_none c (sym (ap (λ s. slice_get s (slice_index_or p.next place 0)) (none_beyond scripts place le)) ∙ e))
+  | inr le ↦ absurd (none-some c (sym (ap (λ s. slice_get s (slice_index_or p.next place 0)) (none_beyond scripts place le)) ∙ e))
 ]
 
 pub index_within : (scripts : List (List Cmd)) (p : PresentValue) (place : ℕ) (c : Cmd) → next_command scripts p place ≡ Some c
     → slice_index_or p.next place 0 < length (slice_index_or scripts place [])
-index_within scripts p place c e = get_some_below (slice_index_or scripts place []) (slice_index_or p.next place 0) c e
+index_within scripts p place c e = slice_get_within (slice_index_or scripts place []) (slice_index_or p.next place 0) c e
 
 within_more : (scripts : List (List Cmd)) (next : List ℕ) (place : ℕ) → place < length next
     → slice_index_or next place 0 < length (slice_index_or scripts place [])

@@ -2,12 +2,12 @@
 use Rattle.std.proofs.Common.{◌≡◌, ℕ, suc, ◌+◌, ◌<◌, Bool, true, false, List, ◌++◌, length, Option, Some, None, Result, Ok, Err, IfOk, IfSome, refl, sym, ap, ◌∙◌, subst, arith, append_assoc, codes, inl, inr, slice_index_or}
 use Rattle.std.proofs.lemmas.Bool.{cases_lt}
 use Rattle.std.proofs.lemmas.List.{append_cancel_left}
+use Rattle.std.proofs.lemmas.Option.{same_Some, none-some}
 use Rattle.lay_history.specs.declared.edits.command.Cmd.{Cmd}
 use Rattle.lay_history.specs.declared.edits.command.Cmd.TheVariants as command
 use Rattle.lay_history.specs.declared.edits.command.Reply.{Reply}
 use Rattle.lay_history.specs.declared.edits.history.Entry.{Entry}
 use Rattle.lay_report.specs.Report.{entry_line, reply_text}
-use Rattle.lay_history.proofs.Lists.{not_none, some_is}
 use Rattle.lay_audit.specs.declared.step.Step.{Step}
 use Rattle.lay_audit.specs.declared.step.Step.TheVariants as step
 use Rattle.lay_audit.specs.NextLines.{BeginsWith, RepliesNext, StandsNext, StandsNot, command_front, edit_count, reply_end}
@@ -51,11 +51,11 @@ has_said scripts p place c rest r e at is begins = record {
 }
   where
     same : is.command ≡ c
-    same = some_is is.command c (sym is.command_is ∙ at)
+    same = same_Some is.command c (sym is.command_is ∙ at)
 
 pub no_command : (scripts : List (List Cmd)) (p : PresentValue) (place : ℕ) (rest : List ℕ) (r : Reply) → next_command scripts p place ≡ None
     → StandsNot scripts p rest (step.Answer place r)
-no_command scripts p place rest r none e is begins = not_none is.command (sym none ∙ is.command_is)
+no_command scripts p place rest r none e is begins = none-some is.command (sym none ∙ is.command_is)
 
 pub no_front : (scripts : List (List Cmd)) (p : PresentValue) (place : ℕ) (c : Cmd) (rest : List ℕ) (r : Reply) → next_command scripts p place ≡ Some c
     → (BeginsWith rest (command_front (suc place) (slice_index_or p.next place 0) c) → ⊥) → StandsNot scripts p rest (step.Answer place r)

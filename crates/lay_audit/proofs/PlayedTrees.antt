@@ -1,9 +1,11 @@
 -- The trees of a history that goes on.
 use Rattle.std.proofs.Common.{◌≡◌, ◌⊎◌, ◌||◌, ℕ, ◌==◌, ◌+◌, ◌≤◌, zero, suc, List, [], ◌∷◌, ◌++◌, length, take, find, fold, Bool, true, false, cond, Option, Some, None, IfSome, option_map, refl, sym, ap, ◌∙◌, subst, arith, inl, inr, append-nil, eq-eqb, ne_eqb, rules, All, slice_index_or}
 use Rattle.std.specs.List.{list_any}
-use Rattle.std.proofs.lemmas.Bool.{cases_eq}
+use Rattle.std.proofs.lemmas.Bool.{cases_eq, or_right}
 use Rattle.std.proofs.lemmas.List.Concat.{flat_map-append}
 use Rattle.std.proofs.lemmas.List.Elements.{All-push}
+use Rattle.std.proofs.lemmas.Option.{same_Some, none-some}
+use Rattle.std.proofs.lemmas.List.{take-append-le}
 use Rattle.lay_doc.specs.Document.{Document}
 use Rattle.lay_history.specs.Edits.EditLists.{after_all}
 use Rattle.lay_history.specs.declared.edits.history.Entry.{Entry}
@@ -11,7 +13,6 @@ use Rattle.lay_history.specs.declared.edits.history.Entry.TheVariants.{Publish}
 use Rattle.lay_history.specs.Histories.{accepted, doc_at, list_in, lists, last_or, last_published, published, version_in}
 use Rattle.lay_history.specs.Legal.{IsLegal}
 use Rattle.lay_history.specs.Trees.{HasTrees, PublishedTreeValue, tree_at, versions_of}
-use Rattle.lay_history.proofs.Lists.{not_none, some_is, take_front}
 use Rattle.lay_history.proofs.OneMore.{doc_before, published_more}
 use Rattle.lay_history.proofs.Versions.{last_of_all, none_greater}
 use Rattle.lay_context.specs.Laws.{OneSolution}
@@ -52,19 +53,15 @@ found P version (t ∷ trees) all e = elim (cases_eq t.version version) [
       })
 ]
 
-or_true : (b c : Bool) → c ≡ true → (b || c) ≡ true
-or_true true c e = refl
-or_true false c e = e
-
 last_in : (o : Option ℕ) (xs : List ℕ) (v : ℕ) → last_or o xs ≡ Some v → (o ≡ Some v) ⊎ (list_any (λ x. x == v) xs ≡ true)
 last_in o [] v e = inl e
 last_in o (x ∷ xs) v e = elim (last_in (Some x) xs v e) [
-  | inl own ↦ inr (ap (λ b. b || list_any (λ y. y == v) xs) (eq-eqb x v (some_is x v own)))
-  | inr later ↦ inr (or_true (x == v) (list_any (λ y. y == v) xs) later)
+  | inl own ↦ inr (ap (λ b. b || list_any (λ y. y == v) xs) (eq-eqb x v (same_Some x v own)))
+  | inr later ↦ inr (or_right (x == v) (list_any (λ y. y == v) xs) later)
 ]
 
 listed : (xs : List ℕ) (v : ℕ) → last_or None xs ≡ Some v → list_any (λ x. x == v) xs ≡ true
-listed xs v e = elim (last_in None xs v e) [ inl none ↦ absurd (not_none v none) | inr is ↦ is ]
+listed xs v e = elim (last_in None xs v e) [ inl none ↦ absurd (none-some v none) | inr is ↦ is ]
 
 or_true_left : (b c d : Bool) → (b ≡ true → c ≡ true) → (d || b) ≡ true → (d || c) ≡ true
 or_true_left b c true more e = e
@@ -78,7 +75,7 @@ any_more v (x ∷ xs) ys e = or_true_left (list_any (λ y. y == v) xs) (list_any
 
 pub doc_front : (init : Document) (h later : List Entry) (v : ℕ) → v ≤ accepted h → doc_at init (h ++ later) v ≡ doc_at init h v
 doc_front init h later v le =
-    ap (fold after_all init) (ap (take v) (flat_map-append list_in h later) ∙ take_front v (lists h) (lists later) le)
+    ap (fold after_all init) (ap (take v) (flat_map-append list_in h later) ∙ take-append-le v (lists h) (lists later) le)
 
 pub last_not_past : (init : Document) (h : List Entry) (v : ℕ) → IsLegal init h → last_published h ≡ Some v → v ≤ accepted h
 last_not_past init h v legal e = last_of_all (λ w. w ≤ accepted h) (published h) v (none_greater init h legal) e

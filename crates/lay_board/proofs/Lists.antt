@@ -1,5 +1,6 @@
 -- Lists of views and histories.
-use Rattle.std.proofs.Common.{◌≡◌, ◌≢◌, ◌⊎◌, inl, inr, ⊎_elim, ℕ, zero, suc, ◌+◌, ◌≤◌, List, [], ◌∷◌, ◌++◌, ◌<◌, length, set, Some, None, Option, refl, sym, ap, ◌∙◌, arith, rules, append-nil, append_assoc, IfSome}
+use Rattle.std.proofs.Common.{◌≡◌, ◌≢◌, ◌⊎◌, inl, inr, ⊎_elim, ℕ, zero, suc, ◌+◌, ◌≤◌, List, [], ◌∷◌, ◌++◌, ◌<◌, length, set, Some, None, Option, refl, sym, ap, ◌∙◌, arith, append-nil, append_assoc, IfSome}
+use Rattle.std.proofs.lemmas.Option.{none-some}
 use mathlib.Core.Option as opt
 use mathlib.Core.Option.{some-ne-none, some-injective}
 use lib.ListN.{get_elem?}
@@ -8,12 +9,6 @@ use Rattle.lay_history.specs.declared.edits.history.Entry.{Entry}
 use Rattle.lay_board.specs.declared.views.View.{View}
 use Rattle.lay_board.specs.Entries.{Begins, by_editor, own_if}
 use Rattle.lay_board.specs.Rules.{At, all_calls, calls_of}
-
-pub none_some : {A : Type 0} (a : A) → None ≡ Some a → ⊥
-none_some a e = grind (rules, e)
-
-pub some_one : {A : Type 0} (a b : A) → Some a ≡ Some b → a ≡ b
-some_one a b e = grind (rules, e)
 
 pub if_some : {A : Type 0} (P : A → Type 0) (o : Option A) → ((a : A) → o ≡ Some a → P a) → IfSome o P
 if_some P None f = tt
@@ -34,7 +29,7 @@ same_read read views id v w at same j a h =
 -- where it is none, only the others are left
 pub lost_read : {A : Type 0} (read : View → Option A) (views : List View) (id : ℕ) (w : View) → read w ≡ None
     → (j : ℕ) (a : A) → At read (set views id w) j a → (j ≢ id) × At read views j a
-lost_read read views id w none j a h = ⊎_elim (λ t. absurd (none_some a (sym none ∙ t.1))) (λ t. t) (at_read read views id j w a h)
+lost_read read views id w none j a h = ⊎_elim (λ t. absurd (none-some a (sym none ∙ t.1))) (λ t. t) (at_read read views id j w a h)
 
 -- the reading at a known place
 pub here : {A : Type 0} (read : View → Option A) (views : List View) (id j : ℕ) (v : View) (a : A) → get_elem? views id ≡ opt.some v → At read views j a → j ≡ id → read v ≡ Some a

@@ -1,11 +1,10 @@
 -- What is kept while passes are made.
 use Rattle.std.proofs.Common.{◌≡◌, ◌⊎◌, inl, inr, ⊎_elim, ℕ, zero, suc, ◌+◌, List, [], ◌∷◌, ◌++◌, length, slice_get, Some, refl, sym, ap, ◌∙◌, subst, arith, length-append, append_assoc, append-nil}
 use Rattle.atomic_table.specs.Seated.{TableId}
-use Rattle.std.specs.List.{All}
+use Rattle.std.proofs.lemmas.Option.{none-some, same_Some}
 use Rattle.lay_board.specs.Rules.{SeatView, maker_view}
 use Rattle.lay_board.specs.Passes.{AreNew, PassOf, maker_in, new_pass}
 use Rattle.lay_board.specs.declared.views.Origin.{Origin}
-use Rattle.lay_board.proofs.Lists.{none_some, some_one}
 
 pub record IsMaking (table : TableId) (origin : Origin) (calls yielded left : List ℕ) (me : SeatView) (passes : List PassOf) : Type 0 where
   pub all : yielded ++ left ≡ calls
@@ -17,13 +16,13 @@ middle_at [] ys x = refl
 middle_at (a ∷ xs) ys x = middle_at xs ys x
 
 longer_at : {X : Type 0} (xs ys : List X) (i : ℕ) (x : X) → slice_get xs i ≡ Some x → slice_get (xs ++ ys) i ≡ Some x
-longer_at [] ys i x h = absurd (none_some x h)
+longer_at [] ys i x h = absurd (none-some x h)
 longer_at (a ∷ xs) ys zero x h = h
 longer_at (a ∷ xs) ys (suc i) x h = longer_at xs ys i x h
 
 snoc_at : {X : Type 0} (xs : List X) (x : X) (i : ℕ) (y : X) → slice_get (xs ++ x ∷ []) i ≡ Some y → (slice_get xs i ≡ Some y) ⊎ ((i ≡ length xs) × (x ≡ y))
-snoc_at [] x zero y h = inr (refl, some_one x y h)
-snoc_at [] x (suc i) y h = absurd (none_some y h)
+snoc_at [] x zero y h = inr (refl, same_Some x y h)
+snoc_at [] x (suc i) y h = absurd (none-some y h)
 snoc_at (a ∷ xs) x zero y h = inl h
 snoc_at (a ∷ xs) x (suc i) y h = ⊎_elim (λ g. inl g) (λ (g : (i ≡ length xs) × (x ≡ y)). inr (ap suc g.0, g.1)) (snoc_at xs x i y h)
 
@@ -55,16 +54,6 @@ made_all table origin calls yielded left me passes none was =
 
 pub few_made : (table : TableId) (origin : Origin) (calls yielded left : List ℕ) (me : SeatView) (passes : List PassOf) → IsMaking table origin calls yielded left me passes → length passes + length left ≡ length calls
 few_made table origin calls yielded left me passes was = let a = was.made.count in let b = length-append yielded left in let c = ap length was.all in omega (arith, a, b, c)
-
-pub nothing_left : {X : Type 0} (l : List X) → length l ≡ 0 → l ≡ []
-nothing_left [] h = refl
-nothing_left (x ∷ xs) h = absurd (omega (arith, h))
-
-pub all_snoc : {X : Type 0} (P : X → Type 0) (xs : List X) (x : X) → All P xs → P x → All P (xs ++ x ∷ [])
-all_snoc P [] x a p zero d lt = p
-all_snoc P [] x a p (suc k) d lt = absurd (omega (arith, lt))
-all_snoc P (y ∷ ys) x a p zero d lt = a zero d (omega arith)
-all_snoc P (y ∷ ys) x a p (suc k) d lt = all_snoc P ys x (λ j e l. a (suc j) e (omega (arith, l))) p k d (omega (arith, lt))
 
 pub is_maker : (me : SeatView) (i : Origin) (n : ℕ) (calls : List ℕ) → me ≡ (maker_view i n calls, []) → me ≡ (maker_view (maker_in me).origin (maker_in me).made (maker_in me).calls, [])
 is_maker me i n calls e = e ∙ ap (λ (m : SeatView). (maker_view (maker_in m).origin (maker_in m).made (maker_in m).calls, [])) (sym e)

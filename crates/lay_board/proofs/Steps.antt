@@ -2,6 +2,7 @@
 use Rattle.std.proofs.Common.{◌≡◌, ◌≢◌, ◌⊎◌, inl, inr, ⊎_elim, ℕ, zero, suc, ◌+◌, ◌-◌, ◌^◌, ◌<◌, ◌≤◌, List, [], ◌∷◌, ◌++◌, length, set, Some, None, Option, refl, sym, ap, ◌∙◌, subst, arith, append-nil, length-append, IfSome, ◌==◌, eq-eqb, Bool, true, false, sum}
 use Rattle.std.proofs.lemmas.Bool.{false≢true, eqb-true}
 use Rattle.std.specs.Prelude.{slice_index, MatchBool}
+use Rattle.std.proofs.lemmas.Option.{none-some, same_Some}
 use mathlib.Core.Option as opt
 use mathlib.Core.Option.{some-ne-none, some-injective}
 use lib.ListN.{get_elem?}
@@ -17,7 +18,7 @@ use Rattle.lay_core.specs.State.{State}
 use Rattle.lay_board.specs.Cores.{Adds, IsQuiet, most_draws, origin_of}
 use Rattle.lay_board.specs.declared.views.Origin.{Origin}
 use Rattle.lay_board.specs.Rules.{At, pass_of, hold_of, maker_of, guest_of, met_of, calls_of, all_calls, Fits, IsCoreOf, IsKept, IsNoEditor, MeetsPass, MeetsMaker, MeetsGuest, MeetsSeat, TakesIt, TellsIt, GivesIt, LooksIt, ComesIt, LearnsIt, meeting, SeatView, blank, guest_view, held_by, maker_view, pass_view, maker_after, next_pass, grown, left_of_pass}
-use Rattle.lay_board.proofs.Lists.{none_some, some_one, if_some, at_read, same_read, lost_read, here, more_read, calls_set, calls_at, calls_more, kept_read, some_within, begins_all, begins_none, begins_more, by_editor_append}
+use Rattle.lay_board.proofs.Lists.{if_some, at_read, same_read, lost_read, here, more_read, calls_set, calls_at, calls_more, kept_read, some_within, begins_all, begins_none, begins_more, by_editor_append}
 
 quiet_draws : (h c : State) (room : ℕ) → IsQuiet h c → h.cells.draws ≤ most_draws room → room ≤ 8192 → c.cells.draws ≤ most_draws room
 quiet_draws h c room quiet most some = ⊎_elim (λ l. omega (arith, l, most)) (λ l. omega (arith, l, some)) quiet.draws
@@ -51,7 +52,7 @@ took : (origin : Origin) (id : ℕ) (v : View) (s : Tables) (k : IsKept origin s
 took origin id v s k at unlocked core is =
     let w = held_by v core in
     let only : (j : ℕ) (g : State) → At hold_of (set s.views id w) j g → (j ≡ id) × (core ≡ g) =
-    λ j g t. ⊎_elim (λ u. (u.0, some_one core g u.1)) (λ u. absurd (k.free unlocked j g u.1)) (at_read hold_of s.views id j w g t) in
+    λ j g t. ⊎_elim (λ u. (u.0, same_Some core g u.1)) (λ u. absurd (k.free unlocked j g u.1)) (at_read hold_of s.views id j w g t) in
     let before = same_read pass_of s.views id v w at refl in
     let makers = same_read maker_of s.views id v w at refl in
     let guests = same_read guest_of s.views id v w at refl in
@@ -160,7 +161,7 @@ gives_it origin id v h c is none quiet s k homes at _ =
         met = λ j p t.
             let u = same_read met_of s.views id v w at refl j p t in
             let m = k.met j p u in
-            absurd (none_some p (sym none ∙ here met_of s.views id j v p at u (k.one j id m.1.0 h m.1.1 mine)));
+            absurd (none-some p (sym none ∙ here met_of s.views id j v p at u (k.one j id m.1.0 h m.1.1 mine)));
         unmade = k.unmade;
         some = k.some;
         few = let e = calls_set s.views id v w at in let f = k.few in omega (arith, e, f);
@@ -191,9 +192,9 @@ tells_it origin slots id p h c e some_left adds s k homes at _ =
     let longer : length k.log ≤ length c.history = let l = ap length log' ∙ length-append k.log more in omega (arith, l) in
     let fits' : Fits origin k.made c.history p' = record { origin_is = fits.origin_is; known = begins_all c.history; own = refl; seen = omega arith; far = omega arith; number = fits.number; from = fits.from } in
     let holder_case : (j : ℕ) (q : State) → At hold_of (set s.views id w) j q → (j ≡ id) × (c ≡ q) =
-    λ j q t. ⊎_elim (λ u. (u.0, some_one c q u.1)) (λ (u : (j ≢ id) × At hold_of s.views j q). absurd (u.0 (k.one j id q h u.1 mine))) (at_read hold_of s.views id j w q t) in
+    λ j q t. ⊎_elim (λ u. (u.0, same_Some c q u.1)) (λ (u : (j ≢ id) × At hold_of s.views j q). absurd (u.0 (k.one j id q h u.1 mine))) (at_read hold_of s.views id j w q t) in
     let pass_case : (j : ℕ) (q : PassView) → At pass_of (set s.views id w) j q → ((j ≡ id) × (p' ≡ q)) ⊎ ((j ≢ id) × At pass_of s.views j q) =
-    λ j q t. ⊎_elim (λ u. inl (u.0, some_one p' q u.1)) (λ u. inr u) (at_read pass_of s.views id j w q t) in
+    λ j q t. ⊎_elim (λ u. inl (u.0, same_Some p' q u.1)) (λ u. inr u) (at_read pass_of s.views id j w q t) in
     let before : (j : ℕ) (q : PassView) → At pass_of (set s.views id w) j q → (r : PassView) × At pass_of s.views j r × (r.number ≡ q.number) =
     λ j q t. ⊎_elim (λ u. (p, subst (λ i. At pass_of s.views i p) (sym u.0) my_pass, ap (λ (z : PassView). z.number) u.1)) (λ u. (q, u.1, refl)) (pass_case j q t) in
     let makers = same_read maker_of s.views id v w at refl in
@@ -236,7 +237,7 @@ tells_it origin slots id p h c e some_left adds s k homes at _ =
         met = λ j q t.
             let u = same_read met_of s.views id v w at refl j q t in
             let m = k.met j q u in
-            absurd (none_some q (here met_of s.views id j v q at u (k.one j id m.1.0 h m.1.1 mine)));
+            absurd (none-some q (here met_of s.views id j v q at u (k.one j id m.1.0 h m.1.1 mine)));
         unmade = λ n other. same_own n (not_mine k.made n p.number fits.number fits.from other) ∙ k.unmade n other;
         some = let l = adds.left in let r = core.calls in let m = k.some in omega (arith, l, r, m);
         few = let e = calls_set s.views id v w at in let f = k.few in let l = adds.left in let r = core.calls in omega (arith, e, f, l, r, some_left);
@@ -254,7 +255,7 @@ looks_it origin slots id p s k homes at _ =
     let p' : PassView = record p { seen = found } in
     let w = pass_view p' in
     let pass_case : (j : ℕ) (q : PassView) → At pass_of (set s.views id w) j q → ((j ≡ id) × (p' ≡ q)) ⊎ ((j ≢ id) × At pass_of s.views j q) =
-    λ j q t. ⊎_elim (λ u. inl (u.0, some_one p' q u.1)) (λ u. inr u) (at_read pass_of s.views id j w q t) in
+    λ j q t. ⊎_elim (λ u. inl (u.0, same_Some p' q u.1)) (λ u. inr u) (at_read pass_of s.views id j w q t) in
     let before : (j : ℕ) (q : PassView) → At pass_of (set s.views id w) j q → (r : PassView) × At pass_of s.views j r × (r.number ≡ q.number) =
     λ j q t. ⊎_elim (λ u. (p, (v, ap (get_elem? s.views) u.0 ∙ at, refl), ap (λ (z : PassView). z.number) u.1)) (λ u. (q, u.1, refl)) (pass_case j q t) in
     let holders = same_read hold_of s.views id v w at refl in
@@ -293,7 +294,7 @@ looks_it origin slots id p s k homes at _ =
     )
 
 others_read : {A : Type 0} (read : View → Option A) (views : List View) (w : View) → read w ≡ None → (j : ℕ) (a : A) → At read (views ++ w ∷ []) j a → At read views j a
-others_read read views w none j a t = ⊎_elim (λ u. u) (λ u. absurd (none_some a (sym none ∙ u.1))) (more_read read views w j a t)
+others_read read views w none j a t = ⊎_elim (λ u. u) (λ u. absurd (none-some a (sym none ∙ u.1))) (more_read read views w j a t)
 
 -- a guest comes
 pub comes_it : (origin : Origin) (slots made : ℕ) (calls : List ℕ) → Enters (IsKept origin) slots 0 (λ n w. ComesIt (step slots 0 0 0 opt.none) (maker_view origin made calls, []) n (w, []))
@@ -317,7 +318,7 @@ comes_it origin slots made calls s k homes _ =
         apart = λ i j q r t u e. k.apart i j q r (passers i q t) (passers j r u) e;
         maker = λ j q t. k.maker j q (makers j q t);
         lone = λ i j a b t u. k.lone i j a b (makers i a t) (makers j b u);
-        guests = λ j o t. ⊎_elim (λ u. k.guests j o u) (λ u. sym (some_one origin o u.1)) (more_read guest_of s.views w j o t);
+        guests = λ j o t. ⊎_elim (λ u. k.guests j o u) (λ u. sym (same_Some origin o u.1)) (more_read guest_of s.views w j o t);
         met = λ j q t. let m = k.met j q (others_read met_of s.views w refl j q t) in (m.0, (m.1.0, (m.1.1.0, Rattle.atomic_table.proofs.Lists.at_longer s.views (w ∷ []) j m.1.1.0 m.1.1.1, m.1.1.2)));
         unmade = k.unmade;
         some = k.some;
@@ -391,13 +392,13 @@ makes_it origin id i made n ns s k at =
     let my_maker : At maker_of s.views id m = (v, at, refl) in
     let mine = k.maker id m my_maker in
     let holders : (j : ℕ) (q : State) → At hold_of (vs ++ pass_view x ∷ []) j q → At hold_of s.views j q =
-    λ j q t. ⊎_elim (λ u. same_read hold_of s.views id v v' at refl j q u) (λ u. absurd (none_some q u.1)) (more_read hold_of vs (pass_view x) j q t) in
+    λ j q t. ⊎_elim (λ u. same_read hold_of s.views id v v' at refl j q u) (λ u. absurd (none-some q u.1)) (more_read hold_of vs (pass_view x) j q t) in
     let pass_case : (j : ℕ) (q : PassView) → At pass_of (vs ++ pass_view x ∷ []) j q → (At pass_of s.views j q) ⊎ ((j ≡ length vs) × (x ≡ q)) =
-    λ j q t. ⊎_elim (λ u. inl (same_read pass_of s.views id v v' at refl j q u)) (λ u. inr (u.0, some_one x q u.1)) (more_read pass_of vs (pass_view x) j q t) in
+    λ j q t. ⊎_elim (λ u. inl (same_read pass_of s.views id v v' at refl j q u)) (λ u. inr (u.0, same_Some x q u.1)) (more_read pass_of vs (pass_view x) j q t) in
     let maker_case : (j : ℕ) (q : MakerView) → At maker_of (vs ++ pass_view x ∷ []) j q → (j ≡ id) × (m' ≡ q) =
-    λ j q t. ⊎_elim (λ u. ⊎_elim (λ h. (h.0, some_one m' q h.1)) (λ (h : (j ≢ id) × At maker_of s.views j q). absurd (h.0 (k.lone j id q m h.1 my_maker))) (at_read maker_of s.views id j v' q u)) (λ u. absurd (none_some q u.1)) (more_read maker_of vs (pass_view x) j q t) in
+    λ j q t. ⊎_elim (λ u. ⊎_elim (λ h. (h.0, same_Some m' q h.1)) (λ (h : (j ≢ id) × At maker_of s.views j q). absurd (h.0 (k.lone j id q m h.1 my_maker))) (at_read maker_of s.views id j v' q u)) (λ u. absurd (none-some q u.1)) (more_read maker_of vs (pass_view x) j q t) in
     let guests : (j : ℕ) (q : Origin) → At guest_of (vs ++ pass_view x ∷ []) j q → At guest_of s.views j q =
-    λ j q t. ⊎_elim (λ u. same_read guest_of s.views id v v' at refl j q u) (λ u. absurd (none_some q u.1)) (more_read guest_of vs (pass_view x) j q t) in
+    λ j q t. ⊎_elim (λ u. same_read guest_of s.views id v v' at refl j q u) (λ u. absurd (none-some q u.1)) (more_read guest_of vs (pass_view x) j q t) in
     let new : (j : ℕ) (q : PassView) → At pass_of s.views j q → q.number ≢ x.number = λ j q t z. let f = (k.passes j q t).number in let e = mine.0 in omega (arith, f, e, z) in
     record {
       log = k.log;
@@ -432,7 +433,7 @@ makes_it origin id i made n ns s k at =
             record { origin_is = f.origin_is; known = f.known; own = f.own; seen = f.seen; far = f.far; number = let l = f.number in omega (arith, l); from = f.from },
             (g.1.0, (h.0, at_longer vs (pass_view x ∷ []) j h.0 h.1, h.2)),
           ))
-          (λ u. absurd (none_some q u.1))
+          (λ u. absurd (none-some q u.1))
           (more_read met_of vs (pass_view x) j q t);
       unmade = λ z other. k.unmade z (⊎_elim (λ e. inl e) (λ lt. inr (omega (arith, lt))) other);
       some = k.some;
@@ -463,15 +464,15 @@ begins origin calls core same empty enough at_most drawn =
       room = core.calls_left;
       words = refl;
       home = λ _. (core, refl, record { origin_is = same; history = empty; calls = refl; draws = omega (arith, drawn, at_most) });
-      free = λ _ j q t. none_some q (only hold_of v j q t).1;
-      holds = λ j q t. absurd (none_some q (only hold_of v j q t).1);
-      one = λ i j q r t u. absurd (none_some q (only hold_of v i q t).1);
-      passes = λ j q t. absurd (none_some q (only pass_of v j q t).1);
-      apart = λ i j q r t u _. absurd (none_some q (only pass_of v i q t).1);
-      maker = λ j q t. let e = some_one m q (only maker_of v j q t).1 in (ap (λ (z : MakerView). z.made) (sym e), ap (λ (z : MakerView). z.origin) (sym e));
+      free = λ _ j q t. none-some q (only hold_of v j q t).1;
+      holds = λ j q t. absurd (none-some q (only hold_of v j q t).1);
+      one = λ i j q r t u. absurd (none-some q (only hold_of v i q t).1);
+      passes = λ j q t. absurd (none-some q (only pass_of v j q t).1);
+      apart = λ i j q r t u _. absurd (none-some q (only pass_of v i q t).1);
+      maker = λ j q t. let e = same_Some m q (only maker_of v j q t).1 in (ap (λ (z : MakerView). z.made) (sym e), ap (λ (z : MakerView). z.origin) (sym e));
       lone = λ i j a b t u. (only maker_of v i a t).0 ∙ sym (only maker_of v j b u).0;
-      guests = λ j o t. absurd (none_some o (only guest_of v j o t).1);
-      met = λ j q t. absurd (none_some q (only met_of v j q t).1);
+      guests = λ j o t. absurd (none-some o (only guest_of v j o t).1);
+      met = λ j q t. absurd (none-some q (only met_of v j q t).1);
       unmade = λ n _. refl;
       some = at_most;
       few = omega (arith, enough);
@@ -510,7 +511,7 @@ meets_it origin id v h other p is s k at apart there =
       guests = λ j o t. k.guests j o (guests j o t);
       met = λ j q t.
           ⊎_elim
-          (λ u. (subst (Fits origin k.made k.log) (some_one p q u.1) (k.passes other p (pass_view p, old, refl)), (h, stays j u.0)))
+          (λ u. (subst (Fits origin k.made k.log) (same_Some p q u.1) (k.passes other p (pass_view p, old, refl)), (h, stays j u.0)))
           (λ (u : (j ≢ id) × At met_of s.views j q). let g = k.met j q u.1 in absurd (u.0 (k.one j id g.1.0 h g.1.1 mine)))
           (at_read met_of s.views id j w q (lost_read met_of vs other blank refl j q t).1);
       unmade = k.unmade;

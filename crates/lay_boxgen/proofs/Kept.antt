@@ -1,6 +1,7 @@
 -- Rules that change nothing.
-use Rattle.std.proofs.Common.{rules, ◌≡◌, Bool, true, false, ◌||◌, ◌&&◌, not, List, [], ◌∷◌, ◌++◌, refl, ap, sym, ◌∙◌, IsTrue, Option, None, Some}
+use Rattle.std.proofs.Common.{rules, ◌≡◌, Bool, true, false, ◌||◌, not, List, [], ◌∷◌, ◌++◌, refl, ap, sym, ◌∙◌, IsTrue, Option, None, Some}
 use Rattle.std.specs.List.{list_any}
+use Rattle.std.proofs.lemmas.Bool.{and_right}
 use Rattle.lay_boxgen.specs.Boxes.{Tree, tree, trees_of, facts_of, in_box, remade, all_remade}
 use Rattle.lay_boxgen.specs.Forms.{is_tabular_container, is_in_flow}
 use Rattle.lay_boxgen.specs.Irrelevant.{kept_from, kept_gap, is_table_part_box, is_table_part_there, without_white_space}
@@ -50,10 +51,6 @@ no_white_kept parent ts h = seen_kept parent None ts h
 gap_kept : (parent : Form) (before after : Option Facts) (gap : List Tree) → is_tabular_container parent ≡ false → is_table_part_there before ≡ false → kept_gap parent before gap after ≡ gap
 gap_kept parent before after gap c b = simp (c, b) refl
 
-and_false : (a b : Bool) → b ≡ false → (a && b) ≡ false
-and_false true b h = h
-and_false false b h = refl
-
 module _ (parent : Form) (c : is_tabular_container parent ≡ false) where
   -- from a first child on, where that is known of those behind it
   one_more : (before : Option Facts) (gap : List Tree) (t : Tree) (ts : List Tree)
@@ -67,7 +64,7 @@ module _ (parent : Form) (c : is_tabular_container parent ≡ false) where
       let step : kept_from parent before gap (t ∷ ts) ≡ (kept_gap parent before gap (Some (facts_of t)) ++ t ∷ []) ++ kept_from parent (Some (facts_of t)) [] ts = simp w refl in
       step
       ∙ (ap (λ r. (r ++ t ∷ []) ++ kept_from parent (Some (facts_of t)) [] ts) (gap_kept parent before (Some (facts_of t)) gap c b)
-      ∙ (ap (λ r. (gap ++ t ∷ []) ++ r) (rest (Some (facts_of t)) [] (and_false (is_in_flow (facts_of t).flow) (is_table_part_box t) p))
+      ∙ (ap (λ r. (gap ++ t ∷ []) ++ r) (rest (Some (facts_of t)) [] (and_right (is_in_flow (facts_of t).flow) (is_table_part_box t) p))
       ∙ assoc gap (t ∷ []) ts))
 
   all_kept : (ts : List Tree) → list_any is_table_part_box ts ≡ false → (before : Option Facts) (gap : List Tree) → is_table_part_there before ≡ false → kept_from parent before gap ts ≡ gap ++ ts

@@ -4,6 +4,7 @@ use Rattle.std.specs.BTreeMap.{BTreeMap, get}
 use Rattle.std.specs.declared.cmp.Ordering.{Ordering}
 use Rattle.std.proofs.lemmas.Bool.{false≢true, cases_lt}
 use Rattle.std.proofs.lemmas.List.{length-map}
+use Rattle.std.proofs.lemmas.Option.{same_Some}
 use Rattle.lay_cells.specs.Shapes.{IsShape}
 use Rattle.lay_cells.specs.Rows.{Held, Row, State, entry_of, row_of}
 use Rattle.lay_cells.specs.Looks.{IsAt, Looks}
@@ -15,7 +16,7 @@ use Rattle.lay_cells.specs.declared.cell.Cell.{Cell}
 use Rattle.lay_cells.specs.Steps.{ClaimsIn}
 use Rattle.lay_cells.specs.declared.answers.Claimed.{Claimed}
 use Rattle.lay_cells.specs.declared.answers.Look.TheVariants as look
-use Rattle.lay_cells.proofs.Lists.{in_bounds, map_at, map_got, one_at, some_inj}
+use Rattle.lay_cells.proofs.Lists.{in_bounds, map_at, map_got, one_at}
 use Rattle.lay_cells.proofs.Wires.{need_at}
 use Rattle.lay_cells.proofs.OneRead.{one_answer}
 use Rattle.lay_cells.proofs.Answered.{one_by_key}
@@ -103,7 +104,7 @@ module _ {K I V : Type 0} where
   same_need : (rows : List (Row K I V)) → IsShape (map entry_of rows) → (place n i j : ℕ) → IsNeedAt rows place n i → IsNeedAt rows place n j → i ≡ j
   same_need rows s place n i j p q =
       let row = one_at rows place p.0 q.0 p.1 q.1 in
-      let key = some_inj p.2.0.key q.2.0.key (sym p.2.2 ∙ ap (λ (r : Row K I V). slice_get r.needs n) row ∙ q.2.2) in
+      let key = same_Some p.2.0.key q.2.0.key (sym p.2.2 ∙ ap (λ (r : Row K I V). slice_get r.needs n) row ∙ q.2.2) in
       (one_by_key rows s i j p.2.0 q.2.0 p.2.1 q.2.1 key).0
 
   need_apart : (rows : List (Row K I V)) (place n i : ℕ) → IsNeedAt rows place n i → HasNoNeedAt rows place n → ⊥

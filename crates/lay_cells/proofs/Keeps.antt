@@ -2,6 +2,7 @@
 use Rattle.std.proofs.Common.{◌≡◌, inl, inr, ⊎_elim, Option, IsSome, IsNone, ℕ, List, slice_get, slice_set, Some, None, refl, rules, arith, ap, ◌<◌, ◌≤◌, subst, sym, true, false, ◌+◌, ◌∙◌}
 use Rattle.std.specs.Prelude.{option_map}
 use Rattle.std.proofs.lemmas.Bool.{false≢true}
+use Rattle.std.proofs.lemmas.Option.{same_Some}
 use Rattle.lay_cells.specs.Shapes.{Entry, IsShape}
 use Rattle.lay_cells.specs.Rows.{Row, Solved, entry_of}
 use Rattle.lay_cells.specs.Looks.{AreClean, IsClean}
@@ -15,7 +16,7 @@ use Rattle.lay_cells.specs.declared.answers.Finished.{Finished}
 use Rattle.lay_cells.specs.declared.answers.Finished.TheVariants as finished
 use Rattle.lay_cells.specs.declared.answers.Released.{Released}
 use Rattle.lay_cells.specs.declared.answers.Released.TheVariants as released
-use Rattle.lay_cells.proofs.Lists.{set_cases, set_same, set_keeps_at, map_set_kept, some_inj}
+use Rattle.lay_cells.proofs.Lists.{set_cases, set_same, set_keeps_at, map_set_kept}
 
 none_from : {X : Type 0} (o : Option X) → (IsSome o → ⊥) → IsNone o
 none_from None h = refl
@@ -121,7 +122,7 @@ module _ {K I V : Type 0} where
           closed = λ f. absurd (false≢true (sym f ∙ dirty));
           clean = ok.clean;
           fresh = λ _. clean;
-          opened = λ m e. sym (some_inj n m e) ∙ ok.opened n number;
+          opened = λ m e. sym (same_Some n m e) ∙ ok.opened n number;
           first = ok.first;
           last = ok.last;
           laid = ok.laid;
@@ -175,7 +176,7 @@ module _ {K I V : Type 0} where
           closed = λ f. absurd (false≢true (sym f ∙ dirty));
           clean = ok.clean;
           fresh = λ _. clean;
-          opened = λ m e. sym (some_inj (d + 1) m e);
+          opened = λ m e. sym (same_Some (d + 1) m e);
           first = omega (arith, ok.first, ok.last);
           last = omega arith;
           laid = omega (arith, ok.laid);
@@ -204,7 +205,7 @@ module _ {K I V : Type 0} where
     pair_done : (q : Row K I V) (p : Solved K I V) → relates p.input p.value → p.key ≡ r.key → IsOpen r p.number → q.key ≡ r.key → q.first ≡ r.first → q.last ≡ r.last
         → (e : Solved K I V) → Some p ≡ Some e → IsPairOf relates q e
     pair_done q p meets key number key_q first_q last_q e is =
-        subst (IsPairOf relates q) (some_inj p e is)
+        subst (IsPairOf relates q) (same_Some p e is)
         (let n = ok.opened p.number number in record { meets = meets; key_is = key ∙ sym key_q; drawn = omega (arith, n, ok.first, first_q); until = omega (arith, n, last_q) })
 
     stored_row : (p : Solved K I V) → relates p.input p.value → p.key ≡ r.key → IsOpenFor r p → IsRow relates rows d (record r { claim = None; kept = Some p })

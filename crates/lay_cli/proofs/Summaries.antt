@@ -1,12 +1,12 @@
 -- The summary of a generated run comes of its numbers: the document of its last version does, and that has one layout.
 use Rattle.std.proofs.Common.{◌≡◌, ℕ, ◌+◌, ◌*◌, ◌≤◌, List, [], length, sym, ap, ◌∙◌, subst}
 use Rattle.std.proofs.lemmas.List.Elements.{All-nil}
+use Rattle.std.proofs.lemmas.Option.{same_Some}
 use Rattle.lay_doc.specs.Document.{Document, IsDocument}
 use Rattle.lay_frag.specs.Pieces.{Context}
 use Rattle.lay_face.specs.FaceValue.{FaceValue}
 use Rattle.lay_history.specs.Histories.{accepted}
 use Rattle.lay_history.specs.Legal.{IsLegal, doc_after}
-use Rattle.lay_history.proofs.Lists.{some_is}
 use Rattle.lay_context.specs.Laws.{OneSolution}
 use Rattle.lay_context.specs.Solves.{Solves}
 use Rattle.lay_run.specs.Runs.{Run}
@@ -51,7 +51,7 @@ module _ (come : GeneratedRunsComeToOne) (stay : GeneratedNodesStay) (last : Las
   found = last s driven.core driven.whole
 
   same_tree : found.tree ≡ its.tree
-  same_tree = some_is found.tree its.tree (sym found.at ∙ its.last)
+  same_tree = same_Some found.tree its.tree (sym found.at ∙ its.last)
 
   solves : Solves (last_document run) run.face its.tree
   solves =

@@ -1,7 +1,7 @@
 -- The corners of formatting contexts on the page are the only ones, since each rests on that of the one around it.
 use Rattle.std.proofs.Common.{◌≡◌, ℕ, zero, suc, ◌<◌, ◌≤◌, List, length, refl, sym, ◌∙◌, arith, inl, inr}
 use Rattle.std.proofs.lemmas.Bool.{cases_lt}
-use Rattle.lay_doc.proofs.OneStyles.{same_list}
+use Rattle.std.proofs.lemmas.List.{ext_get_or}
 use Rattle.lay_contexts.specs.FormattingContexts.{FormattingContext, AreFormattingContexts}
 use Rattle.lay_placements.specs.Corners.{corner_at, no_corner}
 use Rattle.lay_placements.specs.declared.corner.Corner.{Corner}
@@ -25,7 +25,7 @@ module _ (contexts : List FormattingContext) (places : List PlacedContext) (are 
   ]
 
   pub one_corner_column : x ≡ y
-  one_corner_column = same_list no_corner x y (a.count ∙ sym b.count) (λ i lt. corners_before (length contexts) (omega arith) i (omega (arith, a.count)))
+  one_corner_column = ext_get_or no_corner x y (a.count ∙ sym b.count) (λ i lt. corners_before (length contexts) (omega arith) i (omega (arith, a.count)))
 
 pub one_page_corners_lem : OnePageCorners
 one_page_corners_lem contexts places x y are a b = one_corner_column contexts places are x y a b

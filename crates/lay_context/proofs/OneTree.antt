@@ -1,8 +1,9 @@
 -- Two workings that meet the equations of a document are equal, task by task in their order, and so are their trees.
 use Rattle.std.proofs.Common.{◌≡◌, ℕ, zero, suc, ◌+◌, ◌<◌, List, length, refl, sym, subst, ◌∙◌, arith}
+use Rattle.std.proofs.lemmas.List.{ext_get_or}
 use Rattle.lay_doc.specs.Document.{Document, IsDocument, parents_of, declarations_of}
 use Rattle.lay_face.specs.FaceValue.{FaceValue}
-use Rattle.lay_doc.proofs.OneStyles.{one_style_column_lem, same_list}
+use Rattle.lay_doc.proofs.OneStyles.{one_style_column_lem}
 use Rattle.lay_boxgen.proofs.NodeColumns.{length-parents}
 use Rattle.lay_frag.specs.Pieces.{Context as PageContext}
 use Rattle.lay_contexts.specs.ContextList.{AreContextsOf}
@@ -68,9 +69,9 @@ module _ (one : OneAnswer) (medium : Medium) (contexts : List FormattingContext)
       let w : Workings = b.workings in
       let levels : List ℕ = levels_of contexts in
       let has = levels_are contexts are in
-      let sizes : v.sizes ≡ w.sizes = same_list not_sized v.sizes w.sizes (a.counts.sizes ∙ sym b.counts.sizes) (λ i lt.
+      let sizes : v.sizes ≡ w.sizes = ext_get_or not_sized v.sizes w.sizes (a.counts.sizes ∙ sym b.counts.sizes) (λ i lt.
       size_value (sizes_in v.sizes i) (sizes_in w.sizes i) (agree_at levels has v w a.done b.done (record { context = i; phase = Size }) (omega (arith, lt, a.counts.sizes)))) in
-      let places : v.places ≡ w.places = same_list not_placed v.places w.places (a.counts.places ∙ sym b.counts.places) (λ i lt.
+      let places : v.places ≡ w.places = ext_get_or not_placed v.places w.places (a.counts.places ∙ sym b.counts.places) (λ i lt.
       place_value (placed_in v.places i) (placed_in w.places i) (agree_at levels has v w a.done b.done (record { context = i; phase = Place }) (omega (arith, lt, a.counts.places)))) in
       let x = a.assembled in
       let y = b.assembled in

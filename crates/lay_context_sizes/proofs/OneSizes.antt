@@ -1,9 +1,9 @@
 -- Used sizes that meet their equations are the only ones, box by box.
 use Rattle.std.proofs.Common.{◌≡◌, ℕ, zero, suc, ◌<◌, ◌≤◌, Bool, true, false, List, length, refl, sym, ap, ◌∙◌, arith, inl, inr, subst, Option, None, Some}
 use Rattle.std.proofs.lemmas.Bool.{cases_lt}
+use Rattle.std.proofs.lemmas.List.{ext_get_or}
 use Rattle.lay_units.specs.declared.length.Unit.{Unit as Length}
 use Rattle.lay_style.specs.ComputedStyle.{style_at}
-use Rattle.lay_doc.proofs.OneStyles.{same_list}
 use Rattle.lay_box_tree.specs.declared.box_tree.BoxNode.{BoxNode}
 use Rattle.lay_box_tree.specs.BoxColumns.{box_styles}
 use Rattle.lay_measure.specs.declared.preferred_widths.PreferredWidths.{PreferredWidths}
@@ -71,7 +71,7 @@ module _ (one_cell : OneCellSizes) (i : SizeInput) (x y : List BoxSizes) (m n : 
 
   one_flow : (x ≡ y) × (m ≡ n)
   one_flow = (
-    same_list no_sizes x y (a.inside.count ∙ sym b.inside.count) (λ k lt. sizes_to (length i.boxes) (omega arith) k (omega (arith, a.inside.count))),
+    ext_get_or no_sizes x y (a.inside.count ∙ sym b.inside.count) (λ k lt. sizes_to (length i.boxes) (omega arith) k (omega (arith, a.inside.count))),
     own_same.1,
   )
 

@@ -1,6 +1,6 @@
 -- The preferred widths of a formatting context are the only ones.
 use Rattle.std.proofs.Common.{◌≡◌, ◌<◌, Bool, true, false, List, length, refl, ap, sym, ◌∙◌, arith}
-use Rattle.lay_doc.proofs.OneStyles.{same_list}
+use Rattle.std.proofs.lemmas.List.{ext_get_or}
 use Rattle.lay_box_tree.specs.declared.box_tree.BoxNode.{BoxNode}
 use Rattle.lay_box_tree.specs.declared.inline_part.InlinePart.{InlinePart}
 use Rattle.lay_box_tree.specs.InlineParts.{AreInlineParts, no_part}
@@ -17,7 +17,7 @@ use Rattle.lay_context_sizes.specs.TableContexts.{is_table}
 
 one_part_list : (boxes : List BoxNode) (x y : List InlinePart) → AreInlineParts boxes x → AreInlineParts boxes y → x ≡ y
 one_part_list boxes x y a b =
-    same_list no_part x y (a.count ∙ sym b.count) (λ k lt. (let within : k < length boxes = omega (arith, a.count) in a.each k within ∙ sym (b.each k within)))
+    ext_get_or no_part x y (a.count ∙ sym b.count) (λ k lt. (let within : k < length boxes = omega (arith, a.count) in a.each k within ∙ sym (b.each k within)))
 
 one_flow_widths : (i : MeasureInput) (v w : PreferredWidths) → HasFlowWidths i v → HasFlowWidths i w → v ≡ w
 one_flow_widths i v w a b =

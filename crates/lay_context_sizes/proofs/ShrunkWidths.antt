@@ -1,6 +1,7 @@
 -- The sizes of an own box that doesn't shrink to fit are the same whatever its preferred widths, and those of a table of the fixed layout
 -- whatever bounds are known of it.
-use Rattle.std.proofs.Common.{◌≡◌, Bool, true, false, not, List, [], ◌∷◌, refl, Option, None, Some, slice_get}
+use Rattle.std.proofs.Common.{◌≡◌, Bool, true, false, List, [], ◌∷◌, refl, Option, None, Some, slice_get}
+use Rattle.std.proofs.lemmas.Bool.{not-false}
 use Rattle.lay_units.specs.declared.length.Unit.{Unit as Length}
 use Rattle.lay_units.specs.declared.records.BlockIn.{BlockIn}
 use Rattle.lay_units.specs.declared.records.Len.{Len}
@@ -44,10 +45,6 @@ use Rattle.lay_context_sizes.specs.ShrinkToFit.{shrinks, shrinks_floating, shrin
 use Rattle.lay_context_sizes.specs.TableContexts.{is_table}
 use Rattle.lay_context_sizes.specs.declared.setting.Setting.{Setting}
 use Rattle.lay_context_sizes.specs.declared.setting.Setting.TheVariants.{Absolute, Block, Cell}
-
-not_false : (b : Bool) → not b ≡ false → b ≡ true
-not_false true e = refl
-not_false false e = absurd cc
 
 -- where a width is given, the rules of what shrinks to fit ask for no preferred widths
 abbrev is_given : Len → Bool
@@ -95,7 +92,7 @@ module _ (v w : PreferredWidths) (containing : ContainingBlock) (s : Style) (z :
   }
 
   in_flow : (k : BoxKind) → shrinks_in_flow k s ≡ false → IsSized containing (rule_in_flow v k) s z → IsSized containing (rule_in_flow w k) s z
-  in_flow kind.InlineBlock never sized = shrunk (not_false (has_width s.sizing.width) never) sized
+  in_flow kind.InlineBlock never sized = shrunk (not-false (has_width s.sizing.width) never) sized
   in_flow (kind.Replaced width height true) never sized = sized
   in_flow (kind.Replaced width height false) never sized = sized
   in_flow kind.Block never sized = sized
@@ -118,20 +115,20 @@ module _ (v w : PreferredWidths) (containing : ContainingBlock) (s : Style) (z :
   floating kind.Wrapper never sized = absurd cc
   floating kind.InlineWrapper never sized = absurd cc
   floating (kind.Replaced width height inline) never sized = sized
-  floating kind.InlineBlock never sized = shrunk (not_false (has_width s.sizing.width) never) sized
-  floating kind.Block never sized = shrunk (not_false (has_width s.sizing.width) never) sized
-  floating kind.Inline never sized = shrunk (not_false (has_width s.sizing.width) never) sized
-  floating (kind.Text text) never sized = shrunk (not_false (has_width s.sizing.width) never) sized
-  floating kind.Table never sized = shrunk (not_false (has_width s.sizing.width) never) sized
-  floating kind.Caption never sized = shrunk (not_false (has_width s.sizing.width) never) sized
-  floating kind.RowGroup never sized = shrunk (not_false (has_width s.sizing.width) never) sized
-  floating kind.HeaderGroup never sized = shrunk (not_false (has_width s.sizing.width) never) sized
-  floating kind.FooterGroup never sized = shrunk (not_false (has_width s.sizing.width) never) sized
-  floating kind.Row never sized = shrunk (not_false (has_width s.sizing.width) never) sized
-  floating (kind.ColumnGroup span) never sized = shrunk (not_false (has_width s.sizing.width) never) sized
-  floating (kind.Column span) never sized = shrunk (not_false (has_width s.sizing.width) never) sized
-  floating (kind.Cell columns rows) never sized = shrunk (not_false (has_width s.sizing.width) never) sized
-  floating kind.Anchor never sized = shrunk (not_false (has_width s.sizing.width) never) sized
+  floating kind.InlineBlock never sized = shrunk (not-false (has_width s.sizing.width) never) sized
+  floating kind.Block never sized = shrunk (not-false (has_width s.sizing.width) never) sized
+  floating kind.Inline never sized = shrunk (not-false (has_width s.sizing.width) never) sized
+  floating (kind.Text text) never sized = shrunk (not-false (has_width s.sizing.width) never) sized
+  floating kind.Table never sized = shrunk (not-false (has_width s.sizing.width) never) sized
+  floating kind.Caption never sized = shrunk (not-false (has_width s.sizing.width) never) sized
+  floating kind.RowGroup never sized = shrunk (not-false (has_width s.sizing.width) never) sized
+  floating kind.HeaderGroup never sized = shrunk (not-false (has_width s.sizing.width) never) sized
+  floating kind.FooterGroup never sized = shrunk (not-false (has_width s.sizing.width) never) sized
+  floating kind.Row never sized = shrunk (not-false (has_width s.sizing.width) never) sized
+  floating (kind.ColumnGroup span) never sized = shrunk (not-false (has_width s.sizing.width) never) sized
+  floating (kind.Column span) never sized = shrunk (not-false (has_width s.sizing.width) never) sized
+  floating (kind.Cell columns rows) never sized = shrunk (not-false (has_width s.sizing.width) never) sized
+  floating kind.Anchor never sized = shrunk (not-false (has_width s.sizing.width) never) sized
 
   by_flow : (f : Flow) (k : BoxKind) → shrinks f k s ≡ false → IsSized containing (own_rule v f k) s z → IsSized containing (own_rule w f k) s z
   by_flow InFlow k never sized = in_flow k never sized
@@ -152,8 +149,8 @@ module _ (v w : PreferredWidths) where
 
 -- a table that doesn't shrink is of the fixed layout
 fixed_by_kind : (k : BoxKind) (s : Style) → is_wrapper k ≡ true → shrinks_in_flow k s ≡ false → is_fixed s ≡ true
-fixed_by_kind kind.Wrapper s is never = not_false (is_fixed s) never
-fixed_by_kind kind.InlineWrapper s is never = not_false (is_fixed s) never
+fixed_by_kind kind.Wrapper s is never = not-false (is_fixed s) never
+fixed_by_kind kind.InlineWrapper s is never = not-false (is_fixed s) never
 fixed_by_kind kind.InlineBlock s is never = absurd cc
 fixed_by_kind (kind.Replaced width height inline) s is never = absurd cc
 fixed_by_kind kind.Block s is never = absurd cc

@@ -2,9 +2,9 @@
 use Rattle.std.proofs.Common.{◌≡◌, ◌≢◌, ◌<◌, ◌==◌, ◌&&◌, ℕ, zero, suc, ◌+◌, Bool, true, false, List, [], ◌∷◌, ◌++◌, add-one, length, slice_index, slice_set, replicate, refl, ap, sym, ◌∙◌, arith, inl, inr, if◌then◌else◌}
 use Rattle.std.proofs.lemmas.Bool.{cases_eq, cases_lt}
 use Rattle.std.proofs.lemmas.Grind.{elements}
+use Rattle.std.proofs.lemmas.List.{ext_get_or}
 use Rattle.lay_style.specs.declared.style.Style.{Style}
 use Rattle.lay_doc.specs.Document.{Document, IsDocument}
-use Rattle.lay_doc.proofs.OneStyles.{same_list}
 use Rattle.lay_box_tree.specs.declared.box_tree.BoxNode.{BoxNode}
 use Rattle.lay_contexts.specs.declared.context_spot.ContextSpot.{ContextSpot}
 use Rattle.lay_contexts.specs.Contexts.{Context, AreContexts, IsInside, context_at, no_context}
@@ -70,13 +70,13 @@ one_context spots boxes n i x y a b =
     let outer_box : x.outer_box ≡ y.outer_box = ap (λ (s : ContextSpot). s.at) spot in
     let boxes_are = a.boxes_are ∙ sym b.boxes_are in
     let counted : length x.boxes ≡ length y.boxes = ap length boxes_are in
-    let inner : x.inner ≡ y.inner = same_list 0 x.inner y.inner (a.count ∙ counted ∙ sym b.count) (λ k lt. a.inner k (omega (arith, a.count)) ∙ sym (b.inner k (omega (arith, a.count, counted)))) in
+    let inner : x.inner ≡ y.inner = ext_get_or 0 x.inner y.inner (a.count ∙ counted ∙ sym b.count) (λ k lt. a.inner k (omega (arith, a.count)) ∙ sym (b.inner k (omega (arith, a.count, counted)))) in
     let e : context_with x.place x.outer x.outer_box x.boxes x.inner ≡ context_with y.place y.outer y.outer_box y.boxes y.inner = rw (place, outer, outer_box, boxes_are, inner) refl in
     e
 
 numbered_once : (spots : List ContextSpot) (boxes : List (List BoxNode)) (x y : List Context) → AreNumberedTo spots boxes x (length spots) → AreNumberedTo spots boxes y (length spots) → x ≡ y
 numbered_once spots boxes x y a b =
-    same_list no_context x y (a.count ∙ sym b.count) (λ i lt. one_context spots boxes (length spots) i (context_at x i) (context_at y i) (a.each i lt) (b.each i (omega (arith, a.count, b.count))))
+    ext_get_or no_context x y (a.count ∙ sym b.count) (λ i lt. one_context spots boxes (length spots) i (context_at x i) (context_at y i) (a.each i lt) (b.each i (omega (arith, a.count, b.count))))
 
 pub one_context_list_lem : OneContextList
 one_context_list_lem d styles x y doc same a b =

@@ -1,8 +1,7 @@
 -- The laws of the list of formatting contexts.
 use Rattle.std.proofs.Common.{◌≡◌, ℕ, zero, suc, ◌+◌, ◌<◌, ◌≤◌, Bool, true, false, not, nat_lt, List, [], ◌∷◌, ◌++◌, add-one, append-nil, length, map, slice_index, take, refl, ap, sym, ◌∙◌, arith}
-use Rattle.std.proofs.lemmas.List.{map-append, take_all, take_more}
+use Rattle.std.proofs.lemmas.List.{map-append, take_all, take_more, ext_get_or}
 use Rattle.std.proofs.lemmas.List.Elements.{filter-append}
-use Rattle.lay_doc.proofs.OneStyles.{same_list}
 use Rattle.lay_box_tree.specs.declared.box_tree.BoxNode.{BoxNode}
 use Rattle.lay_contexts.specs.Contexts.{AreContexts, Context, boxes_in, context_at, no_context}
 use Rattle.lay_contexts.specs.FormattingBoxes.{boxes_of_root, rank}
@@ -22,7 +21,7 @@ use Rattle.lay_contexts.proofs.WholeBoxes.{own_same, whole_boxes}
 -- the homes of the boxes of a context are those
 one_column : (boxes : List BoxNode) (g h : List ℕ) → AreHomes boxes g → AreHomes boxes h → g ≡ h
 one_column boxes g h a b =
-    same_list 0 g h (a.count ∙ sym b.count) (λ k lt. one_home_lem boxes k (slice_index g k) (slice_index h k) (a.each k (omega (arith, lt, a.count))) (b.each k (omega (arith, lt, a.count))))
+    ext_get_or 0 g h (a.count ∙ sym b.count) (λ k lt. one_home_lem boxes k (slice_index g k) (slice_index h k) (a.each k (omega (arith, lt, a.count))) (b.each k (omega (arith, lt, a.count))))
 
 abbrev value : Bool → ℕ → ℕ → List BoxNode → List ℕ → FormattingContext
 value anonymous outer outer_box boxes inner = record { anonymous = anonymous; outer = outer; outer_box = outer_box; boxes = boxes; inner = inner }
@@ -49,7 +48,7 @@ module _ (contexts : List Context) (x y : List (List ℕ)) (are : AreContexts co
 
 pub one_list : OneFormattingContextList
 one_list contexts x y are a b =
-    same_list no_formatting_context x y (a.count ∙ sym b.count) (λ m lt. (let n = numbered contexts (length contexts) m (omega (arith, lt, a.count)) in
+    ext_get_or no_formatting_context x y (a.count ∙ sym b.count) (λ m lt. (let n = numbered contexts (length contexts) m (omega (arith, lt, a.count)) in
     ap (formatting_context_at x) (sym n.number) ∙ a.each n.context n.place n.before n.inside n.root
     ∙ one_value contexts a.homes b.homes are a.homes_are b.homes_are n.context n.place n.before n.inside
     ∙ sym (b.each n.context n.place n.before n.inside n.root) ∙ ap (formatting_context_at y) n.number))

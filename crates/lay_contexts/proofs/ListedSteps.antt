@@ -2,10 +2,10 @@
 use Rattle.std.proofs.Common.{◌≡◌, ◌≢◌, ◌<◌, ℕ, zero, suc, ◌+◌, ◌==◌, Bool, true, false, IsTrue, List, [], ◌∷◌, ◌++◌, length, length-append, map, slice_index, slice_set, refl, ap, sym, subst, ◌∙◌, arith, inl, inr, Option, Some, None, IfSome, option_map}
 use Rattle.std.proofs.lemmas.Bool.{cases_eq, cases_lt}
 use Rattle.std.proofs.lemmas.Grind.{elements}
+use Rattle.std.proofs.lemmas.List.{ext_get_or}
 use Rattle.lay_style.specs.declared.style.Style.{Style}
 use Rattle.lay_style.specs.Places.{place_of}
 use Rattle.lay_doc.specs.declared.node.Node.{Node}
-use Rattle.lay_doc.proofs.OneStyles.{same_list}
 use Rattle.lay_boxgen.specs.Contexts.{IsContextAt, box_at, is_marked}
 use Rattle.lay_box_tree.specs.declared.box_tree.BoxNode.{BoxNode}
 use Rattle.lay_contexts.specs.ContextTree.{StandsIn, boxes_of_place}
@@ -195,6 +195,6 @@ module _ (nodes : List Node) (styles : List Style) (places : List ℕ) (stands :
   pub same_boxes : boxes_of_places nodes styles places ≡ boxes_of_spots nodes styles spots
   same_boxes =
       let counted = map_length (λ (s : ContextSpot). s.place) spots in
-      let same : map (λ (s : ContextSpot). s.place) spots ≡ places = same_list 0 (map (λ (s : ContextSpot). s.place) spots) places (counted ∙ are.count)
+      let same : map (λ (s : ContextSpot). s.place) spots ≡ places = ext_get_or 0 (map (λ (s : ContextSpot). s.place) spots) places (counted ∙ are.count)
       (λ i lt. place_in spots i ∙ spot_place i (omega (arith, lt, counted, are.count))) in
       sym (spot_boxes spots ∙ ap (boxes_of_places nodes styles) same)

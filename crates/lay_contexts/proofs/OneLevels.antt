@@ -1,6 +1,7 @@
 -- A box that is generated holds boxes of one level.
 use Rattle.std.proofs.Common.{◌≡◌, Bool, true, false, ◌&&◌, ◌||◌, not, List, [], ◌∷◌, ◌++◌, filter, refl, sym, ap, ◌∙◌, if◌then◌else◌, Option, None, Some}
 use Rattle.std.specs.List.{list_any}
+use Rattle.std.proofs.lemmas.Bool.{or_from}
 use Rattle.lay_box_tree.specs.declared.box_tree.Flow.TheVariants as flow
 use Rattle.lay_boxgen.specs.Boxes.{Tree, Trees, tree, no_trees, also, trees_of, facts_of, remade, all_remade, in_box}
 use Rattle.lay_boxgen.specs.BrokenInlines.{broken, is_block_box, is_no_text_box, is_unseen, part_over, parts_from}
@@ -18,10 +19,6 @@ use Rattle.lay_boxgen.specs.declared.facts.Form.TheVariants as form
 use Rattle.lay_boxgen.specs.NodeTrees.{tree_at}
 use Rattle.lay_boxgen.specs.Parts.{all_put, generated_of, is_closed, nothing, own_tree, put, put_list, whole}
 use Rattle.lay_contexts.specs.LevelLaws.{BoxesHoldOneLevel, EachBox, EachIn, EachOf, HoldsOneLevel, any_in, is_in_line}
-
-or_false : (a b : Bool) → a ≡ false → b ≡ false → (a || b) ≡ false
-or_false true b e f = absurd cc
-or_false false b e f = f
 
 or_first : (a b : Bool) → (a || b) ≡ false → a ≡ false
 or_first true b e = absurd cc
@@ -43,7 +40,7 @@ module _ (p : Facts → Bool) where
   none_append : (xs ys : List Tree) → any xs ≡ false → any ys ≡ false → any (xs ++ ys) ≡ false
   none_append [] ys e f = f
   none_append (x ∷ xs) ys e f =
-      or_false (p (facts_of x)) (any (xs ++ ys)) (or_first (p (facts_of x)) (any xs) e) (none_append xs ys (or_second (p (facts_of x)) (any xs) e) f)
+      or_from (p (facts_of x)) (any (xs ++ ys)) (or_first (p (facts_of x)) (any xs) e) (none_append xs ys (or_second (p (facts_of x)) (any xs) e) f)
 
   -- a rule that leaves a box leaves its kind
   any_remade : (change : Facts → List Tree → List Tree) (us : Trees) → any (all_remade (in_box change) us) ≡ any_in p us
@@ -87,7 +84,7 @@ parts_each : (f : Facts) (ts : List Tree) (after : Bool) (held : List Tree) → 
 parts_each f [] after held h none g = over_each f false held h none
 parts_each f (t ∷ ts) after held h none g =
     by (is_block_box t) refl (parts_each f ts true [] tt refl g.1)
-    (λ e. parts_each f ts (after && is_unseen (facts_of t)) (held ++ t ∷ []) (each_append HoldsNoBlock held (t ∷ []) h (g.0, tt)) (none_append is_block held (t ∷ []) none (or_false (is_block_box t) false e refl)) g.1)
+    (λ e. parts_each f ts (after && is_unseen (facts_of t)) (held ++ t ∷ []) (each_append HoldsNoBlock held (t ∷ []) h (g.0, tt)) (none_append is_block held (t ∷ []) none (or_from (is_block_box t) false e refl)) g.1)
   where
     by : (b : Bool) → is_block_box t ≡ b → EachOf HoldsNoBlock (parts_from f true [] ts) → (is_block_box t ≡ false → EachOf HoldsNoBlock (parts_from f (after && is_unseen (facts_of t)) (held ++ t ∷ []) ts))
         → EachOf HoldsNoBlock (if b then part_over f after held ++ t ∷ [] ++ parts_from f true [] ts else parts_from f (after && is_unseen (facts_of t)) (held ++ t ∷ []) ts)
@@ -146,7 +143,7 @@ unseen_left (t ∷ ts) e =
     by : (b : Bool) → is_no_text_box t ≡ b → is_seen_box t ≡ false → any is_in_line (filter is_no_text_box ts) ≡ false → any is_in_line (if b then t ∷ filter is_no_text_box ts else filter is_no_text_box ts) ≡ false
     by true n seen rest =
         let f : Facts = facts_of t in
-        or_false (is_in_line f) _ (out_by (is_in_flow f.flow) (is_blank f.form) (is_text f.form) (is_inline_level f.form) (blank_text f.form) seen n) rest
+        or_from (is_in_line f) _ (out_by (is_in_flow f.flow) (is_blank f.form) (is_text f.form) (is_inline_level f.form) (blank_text f.form) seen n) rest
     by false n seen rest = rest
 
 round_out : (f : Facts) (run : List Tree) → any is_in_line (block_round f run) ≡ false
@@ -208,7 +205,7 @@ module _ (f : Facts) where
       ended p past =
           let x : Facts = facts_of t in
           none_append is_in_line (run_over (block_round f) run [] ++ t ∷ []) (from [] ts)
-          (none_append is_in_line (run_over (block_round f) run []) (t ∷ []) (over_out f run) (or_false (is_in_line x) false (block_by (is_in_flow x.flow) (is_inline_level x.form) p) refl)) past
+          (none_append is_in_line (run_over (block_round f) run []) (t ∷ []) (over_out f run) (or_from (is_in_line x) false (block_by (is_in_flow x.flow) (is_inline_level x.form) p) refl)) past
 
       by : (a b c : Bool) → is_no_block (facts_of t) ≡ a → is_white_box t ≡ c → any is_in_line (from (run ++ [] ++ t ∷ []) ts) ≡ false → any is_in_line (from [] ts) ≡ false
           → any is_in_line (if a then from (run ++ [] ++ t ∷ []) ts
@@ -233,7 +230,7 @@ module _ (f : Facts) where
   from_one (t ∷ ts) run h none g =
       by (is_no_block (facts_of t)) (is_some run) (is_white_box t) refl refl
       (λ p. from_one ts (run ++ [] ++ t ∷ []) (each_append HoldsOneLevel (run ++ []) (t ∷ []) (each_append HoldsOneLevel run [] h tt) (g.0, tt))
-      (none_append is_block (run ++ []) (t ∷ []) (none_append is_block run [] none refl) (or_false (is_block_box t) false (block_of (is_in_flow (facts_of t).flow) (is_inline_level (facts_of t).form) p) refl)) g.1)
+      (none_append is_block (run ++ []) (t ∷ []) (none_append is_block run [] none refl) (or_from (is_block_box t) false (block_of (is_in_flow (facts_of t).flow) (is_inline_level (facts_of t).form) p) refl)) g.1)
       (from_one ts [] tt refl g.1)
     where
       ended : EachOf HoldsOneLevel (from [] ts) → EachOf HoldsOneLevel (run_over (block_round f) run [] ++ t ∷ [] ++ from [] ts)

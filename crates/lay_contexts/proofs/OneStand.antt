@@ -1,6 +1,7 @@
 -- Each context but the first stands once, in the nearest context above it.
-use Rattle.std.proofs.Common.{◌≡◌, ℕ, zero, suc, ◌+◌, ◌<◌, ◌≤◌, Bool, true, false, ◌⊎◌, List, [], ◌∷◌, length, refl, ap, sym, subst, ◌∙◌, arith, inl, inr, IsTrue, Option, None, Some, option_map, slice_get, slice_index}
-use Rattle.std.proofs.lemmas.Bool.{cases_lt}
+use Rattle.std.proofs.Common.{◌≡◌, ℕ, suc, ◌+◌, ◌<◌, ◌≤◌, Bool, true, false, ◌⊎◌, List, [], ◌∷◌, length, refl, ap, sym, subst, ◌∙◌, arith, inl, inr, IsTrue, Option, None, Some, option_map, slice_get, slice_index}
+use Rattle.std.proofs.lemmas.Bool.{cases_lt, cases_Bool}
+use Rattle.std.proofs.lemmas.Option.{slice_get_within}
 use Rattle.lay_style.specs.declared.style.Style.{Style}
 use Rattle.lay_style.specs.ComputedStyle.{style_at}
 use Rattle.lay_doc.specs.declared.node.Node.{Node}
@@ -18,10 +19,6 @@ use Rattle.lay_contexts.proofs.Apart.{Below, IsBelow, child, cut-below, deeper, 
 use Rattle.lay_contexts.proofs.Counted.{IsThere, count, find, least, most, named-once, two}
 use Rattle.lay_contexts.proofs.Members.{forest, node-at, tree-is}
 use Rattle.lay_contexts.proofs.Reached.{generated-inside, reached}
-
-bool-cases : (b : Bool) → (b ≡ true) ⊎ (b ≡ false)
-bool-cases true = inl refl
-bool-cases false = inr refl
 
 never : (b : Bool) → b ≡ true → b ≡ false → ⊥
 never true e h = cc
@@ -43,14 +40,9 @@ root-of : (o : Option Node) (s : Style) → IsTrue (has_box (box_of_node 0 o s))
 root-of None s h = absurd cc
 root-of (Some n) s h = root-by n s (form_of true n.kind n.text s) h
 
-pub there : {X : Type 0} (xs : List X) (k : ℕ) (x : X) → slice_get xs k ≡ Some x → k < length xs
-there [] k x e = cc
-there (y ∷ ys) zero x e = omega arith
-there (y ∷ ys) (suc k) x e = let h = there ys k x e in omega (arith, h)
-
 within-by : (nodes : List Node) (k : ℕ) (s : Style) (o : Option Node) → slice_get nodes k ≡ o → is_marked (box_of_node k o s) ≡ true → k < length nodes
 within-by nodes k s None e h = cc
-within-by nodes k s (Some n) e h = there nodes k n e
+within-by nodes k s (Some n) e h = slice_get_within nodes k n e
 
 module _ (nodes : List Node) (styles : List Style) where
   pub within : (k : ℕ) → is_marked (box_at nodes styles k) ≡ true → k < length nodes
@@ -68,7 +60,7 @@ module _ (nodes : List Node) (styles : List Style) where
 
   up : (k : ℕ) → GeneratesBox nodes styles k → 0 < k → HasAround k
   up k (root h) positive = absurd (omega (arith, positive))
-  up k (below j above kept made) positive = by (bool-cases (is_marked (box_at nodes styles (parent_of nodes j)))) (up (parent_of nodes j) made)
+  up k (below j above kept made) positive = by (cases_Bool (is_marked (box_at nodes styles (parent_of nodes j)))) (up (parent_of nodes j) made)
     where
       by : (is_marked (box_at nodes styles (parent_of nodes j)) ≡ true) ⊎ (is_marked (box_at nodes styles (parent_of nodes j)) ≡ false)
           → (0 < parent_of nodes j → HasAround (parent_of nodes j)) → HasAround j

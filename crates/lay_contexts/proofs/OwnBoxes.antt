@@ -1,6 +1,7 @@
 -- The boxes of a context depend on its own nodes alone.
 use Rattle.std.proofs.Common.{◌≡◌, inl, inr, ℕ, zero, suc, ◌+◌, ◌-◌, ◌<◌, ◌≤◌, ◌==◌, nat_lt, Bool, true, false, ◌&&◌, not, List, [], ◌∷◌, length, map, refl, ap, sym, subst, ◌∙◌, arith, if◌then◌else◌, slice_index, slice_index_or, Option, None, Some, option_map}
 use Rattle.std.proofs.lemmas.Bool.{cases_lt}
+use Rattle.std.proofs.lemmas.Option.{slice_get_within as there}
 use Rattle.lay_style.specs.declared.style.Style.{Style}
 use Rattle.lay_style.specs.ComputedStyle.{style_at}
 use Rattle.lay_doc.specs.declared.node.Kind.{Kind}
@@ -24,7 +25,7 @@ use Rattle.lay_boxgen.proofs.Putting.{put-trees_of}
 use Rattle.lay_contexts.specs.NodeTreeLaws.{child_trees, children_places}
 use Rattle.lay_contexts.proofs.ChildTrees.{in-order}
 use Rattle.lay_contexts.specs.OwnNodes.{AreOwnNodes, IsOwnNode, OwnNode, OwnNodesDecide, own_at}
-use Rattle.lay_contexts.proofs.OneStand.{marked-true, there}
+use Rattle.lay_contexts.proofs.OneStand.{marked-true}
 use Rattle.lay_contexts.proofs.OwnChildren.{IsOpen, children-are, numbers, place, place-is}
 use Rattle.lay_contexts.proofs.Relabeled.{generated_along, put_at, relabel, relabel_list, trees}
 use Rattle.lay_contexts.proofs.RelabeledLists.{list-put-relabel, part-same}

@@ -1,6 +1,7 @@
 -- The children of an own node of a context that is no inner context are own nodes.
 use Rattle.std.proofs.Common.{◌≡◌, ◌⊎◌, inl, inr, ℕ, zero, suc, ◌+◌, ◌-◌, ◌<◌, ◌≤◌, ◌==◌, true, false, List, [], ◌∷◌, length, map, filter, refl, ap, sym, subst, ◌∙◌, arith, slice_index, slice_index_or}
 use Rattle.std.proofs.lemmas.Bool.{cases_lt, eqb-true}
+use Rattle.std.proofs.lemmas.Option.{slice_get_within as there}
 use Rattle.lay_style.specs.declared.style.Style.{Style}
 use Rattle.lay_doc.specs.declared.node.Node.{Node}
 use Rattle.lay_doc.specs.Document.{parents_of}
@@ -9,7 +10,6 @@ use Rattle.lay_boxgen.specs.Contexts.{box_at, is_marked}
 use Rattle.lay_contexts.specs.NodeTreeLaws.{children_places, places_from}
 use Rattle.lay_contexts.specs.ContextTree.{IsAround, further, parent, parent_of}
 use Rattle.lay_contexts.specs.OwnNodes.{AreOwnNodes, OwnNode, own_at}
-use Rattle.lay_contexts.proofs.OneStand.{there}
 use Rattle.lay_contexts.proofs.RisingLists.{Has, below-from, from-has, has-from, has-map, map-has, one-rising, rises-from, rises-map}
 
 -- the numbers of the children of the own node with this number

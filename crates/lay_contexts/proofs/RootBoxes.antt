@@ -1,6 +1,6 @@
 -- The boxes of the formatting context of a root are a tree, as those of a context are.
-use Rattle.std.proofs.Common.{◌≡◌, ℕ, zero, suc, ◌+◌, ◌<◌, ◌≤◌, ◌||◌, Bool, true, false, List, [], ◌∷◌, add-one, length, slice_index, refl, ap, sym, subst, ◌∙◌, arith, inl, inr}
-use Rattle.std.proofs.lemmas.Bool.{cases_lt}
+use Rattle.std.proofs.Common.{◌≡◌, ℕ, zero, suc, ◌+◌, ◌<◌, ◌≤◌, Bool, true, false, List, [], ◌∷◌, add-one, length, slice_index, refl, ap, sym, subst, ◌∙◌, arith, inl, inr}
+use Rattle.std.proofs.lemmas.Bool.{cases_lt, or_from}
 use Rattle.std.proofs.lemmas.List.{get_or-map, length-map}
 use Rattle.lay_box_tree.specs.BoxColumns.{box_parents}
 use Rattle.lay_box_tree.specs.Containers.{box_parent}
@@ -26,9 +26,6 @@ inner_of (b ∷ bs) (suc k) = inner_of bs k
 pub parent_within : (boxes : List BoxNode) → AreContextBoxes boxes → (k : ℕ) → k < length boxes → (box_at boxes k).parent < length boxes
 parent_within boxes are zero lt = (let e = parent_of boxes 0 ∙ are.tree.root in omega (arith, e, lt))
 parent_within boxes are (suc k) lt = (let e = parent_of boxes (suc k) in let low = parent_low boxes are.tree (suc k) (omega arith) lt in omega (arith, e, low, lt))
-
-or_no : (a b : Bool) → a ≡ false → b ≡ false → (a || b) ≡ false
-or_no a b e f = rw (e, f) refl
 
 -- the rank of what is at home in r
 pub rank_is : (homes : List ℕ) (r k : ℕ) → is_at_home homes r k ≡ true → rank homes k ≡ 1 + length (at_home_before homes r k)
@@ -172,7 +169,7 @@ module _ (boxes : List BoxNode) (homes : List ℕ) (r : ℕ) (are : AreContextBo
       let here = at_rank boxes homes r p (omega (arith, low, lt)) (parent_home k lt home e) in
       let none : (box_at boxes p).inner ≡ false = inner_of boxes p ∙ are.parents k positive lt in
       let q = place_other boxes homes p e in
-      rw q (sym (inner_of (boxes_of_root boxes homes r) (rank homes p)) ∙ ap (λ (b : BoxNode). b.inner) here ∙ or_no (box_at boxes p).inner (is_root boxes p) none e)
+      rw q (sym (inner_of (boxes_of_root boxes homes r) (rank homes p)) ∙ ap (λ (b : BoxNode). b.inner) here ∙ or_from (box_at boxes p).inner (is_root boxes p) none e)
 
   leaves_in : (k : ℕ) → 0 < k → k < length (boxes_of_root boxes homes r) → is_inner (boxes_of_root boxes homes r) (box_parent (boxes_of_root boxes homes r) k) ≡ false
   leaves_in zero positive lt = absurd (omega (arith, positive))

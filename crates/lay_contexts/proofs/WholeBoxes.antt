@@ -1,7 +1,7 @@
 -- Where a context has no root but its own box, all its boxes are at home there, and stay what they are.
 use Rattle.std.proofs.Common.{◌≡◌, ℕ, zero, suc, ◌+◌, ◌<◌, ◌||◌, Bool, true, false, List, add-one, length, slice_index, refl, ap, sym, ◌∙◌, arith, inl, inr}
 use Rattle.std.proofs.lemmas.Bool.{cases_lt}
-use Rattle.lay_doc.proofs.OneStyles.{same_list}
+use Rattle.std.proofs.lemmas.List.{ext_get_or}
 use Rattle.lay_box_tree.specs.declared.box_tree.BoxNode.{BoxNode}
 use Rattle.lay_box_tree.specs.ContextBoxes.{AreContextBoxes}
 use Rattle.lay_contexts.specs.FormattingBoxes.{as_member, as_own, at_home_before, boxes_of_root, is_at_home, place_inside, placed, rank}
@@ -93,7 +93,7 @@ module _ (boxes : List BoxNode) (homes : List ℕ) (are : AreContextBoxes boxes)
       member_at boxes homes 0 a s.inside ∙ ap (as_member boxes homes) q ∙ member_same (suc a) (omega arith) (omega (arith, lt, length_same))
 
   pub whole_boxes : boxes_of_root boxes homes 0 ≡ boxes
-  whole_boxes = same_list no_box (boxes_of_root boxes homes 0) boxes length_same each_same
+  whole_boxes = ext_get_or no_box (boxes_of_root boxes homes 0) boxes length_same each_same
 
   pub whole_root : (r : ℕ) → r < length boxes → is_root boxes r ≡ true → boxes_of_root boxes homes r ≡ boxes
   whole_root zero lt root = whole_boxes

@@ -4,6 +4,7 @@ use Rattle.std.specs.Prelude.{replicate}
 use Rattle.std.specs.List.{range_with_len}
 use Rattle.std.proofs.lemmas.Bool.{cases_lt}
 use Rattle.std.proofs.lemmas.List.FromFn.{length-range_with_len, get_or-range_with_len}
+use Rattle.std.proofs.lemmas.List.{length-replicate}
 use Rattle.lay_box_tree.specs.Containers.{box_parent}
 use Rattle.lay_box_tree.specs.declared.box_tree.BoxNode.{BoxNode}
 use Rattle.lay_box_tree.specs.ContextBoxes.{AreContextBoxes}
@@ -17,10 +18,6 @@ use Rattle.lay_contexts.proofs.GrowingColumns.{not_home}
 use Rattle.lay_contexts.proofs.NearestRoots.{parent_low}
 use Rattle.lay_contexts.proofs.RootNumbers.{roots_no, roots_yes}
 use Rattle.lay_contexts.proofs.WholeBoxes.{rank_same}
-
-length_copies : {A : Type 0} (n : ℕ) (x : A) → length (replicate n x) ≡ n
-length_copies zero x = refl
-length_copies (suc n) x = ap suc (length_copies n x)
 
 copy_at : (n k v : ℕ) → k < n → slice_index (replicate n v) k ≡ v
 copy_at zero k v lt = absurd (omega (arith, lt))
@@ -76,7 +73,7 @@ module _ (boxes : List BoxNode) (are : AreContextBoxes boxes) (one : HasOneRoot 
 
   whole_homes : (inside : ℕ) → length boxes ≡ suc inside → AreHomes boxes (replicate (suc inside) 0)
   whole_homes inside count = record {
-    count = length_copies (suc inside) 0 ∙ sym count;
+    count = length-replicate (suc inside) 0 ∙ sym count;
     each = λ k lt. (let z = none_at (suc inside) k in subst (IsHome boxes k) (sym z) (own_to (suc k) k (omega arith) lt));
   }
 
@@ -114,11 +111,11 @@ module _ (boxes : List BoxNode) (are : AreContextBoxes boxes) (one : HasOneRoot 
             | inl some ↦ rank_at inside k (omega (arith, lt, count)) ∙ sym (rank_same boxes (replicate (suc inside) 0) are homes one k some lt)
             | inr high ↦ (let z : k ≡ 0 = omega (arith, high) in rw z refl)
           ];
-          lists = ap suc (length_copies inside []) ∙ sym (length_copies (suc inside) 0);
+          lists = ap suc (length-replicate inside []) ∙ sym (length-replicate (suc inside) 0);
           list = λ r lt. lists_are inside r count;
         };
         numbers = record {
-          count = (let c = length_copies (suc inside) next in omega (arith, c, count));
+          count = (let c = length-replicate (suc inside) next in omega (arith, c, count));
           each = λ k lt. number_to first next inside k count is (omega (arith, lt, count));
           few = λ k lt. number_low first next inside k is few (omega (arith, lt, count));
         };

@@ -1,14 +1,10 @@
 -- Whether cells are clean.
 use Rattle.std.proofs.Common.{◌≡◌, ◌&&◌, ◌↔◌, zero, suc, not, Bool, true, false, List, [], ◌∷◌, refl, sym, ap, subst, rules}
+use Rattle.std.proofs.lemmas.Option.{same_Some, none-some}
+use Rattle.std.proofs.lemmas.Bool.{and_from, not-true}
 use Rattle.lay_cells.specs.Reads.{AllClean}
 use Rattle.lay_cell_work.specs.CellLaws.SoundCells.{CellRow}
-use Rattle.lay_history.proofs.Lists.{not_none, some_is}
 use Rattle.lay_core.specs.State.{are_clean}
-
-both_true : (a b : Bool) → a ≡ true → b ≡ true → (a && b) ≡ true
-both_true true true x y = refl
-both_true true false x y = absurd (search rules)
-both_true false b x y = absurd (search rules)
 
 left_true : (a b : Bool) → (a && b) ≡ true → a ≡ true
 left_true true b e = refl
@@ -18,18 +14,14 @@ right_true : (a b : Bool) → (a && b) ≡ true → b ≡ true
 right_true true b e = e
 right_true false b e = absurd (search rules)
 
-not_false : (a : Bool) → not a ≡ true → a ≡ false
-not_false true e = absurd (search rules)
-not_false false e = refl
-
 pub clean_told : (rows : List CellRow) → AllClean rows → are_clean rows ≡ true
 clean_told [] clean = refl
 clean_told (r ∷ rows) clean =
-    both_true (not r.dirty) (are_clean rows) (ap not (clean r (0, refl))) (clean_told rows (λ q is. clean q (suc is.0, is.1)))
+    and_from (not r.dirty) (are_clean rows) (ap not (clean r (0, refl))) (clean_told rows (λ q is. clean q (suc is.0, is.1)))
 
 pub told_clean : (rows : List CellRow) → are_clean rows ≡ true → AllClean rows
-told_clean [] e q is = absurd (not_none q is.1)
-told_clean (r ∷ rows) e q (zero, at) = subst (λ (x : CellRow). x.dirty ≡ false) (some_is r q at) (not_false r.dirty (left_true (not r.dirty) (are_clean rows) e))
+told_clean [] e q is = absurd (none-some q is.1)
+told_clean (r ∷ rows) e q (zero, at) = subst (λ (x : CellRow). x.dirty ≡ false) (same_Some r q at) (not-true r.dirty (left_true (not r.dirty) (are_clean rows) e))
 told_clean (r ∷ rows) e q (suc k, at) = told_clean rows (right_true (not r.dirty) (are_clean rows) e) q (k, at)
 
 same_by : (a b : Bool) → (a ≡ true → b ≡ true) → (b ≡ true → a ≡ true) → a ≡ b

@@ -1,6 +1,7 @@
 -- What a core keeps after each kind of step.
 use Rattle.std.proofs.Common.{◌≡◌, ◌<◌, ◌≤◌, ◌*◌, ℕ, ◌+◌, ◌-◌, ◌^◌, zero, suc, List, [], ◌∷◌, ◌++◌, length, Some, None, fold, refl, sym, ap, ◌∙◌, subst, arith, append-nil, length-append, All, slice_index_or}
 use Rattle.std.proofs.lemmas.List.Elements.{All-push}
+use Rattle.std.proofs.lemmas.Option.{none-some}
 use Rattle.lay_doc.specs.declared.edit.Edit.{Edit as Change}
 use Rattle.lay_doc.specs.Document.{Document}
 use Rattle.lay_history.specs.Edits.EditLists.{after_all, fault_at, first}
@@ -14,7 +15,6 @@ use Rattle.lay_history.specs.Legal.{MayFollow}
 use Rattle.lay_history.specs.Calls.{call_in, calls}
 use Rattle.lay_history.specs.Trees.{PublishedTreeValue, versions_of}
 use Rattle.lay_history.proofs.OneMore.{accepted_more, call_count_more, doc_after_more, doc_before, legal_more, published_more}
-use Rattle.lay_history.proofs.Lists.{not_none}
 use Rattle.lay_history.proofs.Versions.{all_below, entries_are, few_versions, none_greater}
 use Rattle.lay_context.specs.Solves.{Solves}
 use Rattle.lay_document_cells.specs.State.{IsOfDocument, State as DocumentCells}
@@ -204,7 +204,7 @@ pub new_keeps : (d : Document) (cells : DocumentCells) (calls room : ℕ) → ce
 new_keeps d cells calls room d_is sound few room_is = record {
   is_core = record {
     document_is = d_is;
-    legal = λ k e at. absurd (not_none e at);
+    legal = λ k e at. absurd (none-some e at);
     has_trees = refl;
     solved = λ k x lt. absurd (omega (arith, lt));
     sound = sound;

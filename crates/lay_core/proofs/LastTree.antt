@@ -1,10 +1,10 @@
 -- The tree of the last version of a whole history.
-use Rattle.std.proofs.Common.{◌≡◌, ◌⊎◌, ◌||◌, ℕ, ◌==◌, suc, List, [], ◌∷◌, find, Bool, true, false, cond, Option, Some, None, option_map, refl, sym, ap, ◌∙◌, subst, arith, inl, inr, eq-eqb, ne_eqb, rules, All}
+use Rattle.std.proofs.Common.{◌≡◌, ◌⊎◌, ◌||◌, ℕ, ◌==◌, suc, List, [], ◌∷◌, find, true, cond, Option, Some, None, option_map, sym, ap, ◌∙◌, subst, arith, inl, inr, eq-eqb, ne_eqb, rules, All}
 use Rattle.std.specs.List.{list_any}
-use Rattle.std.proofs.lemmas.Bool.{cases_eq}
+use Rattle.std.proofs.lemmas.Bool.{cases_eq, or_right}
+use Rattle.std.proofs.lemmas.Option.{same_Some, none-some}
 use Rattle.lay_history.specs.Histories.{accepted, doc_at, last_or, published}
 use Rattle.lay_history.specs.Trees.{PublishedTreeValue, tree_at, versions_of}
-use Rattle.lay_history.proofs.Lists.{not_none, some_is}
 use Rattle.lay_context.specs.Solves.{Solves}
 use Rattle.lay_core.specs.State.{IsCounted}
 use Rattle.lay_core.specs.Laws.{LastTree}
@@ -37,19 +37,15 @@ found P version (t ∷ trees) all e = elim (cases_eq t.version version) [
       })
 ]
 
-or_true : (b c : Bool) → c ≡ true → (b || c) ≡ true
-or_true true c e = refl
-or_true false c e = e
-
 last_in : (o : Option ℕ) (xs : List ℕ) (v : ℕ) → last_or o xs ≡ Some v → (o ≡ Some v) ⊎ (list_any (λ x. x == v) xs ≡ true)
 last_in o [] v e = inl e
 last_in o (x ∷ xs) v e = elim (last_in (Some x) xs v e) [
-  | inl own ↦ inr (ap (λ b. b || list_any (λ y. y == v) xs) (eq-eqb x v (some_is x v own)))
-  | inr later ↦ inr (or_true (x == v) (list_any (λ y. y == v) xs) later)
+  | inl own ↦ inr (ap (λ b. b || list_any (λ y. y == v) xs) (eq-eqb x v (same_Some x v own)))
+  | inr later ↦ inr (or_right (x == v) (list_any (λ y. y == v) xs) later)
 ]
 
 pub listed : (xs : List ℕ) (v : ℕ) → last_or None xs ≡ Some v → list_any (λ x. x == v) xs ≡ true
-listed xs v e = elim (last_in None xs v e) [ inl none ↦ absurd (not_none v none) | inr is ↦ is ]
+listed xs v e = elim (last_in None xs v e) [ inl none ↦ absurd (none-some v none) | inr is ↦ is ]
 
 pub last_tree : LastTree
 last_tree s is whole = record {

@@ -1,5 +1,6 @@
 -- What editors see of a core after a call is decided by what they saw before, but for want of memory.
 use Rattle.std.proofs.Common.{◌≡◌, ◌+◌, ℕ, Bool, true, false, List, Option, Some, refl, sym, ap, ◌∙◌, subst, rules}
+use Rattle.std.proofs.lemmas.Option.{same_Some, none-some}
 use Rattle.lay_doc.specs.Document.{IsDocument}
 use Rattle.lay_history.specs.Edits.EditLists.{after_all, first}
 use Rattle.lay_doc.specs.declared.edit.Edit.{Edit as Change}
@@ -14,7 +15,6 @@ use Rattle.lay_cell_work.specs.CellInputs.{CellInput}
 use Rattle.lay_cell_work.specs.CellValues.{CellValue}
 use Rattle.lay_cell_work.specs.CellLaws.SoundCells.{CellRow}
 use Rattle.lay_history.specs.Histories.{accepted, last_published}
-use Rattle.lay_history.proofs.Lists.{not_none, some_is}
 use Rattle.lay_context.specs.Laws.{OneSolution}
 use Rattle.lay_context.specs.Solves.{Solves}
 use Rattle.lay_document_cells.specs.Laws.{OneEdit as OneCellsEdit}
@@ -66,7 +66,7 @@ one_publishing one first s t u (Published v) no_publishing valid p q a b = absur
 one_publishing one first s t u (Unsettled k) (Published v) valid p q a b = absurd (no_dirty_key s.cells.rows k b.0 a.0)
 one_publishing one first s t u (Unsettled k) (Unsettled l) valid p q a b =
     let same : Some k ≡ Some l = first s.cells.rows (Some k) (Some l) (record { some = a.0; none = tt }) (record { some = b.0; none = tt }) in
-    (ap (λ x. Unsettled x) (some_is k l same), a.1 ∙ sym b.1)
+    (ap (λ x. Unsettled x) (same_Some k l same), a.1 ∙ sym b.1)
 one_publishing one first s t u (Unsettled k) no_publishing valid p q a b = absurd (q refl)
 one_publishing one first s t u no_publishing y valid p q a b = absurd (p refl)
 
@@ -88,12 +88,12 @@ one_edit one s t u editor index edits (Accepted v) (Accepted w) is later q r a b
       edit_by one s t u edits is later (called s (Edit editor index edits (Accepted v))) refl a.2
           (subst (λ n. EditsDocument (called s (Edit editor index edits (Accepted n))) edits u) (sym same) b.2),
     )
-one_edit one s t u editor index edits (Accepted v) (Refused place g) is later q r a b = absurd (not_none (place, g) (sym a.0 ∙ b.0))
+one_edit one s t u editor index edits (Accepted v) (Refused place g) is later q r a b = absurd (none-some (place, g) (sym a.0 ∙ b.0))
 one_edit one s t u editor index edits (Accepted v) (Shown w) is later q r a b = absurd b
 one_edit one s t u editor index edits (Accepted v) NoMemory is later q r a b = absurd (r refl)
-one_edit one s t u editor index edits (Refused place f) (Accepted w) is later q r a b = absurd (not_none (place, f) (sym b.0 ∙ a.0))
+one_edit one s t u editor index edits (Refused place f) (Accepted w) is later q r a b = absurd (none-some (place, f) (sym b.0 ∙ a.0))
 one_edit one s t u editor index edits (Refused place f) (Refused place' g) is later q r a b =
-    let same = some_is (place, f) (place', g) (sym a.0 ∙ b.0) in
+    let same = same_Some (place, f) (place', g) (sym a.0 ∙ b.0) in
     (ap (λ (x : ℕ × EditFault). Refused x.0 x.1) same, a.1 ∙ (ap (λ (x : ℕ × EditFault). called s (Edit editor index edits (Refused x.0 x.1))) same ∙ sym b.1))
 one_edit one s t u editor index edits (Refused place f) (Shown w) is later q r a b = absurd b
 one_edit one s t u editor index edits (Refused place f) NoMemory is later q r a b = absurd (r refl)
@@ -113,13 +113,13 @@ one_seen_edit s z t u editor index edits (Accepted v) (Accepted w) same q r a b 
           ∙ (ap (λ n. record (called (seen z) (Edit editor index edits (Accepted n))) { document = after_all z.document edits }) versions ∙ sym (ap seen b.2.state))),
     )
 one_seen_edit s z t u editor index edits (Accepted v) (Refused place g) same q r a b =
-    absurd (not_none (place, g) (sym a.0 ∙ (faults_same s z edits same ∙ b.0)))
+    absurd (none-some (place, g) (sym a.0 ∙ (faults_same s z edits same ∙ b.0)))
 one_seen_edit s z t u editor index edits (Accepted v) (Shown w) same q r a b = absurd b
 one_seen_edit s z t u editor index edits (Accepted v) NoMemory same q r a b = absurd (r refl)
 one_seen_edit s z t u editor index edits (Refused place f) (Accepted w) same q r a b =
-    absurd (not_none (place, f) (sym b.0 ∙ (sym (faults_same s z edits same) ∙ a.0)))
+    absurd (none-some (place, f) (sym b.0 ∙ (sym (faults_same s z edits same) ∙ a.0)))
 one_seen_edit s z t u editor index edits (Refused place f) (Refused place' g) same q r a b =
-    let faults = some_is (place, f) (place', g) (sym a.0 ∙ (faults_same s z edits same ∙ b.0)) in (
+    let faults = same_Some (place, f) (place', g) (sym a.0 ∙ (faults_same s z edits same ∙ b.0)) in (
       ap (λ (x : ℕ × EditFault). Refused x.0 x.1) faults,
       ap seen a.1 ∙ (ap (λ x. called x (Edit editor index edits (Refused place f))) same
           ∙ (ap (λ (x : ℕ × EditFault). called (seen z) (Edit editor index edits (Refused x.0 x.1))) faults ∙ sym (ap seen b.1))),
@@ -141,7 +141,7 @@ present_by one s z t u (Refused place f) y valid same q r a b = absurd a
 present_by one s z t u NoMemory y valid same q r a b = absurd (q refl)
 
 version_by : (o : Option ℕ) (q r : Reply) → ShowsVersion o q → ShowsVersion o r → q ≡ r
-version_by o (Shown v) (Shown w) a b = ap (λ n. Shown n) (some_is v w (sym a ∙ b))
+version_by o (Shown v) (Shown w) a b = ap (λ n. Shown n) (same_Some v w (sym a ∙ b))
 version_by o (Shown v) (Accepted w) a b = absurd b
 version_by o (Shown v) (Refused place f) a b = absurd b
 version_by o (Shown v) NoMemory a b = absurd b

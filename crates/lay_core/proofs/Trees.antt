@@ -1,10 +1,10 @@
 -- The trees that a core keeps, and the versions of its history.
 use Rattle.std.proofs.Common.{◌≡◌, ℕ, ◌==◌, ◌-◌, suc, List, [], ◌∷◌, length, map, find, Bool, true, false, cond, Option, Some, None, option_map, is_some, refl, sym, ap, ◌∙◌, subst, arith, ◌||◌, slice_get}
 use Rattle.std.specs.List.{list_any}
+use Rattle.std.proofs.lemmas.Option.{none-some}
 use Rattle.lay_frag.specs.Pieces.{Context}
 use Rattle.lay_history.specs.Histories.{is_published, last_or}
 use Rattle.lay_history.specs.Trees.{HasTrees, PublishedTreeValue, tree_at, versions_of}
-use Rattle.lay_history.proofs.Lists.{not_none}
 use Rattle.lay_history.specs.declared.edits.history.Entry.{Entry}
 
 found_by : (b : Bool) (t : PublishedTreeValue) (o : Option PublishedTreeValue) (others : Bool) → is_some (option_map (λ x. x.tree) o) ≡ others
@@ -28,7 +28,7 @@ there_of f o version history trees got has =
     sym (some_mapped f o) ∙ (ap is_some got ∙ (found version trees ∙ ap (list_any (λ v. v == version)) has))
 
 pub last_of_get : {X : Type 0} (f : X → ℕ) (o : Option ℕ) (xs : List X) (a : X) → slice_get xs (length xs - 1) ≡ Some a → last_or o (map f xs) ≡ Some (f a)
-last_of_get f o [] a e = absurd (not_none a e)
+last_of_get f o [] a e = absurd (none-some a e)
 last_of_get f o (x ∷ []) a e = ap (option_map f) e
 last_of_get f o (x ∷ y ∷ xs) a e =
     let n : length (x ∷ y ∷ xs) - 1 ≡ suc (length (y ∷ xs) - 1) = omega arith in

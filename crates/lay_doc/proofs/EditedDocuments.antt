@@ -1,7 +1,7 @@
 -- An edit without a fault leaves a document.
 use Rattle.std.proofs.Common.{◌≡◌, ℕ, zero, suc, ◌+◌, ◌<◌, ◌≤◌, Bool, true, false, not, ◌||◌, ◌==◌, List, [], ◌∷◌, length, get_or, refl, sym, arith, subst, Option, None, Some, if◌then◌else◌, nat_lt, nat_le, is_some}
 use Rattle.std.specs.List.{remove_range}
-use Rattle.std.proofs.lemmas.Bool.{leb-false, ltb-false}
+use Rattle.std.proofs.lemmas.Bool.{leb-false, ltb-false, not-false}
 use Rattle.std.proofs.lemmas.List.Sums.{sum_by-cons}
 use Rattle.lay_units.specs.Limits.{longest_text, most_depth, most_nodes, most_text}
 use Rattle.lay_style.specs.Places.{place_of}
@@ -58,10 +58,6 @@ right : (a b : Bool) → (a || b) ≡ false → b ≡ false
 right true b h = absurd cc
 right false b h = h
 
-yes : (b : Bool) → not b ≡ false → b ≡ true
-yes true h = refl
-yes false h = absurd cc
-
 none_there : (o : Option ℕ) → is_some o ≡ false → o ≡ None
 none_there None h = refl
 none_there (Some k) h = absurd cc
@@ -80,7 +76,7 @@ inserted_at d p index new is has form none =
     put_document d is (slot_of parents p index) (becomes new p (get_or (depths_of d.nodes) p 0 + 1)) (record {
       has_parent = has;
       slot = subst (λ (i : ℕ). IsSlot parents p i (slot_of parents p index)) (sym slot.index_is) slot;
-      of_element = yes (is_element_at d.nodes p) a.no;
+      of_element = not-false (is_element_at d.nodes p) a.no;
       fresh = none_there (place_of new.id.0 (ids_of d.nodes)) (right (new.id.0 == 0) (is_some (place_of new.id.0 (ids_of d.nodes))) b.no);
       has_name = named new.id.0 (left (new.id.0 == 0) (is_some (place_of new.id.0 (ids_of d.nodes))) b.no);
       room = leb-false most_nodes (length d.nodes) e.no;

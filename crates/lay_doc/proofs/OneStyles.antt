@@ -1,22 +1,13 @@
 -- Two lists of computed styles of one document are equal: each style rests on its parent's.
-use Rattle.std.proofs.Common.{◌≡◌, ℕ, zero, suc, ◌<◌, ◌≤◌, List, [], ◌∷◌, length, get_or, refl, sym, ap, ◌∙◌, arith, inl, inr}
+use Rattle.std.proofs.Common.{◌≡◌, ℕ, zero, suc, ◌<◌, ◌≤◌, List, length, refl, sym, ap, ◌∙◌, arith, inl, inr}
 use Rattle.std.proofs.lemmas.Bool.{cases_lt}
+use Rattle.std.proofs.lemmas.List.{ext_get_or}
 use Rattle.lay_style.specs.declared.style.Style.{Style}
 use Rattle.lay_style.specs.Values.{Declaration}
 use Rattle.lay_style.specs.InitialStyle.{initial_style}
 use Rattle.lay_style.specs.ComputedStyle.{HasStyles, style_at, parent_style, computed_style, declarations_at}
 use Rattle.lay_doc.specs.Tree.{IsTree}
 use Rattle.lay_doc.specs.Laws.{OneStyleColumn}
-
--- lists that agree at each place are equal
-pub same_list : {X : Type 0} (d : X) (xs ys : List X) → length xs ≡ length ys → ((k : ℕ) → k < length xs → get_or xs k d ≡ get_or ys k d) → xs ≡ ys
-same_list d [] [] e same = refl
-same_list d [] (y ∷ ys) e same = absurd (omega arith)
-same_list d (x ∷ xs) [] e same = absurd (omega arith)
-same_list d (x ∷ xs) (y ∷ ys) e same =
-    let head : x ≡ y = same 0 (omega arith) in
-    let tail : xs ≡ ys = same_list d xs ys (omega arith) (λ k lt. same (suc k) (omega arith)) in
-    rw (head, tail) refl
 
 parent_same : (parents : List ℕ) (ss ts : List Style) → IsTree parents → (k : ℕ) → k < length parents → ((j : ℕ) → j < k → style_at ss j ≡ style_at ts j) → parent_style parents ss k ≡ parent_style parents ts k
 parent_same parents ss ts tree zero within same = refl
@@ -30,4 +21,4 @@ styles_to parents decls ss ts tree a b (suc n) le k lt = elim (cases_lt k n) [
 ]
 
 pub one_style_column_lem : OneStyleColumn
-one_style_column_lem parents decls ss ts tree a b = same_list initial_style ss ts (a.length_is ∙ sym b.length_is) (λ k lt. styles_to parents decls ss ts tree a b (length parents) (omega arith) k (omega (arith, a.length_is)))
+one_style_column_lem parents decls ss ts tree a b = ext_get_or initial_style ss ts (a.length_is ∙ sym b.length_is) (λ k lt. styles_to parents decls ss ts tree a b (length parents) (omega arith) k (omega (arith, a.length_is)))

@@ -1,7 +1,7 @@
 -- How many contexts a tree lists: of the formatting contexts of each context the first one.
 use Rattle.std.proofs.Common.{◌≡◌, ◌⊎◌, inl, inr, ⊎_elim, ℕ, zero, suc, ◌+◌, ◌-◌, ◌≤◌, ◌<◌, Bool, cond, true, false, List, [], ◌∷◌, ◌++◌, length, refl, rules, arith, ap, sym, subst, ◌∙◌, length-append}
 use Rattle.std.specs.Prelude.{nat_lt}
-use Rattle.std.proofs.lemmas.Bool.{false≢true, lt-ltb}
+use Rattle.std.proofs.lemmas.Bool.{false≢true, lt-ltb, cases_Bool}
 use Rattle.lay_frag.specs.Pieces.{Context as PageContext}
 use Rattle.lay_placements.specs.declared.corner.Corner.{Corner}
 use Rattle.lay_box_tree.specs.declared.box_tree.BoxNode.{BoxNode}
@@ -25,10 +25,6 @@ sum_one (suc k) = refl
 some_from : (k : ℕ) → 0 < k → one_from k ≡ 1
 some_from zero lt = absurd (omega (arith, lt))
 some_from (suc k) lt = refl
-
-bool_cases : (b : Bool) → (b ≡ true) ⊎ (b ≡ false)
-bool_cases true = inl refl
-bool_cases false = inr refl
 
 module _ (contexts : List Context) (all : List FormattingContext) (are : AreFormattingContextsOf contexts all) (w : Workings) (corners : List Corner) where
   one_more : (n : ℕ) (b : Bool) → (formatting_context_at all n).anonymous ≡ b
@@ -63,7 +59,7 @@ module _ (contexts : List Context) (all : List FormattingContext) (are : AreForm
         let none : number_of contexts i 0 ≡ first_number contexts i = omega arith in
         let e = ap (λ n. length (page_contexts all w corners n)) none in
         omega (arith, e)
-    before (suc k) le = by (before k (omega (arith, le))) (bool_cases (is_root (boxes_in contexts i) k))
+    before (suc k) le = by (before k (omega (arith, le))) (cases_Bool (is_root (boxes_in contexts i) k))
       where
         by : length (page_contexts all w corners (number_of contexts i k)) ≡ length (page_contexts all w corners (first_number contexts i)) + one_from k
             → (is_root (boxes_in contexts i) k ≡ true) ⊎ (is_root (boxes_in contexts i) k ≡ false)

@@ -1,7 +1,7 @@
 -- As many elements as are told apart by their numbers are in a list.
 use Rattle.std.proofs.Common.{◌≡◌, ℕ, zero, suc, ◌≤◌, ◌<◌, List, [], ◌∷◌, Some, length, slice_get, refl, rules, arith, ap, sym, subst, ◌∙◌}
+use Rattle.std.proofs.lemmas.Option.{same_Some}
 use Rattle.lay_cells.specs.Shapes.{IsIn}
-use Rattle.lay_cells.proofs.Lists.{some_inj}
 
 -- all but the element at a place
 abbrev without : {X : Type 0} → List X → ℕ → List X
@@ -36,6 +36,6 @@ pigeonhole {X} Q apart (suc m) xs has =
       where
         differ : h.1.0 ≡ last.1.0 → ⊥
         differ e =
-            let same : h.0 ≡ last.0 = some_inj h.0 last.0 (sym h.1.1 ∙ ap (slice_get xs) e ∙ last.1.1) in
+            let same : h.0 ≡ last.0 = same_Some h.0 last.0 (sym h.1.1 ∙ ap (slice_get xs) e ∙ last.1.1) in
             let number : i ≡ m = apart i m last.0 (subst (Q i) same h.2) last.2 in
             omega (arith, number, lt)

@@ -1,5 +1,6 @@
 -- A claim of a cell for the input of its kept pair, which is what it is given now.
 use Rattle.std.proofs.Common.{◌≡◌, ◌+◌, ℕ, List, Option, Some, option_map, refl, arith, ap, sym, subst, ◌∙◌}
+use Rattle.std.proofs.lemmas.Option.{same_Some}
 use Rattle.lay_doc.specs.Document.{Document}
 use Rattle.lay_face.specs.FaceValue.{FaceValue}
 use Rattle.lay_cells.specs.Looks.{Looks}
@@ -10,7 +11,7 @@ use Rattle.lay_cells.specs.Sound.{IsSound}
 use Rattle.lay_cells.specs.Steps.{ClaimsIn}
 use Rattle.lay_cells.specs.declared.answers.Claimed.TheVariants.{Reused}
 use Rattle.lay_cells.specs.declared.answers.Look.TheVariants as look
-use Rattle.lay_cells.proofs.Lists.{one_at, some_inj}
+use Rattle.lay_cells.proofs.Lists.{one_at}
 use Rattle.lay_cells.proofs.OneAnswer.{one_row}
 use Rattle.lay_shape.specs.declared.cell_key.CellKey.{CellKey}
 use Rattle.lay_cell_work.specs.CellInputs.{CellInput}
@@ -38,7 +39,7 @@ module _ (d : Document) (face : FaceValue) (cells : CellState) (laid : ℕ) (s :
   -- the input of the claim is that of the kept pair
   same : here.2.keeps.input ≡ h.2.input
   same =
-      some_inj here.2.keeps.input h.2.input
+      same_Some here.2.keeps.input h.2.input
       (sym here.2.keeps.kept ∙ ap (λ (z : CellRow). option_map (λ (x : Solved CellKey CellInput CellValue). x.input) z.kept) (sym row) ∙ h.2.claims.4.1)
 
   pub reused_given : AtPlace s.cells.rows place (λ r. IsGivenNow s r.key h.2.input)

@@ -1,13 +1,13 @@
 -- A walk over the cells, cell by cell.
-use Rattle.std.proofs.Common.{◌≡◌, ◌⊎◌, inl, inr, ⊎_elim, ℕ, ◌+◌, ◌≤◌, ◌<◌, ◌^◌, zero, suc, List, map, length, slice_get, Option, None, Some, Bool, true, false, refl, arith, rules, ap, sym, subst, ◌∙◌}
-use Rattle.std.proofs.lemmas.Bool.{cases_lt, false≢true}
-use Rattle.std.proofs.lemmas.Option.{slice_get_within}
+use Rattle.std.proofs.Common.{◌≡◌, ◌⊎◌, inl, inr, ⊎_elim, ℕ, ◌+◌, ◌≤◌, ◌<◌, ◌^◌, zero, suc, List, map, length, slice_get, Option, None, Some, true, false, refl, arith, ap, sym, subst, ◌∙◌}
+use Rattle.std.proofs.lemmas.Bool.{cases_lt, false≢true, cases_Bool}
+use Rattle.std.proofs.lemmas.Option.{slice_get_within, same_Some, none-some}
 use Rattle.lay_cells.specs.Looks.{AreClean}
 use Rattle.lay_cells.specs.Places.{AreCleanFrom, IsClaimed, IsFirstDirtyFrom}
 use Rattle.lay_cells.specs.Reads.{AllClean, IsFirstDirtyKey}
 use Rattle.lay_cells.specs.Rows.{entry_of}
 use Rattle.lay_cells.specs.Shapes.{IsShape}
-use Rattle.lay_cells.proofs.Lists.{map_at, map_got, one_at, some_inj}
+use Rattle.lay_cells.proofs.Lists.{map_at, map_got, one_at}
 use Rattle.lay_shape.specs.declared.cell_key.CellKey.{CellKey}
 use Rattle.lay_cell_work.specs.Claims.{Claim}
 use Rattle.lay_cell_work.specs.CellLaws.SoundCells.{CellRow}
@@ -20,13 +20,6 @@ use Rattle.lay_document_cells.specs.declared.walking.Passed.TheVariants as passe
 use Rattle.lay_document_cells.specs.declared.answers.Next.TheVariants as next
 use Rattle.lay_document_cells.proofs.Passing.{clean_still}
 use Rattle.lay_document_cells.proofs.SettledPlaces.{clean_to_first, first_within, length_mapped}
-
-dirty_or_clean : (b : Bool) → (b ≡ true) ⊎ (b ≡ false)
-dirty_or_clean true = inl refl
-dirty_or_clean false = inr refl
-
-none_some : {X : Type 0} (x : X) → None ≡ Some x → ⊥
-none_some x e = grind (rules, e)
 
 pub passes_on : (s m t : State) → Passes s m → Passes m t → Passes s t
 passes_on s m t a none = a
@@ -41,7 +34,7 @@ pub walked_clean : (rows : List CellRow) (place : ℕ) → place ≤ length rows
 walked_clean rows place within clean = record {
   within = within;
   each = λ j r lt at ready. absurd (false≢true (sym (clean j r lt at) ∙ ready.0));
-  one = λ number e. absurd (none_some number e);
+  one = λ number e. absurd (none-some number e);
 }
 
 -- so a walk begins at the first dirty cell
@@ -132,7 +125,7 @@ module _ (s t : State) (shape : IsShape (map entry_of s.cells.rows)) (place : �
             (λ high. at_here r (ap (slice_get t.cells.rows) (let e : place ≡ j = omega (arith, l, high) in e) ∙ at))
             (cases_lt j place);
         one = λ n e.
-            let is : lesser.value ≡ n = some_inj lesser.value n (sym lesser.is ∙ e) in
+            let is : lesser.value ≡ n = same_Some lesser.value n (sym lesser.is ∙ e) in
             subst (HasClaimBefore t.cells.rows (place + 1)) is
             (⊎_elim
             (λ same. subst (HasClaimBefore t.cells.rows (place + 1)) (sym same) one_here)
@@ -169,7 +162,7 @@ module _ (rows : List CellRow) (shape : IsShape (map entry_of rows)) (place : �
         → (r.dirty ≡ true) ⊎ (r.dirty ≡ false) → r.dirty ≡ false
     clean_here n lt before j r e at (inl dirty) =
         let h = w.each j r (omega (arith, lt, e)) at (dirty, needs_clean n before j r e at) in
-        absurd (none_some h.from h.from_is)
+        absurd (none-some h.from h.from_is)
     clean_here n lt before j r e at (inr clean) = clean
 
     clean_up : (n : ℕ) → n ≤ place → AreCleanBefore rows n
@@ -177,7 +170,7 @@ module _ (rows : List CellRow) (shape : IsShape (map entry_of rows)) (place : �
     clean_up (suc n) le j r lt at =
         ⊎_elim
         (λ low. clean_up n (omega (arith, le)) j r low at)
-        (λ high. clean_here n (omega (arith, le)) (clean_up n (omega (arith, le))) j r (omega (arith, lt, high)) at (dirty_or_clean r.dirty))
+        (λ high. clean_here n (omega (arith, le)) (clean_up n (omega (arith, le))) j r (omega (arith, lt, high)) at (cases_Bool r.dirty))
         (cases_lt j n)
 
     pub walked_all : AllClean rows
@@ -189,8 +182,8 @@ module _ (rows : List CellRow) (shape : IsShape (map entry_of rows)) (place : �
     one = let h = w.one number refl in (h.row, (h.at, h.there), h.ready, h.claimed);
     least = λ r n there ready claimed.
         let h = claim_of r there ready in
-        let same : h.number ≡ n = some_inj h.number n (sym h.claimed.0 ∙ claimed.0) in
-        let from : number ≡ h.from = some_inj number h.from h.from_is in
+        let same : h.number ≡ n = same_Some h.number n (sym h.claimed.0 ∙ claimed.0) in
+        let from : number ≡ h.from = same_Some number h.from h.from_is in
         let le = h.le in
         omega (arith, same, from, le);
   }

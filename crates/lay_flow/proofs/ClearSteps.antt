@@ -1,6 +1,7 @@
 -- What is known once it is decided whether a box has clearance.
-use Rattle.std.proofs.Common.{◌≡◌, ◌⊎◌, ℕ, ◌+◌, ◌<◌, ◌≤◌, not, nat_lt, Bool, true, false, ℤ, ◌-ℤ◌, List, [], length, refl, sym, ap, ◌∙◌, arith, inl, inr, Option, Some, None, subst}
+use Rattle.std.proofs.Common.{◌≡◌, ◌⊎◌, ℕ, ◌+◌, ◌<◌, ◌≤◌, not, nat_lt, Bool, true, false, ℤ, ◌-ℤ◌, List, [], length, refl, sym, ap, ◌∙◌, arith, inl, inr, Option, None, subst}
 use Rattle.std.proofs.lemmas.Bool.{cases_lt, cases_eq}
+use Rattle.std.proofs.lemmas.Option.{none-some}
 use Rattle.lay_flow.specs.declared.blocks.flow_box.FlowBox.{FlowBox}
 use Rattle.lay_flow.specs.Blocks.Boxes.{box_at, parent_at, parents_of}
 use Rattle.lay_units.specs.declared.length.Unit.{Unit as Length}
@@ -43,9 +44,6 @@ use Rattle.lay_flow.proofs.BlocksLemmas.BlockKinds.{placed_none}
 use Rattle.lay_flow.proofs.BlocksLemmas.FlowBoxFacts.{in_lines_unclear}
 use Rattle.lay_flow.proofs.BlocksLemmas.PlacedInRuns.{placed_in_run}
 use Rattle.lay_flow.specs.Blocks.MarginPlace.{margin_place}
-
-no_some : {A : Type 0} (v : A) → None ≡ Some v → ⊥
-no_some v e = grind (arith, e)
 
 module _ (boxes : List FlowBox) (tree : IsTree (parents_of boxes)) (are_tree : IsFlowTree boxes) (now : PassState) (placing : Placing) (k : ℕ) (positive : 0 < k) (within : k < length boxes)
     (was : Knows boxes now placing (margin_place (parent_at boxes k) k)) where
@@ -171,7 +169,7 @@ module _ (boxes : List FlowBox) (tree : IsTree (parents_of boxes)) (are_tree : I
         is_hypothetical = there.1;
         bottom = None;
         is_bottom = subst (λ (c : Clear). IsClearEdge (floats_before boxes places k) c None) (sym clear) (λ i f at_i c. c);
-        decides = (λ t. absurd (true_false (flag_at y.runs.clears k) t unclear), λ o. absurd (elim o [ inl w ↦ subst (λ (c : Clear). Clears c w.1) clear w.4 | inr above ↦ no_some above.0 above.1 ]));
+        decides = (λ t. absurd (true_false (flag_at y.runs.clears k) t unclear), λ o. absurd (elim o [ inl w ↦ subst (λ (c : Clear). Clears c w.1) clear w.4 | inr above ↦ none-some above.0 above.1 ]));
         edge = λ t. absurd (true_false (flag_at y.runs.clears k) t unclear);
       })
 
@@ -297,7 +295,7 @@ module _ (boxes : List FlowBox) (tree : IsTree (parents_of boxes)) (are_tree : I
         edges_length = wrote_edge.length_is ∙ was.are_clears.edges_length;
         later = λ j le. wrote_flag.other j (λ e. omega (arith, e, le)) ∙ was.are_clears.later j (omega (arith, le));
         root = wrote_flag.other 0 (λ e. omega (arith, e, positive)) ∙ was.are_clears.root;
-        float = λ j side is. wrote_flag.other j (λ e. no_some side (sym (ap (λ (j : ℕ). (shape_at boxes j).float) e ∙ flows) ∙ is)) ∙ was.are_clears.float j side is;
+        float = λ j side is. wrote_flag.other j (λ e. none-some side (sym (ap (λ (j : ℕ). (shape_at boxes j).float) e ∙ flows) ∙ is)) ∙ was.are_clears.float j side is;
         no_edge = λ j off. elim (cases_eq j k) [
           | inl e ↦ absurd (true_false (flag_at flags k) wrote_flag.here (sym (ap (flag_at flags) e) ∙ off))
           | inr ne ↦ wrote_edge.other j ne ∙ was.are_clears.no_edge j (sym (wrote_flag.other j ne) ∙ off)

@@ -1,7 +1,7 @@
 -- The columns of the code beside the spots that they are of.
 use Rattle.std.proofs.Common.{◌≡◌, suc, ℕ, ◌+◌, false, ◌<◌, ◌≤◌, ℤ, List, [], ◌∷◌, ◌++◌, length, map, true, arith, refl, sym, ap, ◌∙◌, subst}
-use Rattle.std.proofs.lemmas.Grind.{elements}
 use Rattle.std.proofs.lemmas.Int.{ints}
+use Rattle.std.proofs.lemmas.List.{length_push, map_push}
 use Rattle.lay_doc.specs.Tree.{IsTree}
 use Rattle.lay_units.specs.declared.length.Unit.{Unit as Length}
 use Rattle.lay_flow.specs.declared.blocks.flow_box.FlowBox.{FlowBox}
@@ -30,16 +30,9 @@ pub map_length : {A B : Type 0} (f : A → B) (xs : List A) → length (map f xs
 map_length f [] = refl
 map_length f (x ∷ xs) = ap suc (map_length f xs)
 
-one_longer : {A : Type 0} (xs : List A) (x : A) → length (xs ++ x ∷ []) ≡ length xs + 1
-one_longer xs x = grind (arith, elements)
-
 -- one more entry
 pub counted : {A : Type 0} (old new : List A) (x : A) (k : ℕ) → length old ≡ k → new ≡ old ++ x ∷ [] → length new ≡ k + 1
-counted old new x k e pushed = ap length pushed ∙ one_longer old x ∙ ap (λ (n : ℕ). n + 1) e
-
-pub map_push : {A B : Type 0} (f : A → B) (xs : List A) (x : A) → map f (xs ++ x ∷ []) ≡ map f xs ++ f x ∷ []
-map_push f [] x = refl
-map_push f (y ∷ xs) x = ap (λ (ys : List _). f y ∷ ys) (map_push f xs x)
+counted old new x k e pushed = ap length pushed ∙ length_push old x ∙ ap (λ (n : ℕ). n + 1) e
 
 pub places_count : (now : PlacingState) (places : List Spot) → AreSpots now places → length places ≡ length now.places.items
 places_count now places are = sym (map_length (λ (p : Spot). p.place) places) ∙ ap length are.places_are

@@ -1,6 +1,6 @@
 -- The boxes of one context are as block flow takes them.
 use Rattle.std.proofs.Common.{◌≡◌, ℕ, zero, suc, ◌<◌, ◌≤◌, ◌==◌, ◌&&◌, ◌||◌, not, nat_lt, pos, Bool, true, false, List, length, slice_index, refl, sym, ap, ◌∙◌, arith, subst, inl, inr, Option, Some, None, if◌then◌else◌}
-use Rattle.std.proofs.lemmas.Bool.{cases_lt, eq-eqb}
+use Rattle.std.proofs.lemmas.Bool.{cases_lt, eq-eqb, not-true, and_right}
 use Rattle.std.proofs.lemmas.Bool.Decides.{nat_tests}
 use Rattle.std.proofs.lemmas.Int.{ints}
 use Rattle.lay_units.specs.Units.{IsUsedSize, IsBoxSize}
@@ -63,10 +63,6 @@ or_first false b h = refl
 pub or_second : (a b : Bool) → (a || b) ≡ false → b ≡ false
 or_second true b h = absurd cc
 or_second false b h = h
-
-pub not_true : (b : Bool) → not b ≡ true → b ≡ false
-not_true true h = absurd cc
-not_true false h = refl
 
 -- a height that is given is a used size
 given_fits : (height : Len) → IsUsedSizeOrAuto height → IsUsedSize (given_or_auto height (pos 0))
@@ -185,7 +181,7 @@ same_eq k = eq-eqb k k refl
 pub in_line_container : (boxes : List BoxNode) (k : ℕ) → 0 < k → k < length boxes → is_inline_container boxes (container_of boxes k) ≡ true → is_of block_level boxes k ≡ false
 in_line_container boxes k positive within is =
     let c : ℕ = container_of boxes k in
-    let none = not_true (holds block_level boxes c (length boxes)) (and_second (is_block_box (role_at boxes c) && _) (not (holds block_level boxes c (length boxes))) is) in
+    let none = not-true (holds block_level boxes c (length boxes)) (and_second (is_block_box (role_at boxes c) && _) (not (holds block_level boxes c (length boxes))) is) in
     beside_by (nat_lt 0 k) (c == c) (is_of block_level boxes k) (not_held boxes c (length boxes) k none within) (positive_lt k positive) (same_eq c)
 
 not_block : (r : Role) → is_beside_lines r ≡ false → is_block_box r ≡ false
@@ -250,10 +246,6 @@ block_alone true inline b child holds out = rw out refl
 block_alone false true b child holds out = rw out refl
 block_alone false false b child holds out = holds child out
 
-and_none : (a b : Bool) → b ≡ false → (a && b) ≡ false
-and_none true b e = e
-and_none false b e = refl
-
 own_by : (a b : Bool) → a ≡ true → b ≡ false → (a && not b) ≡ false → ⊥
 own_by true true e f none = absurd cc
 own_by true false e f none = cc
@@ -261,7 +253,7 @@ own_by false b e f none = absurd cc
 
 lines_around : (m : BoxMeasuresValue) (lefts : List Length) (c : ℕ) (held : Bool) → 0 < c → c < length m.boxes → counts m.boxes c ≡ true → is_inner m.boxes c ≡ false
     → holds_lines m lefts (container_of m.boxes c) ≡ held → is_in_lines m lefts c ≡ false
-lines_around m lefts c false positive within counted outer is = and_none (nat_lt 0 c) (holds_lines m lefts (container_of m.boxes c)) is
+lines_around m lefts c false positive within counted outer is = and_right (nat_lt 0 c) (holds_lines m lefts (container_of m.boxes c)) is
 lines_around m lefts c true positive within counted outer is =
     let inline = and_first (is_inline_container m.boxes (container_of m.boxes c)) _ is in
     let of = in_line_container m.boxes c positive within inline in
@@ -281,7 +273,7 @@ holds_by m own_height lefts k false are positive within is =
     let nearest = containers_are_nearest_lem m.boxes k are within in
     let outer = container_own m.boxes are k c within nearest in
     let out = container_out m lefts c (container_within m.boxes k are within) (container_counts m.boxes k c nearest) outer in
-    let child = out_of_lines m own_height lefts k (holds_lines m lefts k) (and_none (nat_lt 0 k) (holds_lines m lefts c) is) in
+    let child = out_of_lines m own_height lefts k (holds_lines m lefts k) (and_right (nat_lt 0 k) (holds_lines m lefts c) is) in
     rw (is, out, outer)
     (block_alone (is_anchor (role_at m.boxes c)) (is_inline_level (role_at m.boxes c)) (block (own_block m.boxes m.sizes own_height lefts c)) (flow_box_of m own_height lefts k).kind (λ x e. rw e refl) child)
 

@@ -1,7 +1,7 @@
 -- A block box has an inline-level child where it holds inline-level boxes alone.
 use Rattle.std.proofs.Common.{◌≡◌, ℕ, zero, suc, ◌+◌, ◌<◌, ◌≤◌, ◌==◌, ◌&&◌, ◌||◌, not, nat_lt, Bool, true, false, List, [], ◌∷◌, ◌++◌, length, drop, refl, sym, ap, subst, ◌∙◌, arith, inl, inr, if◌then◌else◌}
 use Rattle.std.specs.List.{list_any}
-use Rattle.std.proofs.lemmas.Bool.{cases_eq, cases_lt, eq-eqb, eqb-true, ltb-true}
+use Rattle.std.proofs.lemmas.Bool.{cases_eq, cases_lt, eq-eqb, eqb-true, ltb-true, or_right, or_left}
 use Rattle.lay_box_tree.specs.Containers.{IsContainer, box_parent, counts, further as at_further, parent as at_parent}
 use Rattle.lay_box_tree.specs.Roles.{is_inline_level, role_at, role_of}
 use Rattle.lay_box_tree.specs.declared.box_role.Role.{Role}
@@ -54,14 +54,6 @@ any_append (x ∷ xs) ys = by (is_inline_child x) (any_append xs ys)
         → (b || list_any is_inline_child (xs ++ ys)) ≡ ((b || list_any is_inline_child xs) || list_any is_inline_child ys)
     by true e = refl
     by false e = e
-
-or_true : (a b : Bool) → b ≡ true → (a || b) ≡ true
-or_true true b e = refl
-or_true false b e = e
-
-or_left : (a b : Bool) → a ≡ true → (a || b) ≡ true
-or_left true b e = refl
-or_left false b e = absurd cc
 
 both_ways : (a b : Bool) → (a ≡ true → b ≡ true) → (b ≡ true → a ≡ true) → a ≡ b
 both_ways true true f g = refl
@@ -119,7 +111,7 @@ module _ (m : MeasureInValue) (are : AreContextBoxes m.boxes) (c : ℕ) where
 
       further : (x : Bool) → holds_lines (children m c (i + 1) bs) ≡ true
           → holds_lines (if x then as_child m i b (children m i (i + 1) bs) ++ children m c (i + 1) bs else children m c (i + 1) bs) ≡ true
-      further true h = any_append (as_child m i b (children m i (i + 1) bs)) (children m c (i + 1) bs) ∙ or_true (list_any is_inline_child (as_child m i b (children m i (i + 1) bs))) _ h
+      further true h = any_append (as_child m i b (children m i (i + 1) bs)) (children m c (i + 1) bs) ∙ or_right (list_any is_inline_child (as_child m i b (children m i (i + 1) bs))) _ h
       further false h = h
 
 -- One container.
@@ -138,7 +130,7 @@ module _ (boxes : List BoxNode) (are : AreContextBoxes boxes) (c : ℕ) where
   held k zero lt s = absurd (omega (arith, lt))
   held k (suc n) lt s = elim (cases_lt k n) [
     | inl low ↦ or_left (holds inline_level boxes c n) (stands_in inline_level boxes c n) (held k n low s)
-    | inr high ↦ (let q : k ≡ n = omega (arith, lt, high) in or_true (holds inline_level boxes c n) (stands_in inline_level boxes c n) (rw (sym q) s))
+    | inr high ↦ (let q : k ≡ n = omega (arith, lt, high) in or_right (holds inline_level boxes c n) (stands_in inline_level boxes c n) (rw (sym q) s))
   ]
 
   -- and the other way round

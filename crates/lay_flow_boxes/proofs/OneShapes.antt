@@ -1,9 +1,9 @@
 -- The boxes of a formatting context are one thing to its block flow, column by column.
 use Rattle.std.proofs.Common.{◌≡◌, ℕ, zero, suc, ◌<◌, ◌≤◌, ℤ, ◌+ℤ◌, List, length, refl, sym, ap, ◌∙◌, arith, inl, inr}
 use Rattle.std.proofs.lemmas.Bool.{cases_lt}
+use Rattle.std.proofs.lemmas.List.{ext_get_or}
 use Rattle.lay_units.specs.declared.length.Unit.{Unit as Length}
 use Rattle.lay_units.specs.Lengths.{no_length}
-use Rattle.lay_doc.proofs.OneStyles.{same_list}
 use Rattle.lay_box_tree.specs.declared.box_tree.BoxNode.{BoxNode}
 use Rattle.lay_box_tree.specs.declared.inline_part.InlinePart.{InlinePart}
 use Rattle.lay_box_tree.specs.InlineParts.{AreInlineParts, no_part}
@@ -40,15 +40,15 @@ lefts_to boxes sizes inner ls ms are a b (suc n) le k lt = elim (cases_lt k n) [
 
 one_left_column : (boxes : List BoxNode) (sizes : List BoxSizes) (inner : List OwnBox) (ls ms : List Length) → AreContextBoxes boxes → HasLefts boxes sizes inner ls → HasLefts boxes sizes inner ms → ls ≡ ms
 one_left_column boxes sizes inner ls ms are a b =
-    same_list no_length ls ms (a.count ∙ sym b.count) (λ k lt. ap (λ (v : ℤ). let l : Length = record { 0 = v } in l) (lefts_to boxes sizes inner ls ms are a b (length boxes) (omega arith) k (omega (arith, a.count))))
+    ext_get_or no_length ls ms (a.count ∙ sym b.count) (λ k lt. ap (λ (v : ℤ). let l : Length = record { 0 = v } in l) (lefts_to boxes sizes inner ls ms are a b (length boxes) (omega arith) k (omega (arith, a.count))))
 
 one_part_list : (boxes : List BoxNode) (x y : List InlinePart) → AreInlineParts boxes x → AreInlineParts boxes y → x ≡ y
 one_part_list boxes x y a b =
-    same_list no_part x y (a.count ∙ sym b.count) (λ k lt. (let within : k < length boxes = omega (arith, a.count) in a.each k within ∙ sym (b.each k within)))
+    ext_get_or no_part x y (a.count ∙ sym b.count) (λ k lt. (let within : k < length boxes = omega (arith, a.count) in a.each k within ∙ sym (b.each k within)))
 
 one_box_list : (m : BoxMeasuresValue) (own_height : HeightRule) (lefts : List Length) (bs cs : List FlowBox) → AreFlowBoxesOf m own_height lefts bs → AreFlowBoxesOf m own_height lefts cs → bs ≡ cs
 one_box_list m own_height lefts bs cs a b =
-    same_list no_box bs cs (a.count ∙ sym b.count) (λ k lt. (let within : k < length m.boxes = omega (arith, a.count) in a.each k within ∙ sym (b.each k within)))
+    ext_get_or no_box bs cs (a.count ∙ sym b.count) (λ k lt. (let within : k < length m.boxes = omega (arith, a.count) in a.each k within ∙ sym (b.each k within)))
 
 pub one_flow_shape_lem : OneFlowShape
 one_flow_shape_lem i s t are a b =

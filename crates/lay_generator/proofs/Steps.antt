@@ -4,6 +4,7 @@ use Rattle.std.specs.List.{filter, range_with_len}
 use Rattle.std.proofs.lemmas.Grind.{common_steps}
 use Rattle.std.proofs.lemmas.Option.{slice_get-get_or}
 use Rattle.std.proofs.lemmas.List.Sums.{sum_by-append}
+use Rattle.std.proofs.lemmas.List.{length-append}
 use Rattle.lay_run.specs.Scripts.{command_count, read_count, reads_of}
 use Rattle.lay_doc.specs.declared.node.NodeId.{NodeId}
 use Rattle.lay_doc.specs.NewNodes.{NewNodeValue}
@@ -104,17 +105,13 @@ edits_step editor k n state edits some =
     ap (λ (es : List Edit). edits ++ es) (ap (λ (xs : List ℕ). paddings xs state) (rest_step editor k n some) ∙ paddings_more one rest state)
     ∙ sym (append_assoc edits (paddings one state) (paddings rest (state_after (length one) state)))
 
-length_more : {A : Type 0} (xs ys : List A) → length (xs ++ ys) ≡ length xs + length ys
-length_more [] ys = let e : 0 + length ys ≡ length ys = omega arith in sym e
-length_more (x ∷ xs) ys = let e : suc (length xs) + length ys ≡ suc (length xs + length ys) = omega arith in rw e (ap suc (length_more xs ys))
-
 pub state_after_step : (editor k n state : ℕ) → 0 < n
     → state_after (length (filter (is_of editor) (range_with_len k n))) state
     ≡ state_after (length (filter (is_of editor) (range_with_len (k + 1) (n - 1)))) (state_after (length (filter (is_of editor) (k ∷ []))) state)
 state_after_step editor k n state some =
     let one = filter (is_of editor) (k ∷ []) in
     let rest = filter (is_of editor) (range_with_len (k + 1) (n - 1)) in
-    ap (λ (m : ℕ). state_after m state) (ap length (rest_step editor k n some) ∙ length_more one rest) ∙ states_more (length one) (length rest) state
+    ap (λ (m : ℕ). state_after m state) (ap length (rest_step editor k n some) ∙ length-append one rest) ∙ states_more (length one) (length rest) state
 
 pub few_more : (editor k state : ℕ) (edits : List Edit) → length edits ≤ k → length (edits ++ paddings (filter (is_of editor) (k ∷ [])) state) ≤ k + 1
 few_more editor k state edits few = by_bool (is_of editor k)
@@ -141,12 +138,12 @@ pub commands_counted : (ss : List (List Cmd)) (s : List Cmd) → command_count s
 commands_counted ss s few short =
     let sum : command_count (ss ++ s ∷ []) ≡ command_count ss + command_count (s ∷ []) = sum_by-append length ss (s ∷ []) in
     let one : command_count (s ∷ []) ≡ length s = omega arith in
-    let len : length (ss ++ s ∷ []) ≡ length ss + 1 = length_more ss (s ∷ []) in
+    let len : length (ss ++ s ∷ []) ≡ length ss + 1 = length-append ss (s ∷ []) in
     rw (sum, one, len) (omega (arith, few, short))
 
 pub reads_counted : (ss : List (List Cmd)) (s : List Cmd) → read_count ss ≤ length ss → reads_of s ≡ 1 → read_count (ss ++ s ∷ []) ≤ length (ss ++ s ∷ [])
 reads_counted ss s few one =
     let sum : read_count (ss ++ s ∷ []) ≡ read_count ss + read_count (s ∷ []) = sum_by-append reads_of ss (s ∷ []) in
     let alone : read_count (s ∷ []) ≡ reads_of s = omega arith in
-    let len : length (ss ++ s ∷ []) ≡ length ss + 1 = length_more ss (s ∷ []) in
+    let len : length (ss ++ s ∷ []) ≡ length ss + 1 = length-append ss (s ∷ []) in
     rw (sum, alone, len) (omega (arith, few, one))

@@ -1,6 +1,7 @@
 -- Rows have a grid: whatever stands earlier, there is a least column where the slots of an area are free.
 use Rattle.std.proofs.Common.{◌≡◌, ◌⊎◌, inl, inr, ℕ, zero, suc, ◌+◌, ◌<◌, ◌≤◌, max, List, [], ◌∷◌, ◌++◌, slice_get, Some, refl, subst, arith}
 use Rattle.std.proofs.lemmas.Bool.{cases_eq, cases_lt}
+use Rattle.std.proofs.lemmas.Option.{same_Some}
 use Rattle.lay_grid.specs.declared.cells.Area.{Area}
 use Rattle.lay_grid.specs.declared.cells.Cell.{Cell}
 use Rattle.lay_grid.specs.Areas.{areas_from}
@@ -8,7 +9,6 @@ use Rattle.lay_grid.specs.Laws.{RowsHaveAGrid}
 use Rattle.lay_grid.specs.Places.{Covers, HasRoom, StandAfter, StandsLeft, areas_of, right_edge}
 use Rattle.lay_grid.specs.Slots.{columns_of, slots_from}
 use Rattle.lay_grid.proofs.ColumnsWithin.{room_behind_all}
-use Rattle.lay_grid.proofs.Places.{some_same}
 
 -- two ranges have a number in common, or none
 overlap : (a b c d : ℕ) → ((x : ℕ) × (a ≤ x) × (x < b) × (c ≤ x) × (x < d)) ⊎ ((x : ℕ) → a ≤ x → x < b → c ≤ x → x < d → ⊥)
@@ -64,11 +64,11 @@ more_room : (x : Cell) (earlier : List Cell) (area : Area) (left : ℕ) → HasR
 more_room x earlier area left one rest = record { right_of_its_row = right; all_free = free }
   where
     right : (i : ℕ) (cell : Cell) → slice_get (x ∷ earlier) i ≡ Some cell → cell.area.row ≡ area.row → right_edge cell ≤ left
-    right zero cell at = let e = some_same x cell at in subst (λ (z : Cell). z.area.row ≡ area.row → right_edge z ≤ left) e one.right
+    right zero cell at = let e = same_Some x cell at in subst (λ (z : Cell). z.area.row ≡ area.row → right_edge z ≤ left) e one.right
     right (suc i) cell at = rest.right_of_its_row i cell at
 
     free : (r c : ℕ) → Covers area left r c → (i : ℕ) (cell : Cell) → slice_get (x ∷ earlier) i ≡ Some cell → Covers cell.area cell.left r c → ⊥
-    free r c here zero cell at = let e = some_same x cell at in subst (λ (z : Cell). Covers z.area z.left r c → ⊥) e (one.apart r c here)
+    free r c here zero cell at = let e = same_Some x cell at in subst (λ (z : Cell). Covers z.area z.left r c → ⊥) e (one.apart r c here)
     free r c here (suc i) cell at = rest.all_free r c here i cell at
 
 room : (earlier : List Cell) (area : Area) (left : ℕ) → HasRoom earlier area left ⊎ (HasRoom earlier area left → ⊥)

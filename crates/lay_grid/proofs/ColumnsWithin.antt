@@ -1,15 +1,15 @@
 -- A grid has no more columns than its cells span together.
 use Rattle.std.proofs.Common.{◌≡◌, ℕ, zero, suc, ◌+◌, ◌≤◌, max, List, [], ◌∷◌, ◌++◌, slice_get, Some, ap, append-nil, append_assoc, arith}
+use Rattle.std.proofs.lemmas.Option.{same_Some}
 use Rattle.lay_grid.specs.declared.cells.Area.{Area}
 use Rattle.lay_grid.specs.declared.cells.Cell.{Cell}
 use Rattle.lay_grid.specs.Places.{areas_of, right_edge, HasRoom, StandsLeft, StandAfter}
 use Rattle.lay_grid.specs.Slots.{columns_of}
 use Rattle.lay_grid.specs.Within.{columns_spanned, ColumnsAreWithin}
-use Rattle.lay_grid.proofs.Places.{some_same}
 
 member_below : (cells : List Cell) (i : ℕ) (cell : Cell) → slice_get cells i ≡ Some cell → right_edge cell ≤ columns_of cells
 member_below [] i cell at = absurd (cc (at))
-member_below (x ∷ cells) zero cell at = let e = ap right_edge (some_same x cell at) in omega (arith, e)
+member_below (x ∷ cells) zero cell at = let e = ap right_edge (same_Some x cell at) in omega (arith, e)
 member_below (x ∷ cells) (suc i) cell at = let h = member_below cells i cell at in omega (arith, h)
 
 -- right of all earlier cells there is room

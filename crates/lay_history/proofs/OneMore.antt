@@ -2,13 +2,14 @@
 use Rattle.std.proofs.Common.{◌≡◌, ◌≤◌, ℕ, ◌+◌, zero, suc, List, [], ◌∷◌, ◌++◌, length, take, fold, Option, Some, None, refl, sym, ap, ◌∙◌, subst, arith, append-nil, length-append, inl, inr, slice_get}
 use Rattle.std.proofs.lemmas.List.Concat.{flat_map-append}
 use Rattle.std.proofs.lemmas.List.Sums.{fold-append}
+use Rattle.std.proofs.lemmas.List.{take-append-le}
 use Rattle.lay_doc.specs.Document.{Document}
 use Rattle.lay_history.specs.Edits.EditLists.{after_all}
 use Rattle.lay_history.specs.declared.edits.history.Entry.{Entry}
 use Rattle.lay_history.specs.Histories.{accepted, doc_at, list_in, lists, last_or, published, version_in}
 use Rattle.lay_history.specs.Legal.{IsLegal, MayFollow, doc_after}
 use Rattle.lay_history.specs.Calls.{call_in, calls}
-use Rattle.lay_history.proofs.Lists.{get_more, get_some, take_front, take_more, take_whole}
+use Rattle.lay_history.proofs.Lists.{get_more, get_some, take_more, take_whole}
 
 pub lists_more : (h : List Entry) (e : Entry) → lists (h ++ e ∷ []) ≡ lists h ++ list_in e
 lists_more h e = rw (flat_map-append list_in h (e ∷ []), append-nil (list_in e)) refl
@@ -27,7 +28,7 @@ call_count_more h e = rw (calls_more h e) (length-append (calls h) (call_in e))
 
 -- the documents of earlier versions stay
 pub doc_before : (init : Document) (h : List Entry) (e : Entry) (v : ℕ) → v ≤ accepted h → doc_at init (h ++ e ∷ []) v ≡ doc_at init h v
-doc_before init h e v le = ap (fold after_all init) (ap (take v) (lists_more h e) ∙ take_front v (lists h) (list_in e) le)
+doc_before init h e v le = ap (fold after_all init) (ap (take v) (lists_more h e) ∙ take-append-le v (lists h) (list_in e) le)
 
 doc_whole : (init : Document) (h : List Entry) → doc_after init h ≡ fold after_all init (lists h)
 doc_whole init h = ap (fold after_all init) (take_whole (lists h))
@@ -39,9 +40,9 @@ doc_after_more init h e =
 
 pub legal_more : (init : Document) (h : List Entry) (e : Entry) → IsLegal init h → MayFollow init h e → IsLegal init (h ++ e ∷ [])
 legal_more init h e legal follows k x at = elim (get_more h e x k at) [
-  | inl old ↦ subst (λ p. MayFollow init p x) (sym (take_front k h (e ∷ []) (let lt = old.0 in omega (arith, lt)))) (legal k x old.1)
+  | inl old ↦ subst (λ p. MayFollow init p x) (sym (take-append-le k h (e ∷ []) (let lt = old.0 in omega (arith, lt)))) (legal k x old.1)
   | inr new ↦ subst (λ y. MayFollow init (take k (h ++ e ∷ [])) y) new.1
-      (subst (λ p. MayFollow init p e) (sym (ap (λ n. take n (h ++ e ∷ [])) new.0 ∙ (take_front (length h) h (e ∷ []) (omega arith) ∙ take_whole h))) follows)
+      (subst (λ p. MayFollow init p e) (sym (ap (λ n. take n (h ++ e ∷ [])) new.0 ∙ (take-append-le (length h) h (e ∷ []) (omega arith) ∙ take_whole h))) follows)
 ]
 
 -- what holds of the empty history and of one more entry holds of each legal history

@@ -1,5 +1,6 @@
 -- What the lines of a report show of a history, and the scripts, determine it.
 use Rattle.std.proofs.Common.{◌≡◌, ℕ, ◌==◌, List, [], ◌∷◌, ◌++◌, drop, Bool, true, false, if◌then◌else◌, refl, sym, ap, ◌∙◌, eq-eqb, slice_get}
+use Rattle.std.proofs.lemmas.Option.{same_Some}
 use Rattle.lay_doc.specs.declared.edit.Edit.{Edit as Change}
 use Rattle.lay_history.specs.declared.edits.command.Cmd.{Cmd}
 use Rattle.lay_history.specs.declared.edits.command.Cmd.TheVariants as command
@@ -7,10 +8,9 @@ use Rattle.lay_history.specs.declared.edits.history.Entry.{Entry}
 use Rattle.lay_history.specs.declared.edits.history.Entry.TheVariants.{Edit, Publish, Latest, Sync}
 use Rattle.lay_history.specs.Calls.{Call, calls, calls_of}
 use Rattle.lay_history.specs.Laws.{OneHistory, ShowSame}
-use Rattle.lay_history.proofs.Lists.{some_is}
 
 pub heads_same : {X : Type 0} (x y : X) (xs ys : List X) → (x ∷ xs) ≡ (y ∷ ys) → x ≡ y
-heads_same x y xs ys e = some_is x y (ap (λ zs. slice_get zs 0) e)
+heads_same x y xs ys e = same_Some x y (ap (λ zs. slice_get zs 0) e)
 
 pub tails_same : {X : Type 0} (x y : X) (xs ys : List X) → (x ∷ xs) ≡ (y ∷ ys) → xs ≡ ys
 tails_same x y xs ys e = ap (λ zs. drop 1 zs) e

@@ -1,5 +1,6 @@
 -- The versions that a legal history shows.
 use Rattle.std.proofs.Common.{◌≡◌, ◌<◌, ◌≤◌, ℕ, List, [], ◌∷◌, ◌++◌, take, Option, Some, None, refl, sym, ap, ◌∙◌, subst, arith, append-nil, inl, inr, slice_get, All}
+use Rattle.std.proofs.lemmas.Option.{same_Some, none-some, slice_get_within}
 use Rattle.lay_doc.specs.Document.{Document}
 use Rattle.lay_history.specs.declared.edits.command.Reply.{Reply}
 use Rattle.lay_history.specs.declared.edits.command.Reply.TheVariants.{Accepted, Refused, Shown, NoMemory}
@@ -8,7 +9,7 @@ use Rattle.lay_history.specs.declared.edits.history.Entry.TheVariants.{Edit, Pub
 use Rattle.lay_history.specs.Histories.{accepted, last_or, last_published, published, shown_by, shown_version, version_in}
 use Rattle.lay_history.specs.Legal.{AnswersLatest, AnswersSync, IsLegal, MayFollow}
 use Rattle.lay_history.specs.Laws.{ShownRise, ShownVersionsRise, SyncsShowAll}
-use Rattle.lay_history.proofs.Lists.{get_below, get_more, get_take, not_none, some_is}
+use Rattle.lay_history.proofs.Lists.{get_more, get_take}
 use Rattle.lay_history.proofs.OneMore.{front_holds, last_of_more, published_more}
 use Rattle.lay_history.proofs.Versions.{last_of_all}
 
@@ -24,18 +25,18 @@ latest_shows : (o : Option ℕ) (reply : Reply) (v : ℕ) → AnswersLatest o re
 latest_shows o (Accepted n) v answers e = absurd answers
 latest_shows o (Refused place f) v answers e = absurd answers
 latest_shows o (Shown n) v answers e = answers ∙ e
-latest_shows o NoMemory v answers e = absurd (not_none v e)
+latest_shows o NoMemory v answers e = absurd (none-some v e)
 
 sync_shows : (o : Option ℕ) (n : ℕ) (reply : Reply) (v : ℕ) → AnswersSync o n reply → shown_by reply ≡ Some v → (o ≡ Some v) × (v ≡ n)
 sync_shows o n (Accepted m) v answers e = absurd answers
 sync_shows o n (Refused place f) v answers e = absurd answers
-sync_shows o n (Shown m) v answers e = (answers.0 ∙ e, sym (some_is m v e) ∙ answers.1)
-sync_shows o n NoMemory v answers e = absurd (not_none v e)
+sync_shows o n (Shown m) v answers e = (answers.0 ∙ e, sym (same_Some m v e) ∙ answers.1)
+sync_shows o n NoMemory v answers e = absurd (none-some v e)
 
 -- what an entry shows was published last
 pub shown_last : (init : Document) (h : List Entry) (e : Entry) (v : ℕ) → MayFollow init h e → shown_version e ≡ Some v → last_published h ≡ Some v
-shown_last init h (Edit editor index edits reply) v follows e = absurd (not_none v e)
-shown_last init h (Publish w) v follows e = absurd (not_none v e)
+shown_last init h (Edit editor index edits reply) v follows e = absurd (none-some v e)
+shown_last init h (Publish w) v follows e = absurd (none-some v e)
 shown_last init h (Latest editor index reply) v follows e = latest_shows (last_published h) reply v follows e
 shown_last init h (Sync editor index reply) v follows e = (sync_shows (last_published h) (accepted h) reply v follows e).0
 
@@ -66,8 +67,8 @@ shown_rise init h legal j k v w a b lt at_j at_k shows_a shows_b =
     subst (IsReached v) (shown_last init (take k h) b w (legal k b at_k) shows_b) (reached j v a (get_take h j k lt ∙ at_j) shows_a)
   where
     reached : AreReached (take k h)
-    reached = front_holds AreReached init h k (let below = get_below h k b at_k in omega (arith, below)) legal
-        (λ j v a at shows. absurd (not_none a at)) (one_more init)
+    reached = front_holds AreReached init h k (let below = slice_get_within h k b at_k in omega (arith, below)) legal
+        (λ j v a at shows. absurd (none-some a at)) (one_more init)
 
 syncs_show_all : (init : Document) (h : List Entry) → IsLegal init h → SyncsShowAll h
 syncs_show_all init h legal k v editor index reply at shows =

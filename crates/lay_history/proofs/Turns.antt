@@ -1,9 +1,10 @@
 -- Calls in turn: one more call, and the scripts determine their order.
 use Rattle.std.proofs.Common.{◌≡◌, ◌<◌, ℕ, ◌==◌, suc, List, [], ◌∷◌, ◌++◌, Bool, true, false, if◌then◌else◌, Some, refl, sym, ap, ◌∙◌, subst, arith, inl, inr, ne_eqb, slice_get, All}
 use Rattle.std.proofs.lemmas.Bool.{cases_eq}
+use Rattle.std.proofs.lemmas.Option.{none-some}
 use Rattle.lay_history.specs.Calls.{Call, IsEarlier, calls, calls_of}
 use Rattle.lay_history.specs.Laws.{OneOrder}
-use Rattle.lay_history.proofs.Lists.{all_at, get_more, not_none}
+use Rattle.lay_history.proofs.Lists.{all_at, get_more}
 use Rattle.lay_history.proofs.Shown.{first_same, own_first, rest_same}
 
 -- each of these calls comes before those behind it
@@ -45,7 +46,7 @@ pub record IsThere (cs : List Call) (c : Call) : Type 0 where
   pub is : slice_get cs place ≡ Some c
 
 pub is_there : (editor : ℕ) (cs : List Call) (c : Call) (rest : List Call) → calls_of editor cs ≡ c ∷ rest → IsThere cs c
-is_there editor [] c rest e = absurd (not_none c (ap (λ xs. slice_get xs 0) e))
+is_there editor [] c rest e = absurd (none-some c (ap (λ xs. slice_get xs 0) e))
 is_there editor (x ∷ cs) c rest e = by_editor (x.editor == editor) (is_there editor cs c rest) e
   where
     by_editor : (b : Bool) → (calls_of editor cs ≡ c ∷ rest → IsThere cs c) → (if b then x ∷ [] else []) ++ calls_of editor cs ≡ c ∷ rest → IsThere (x ∷ cs) c
@@ -55,9 +56,9 @@ is_there editor (x ∷ cs) c rest e = by_editor (x.editor == editor) (is_there e
 pub same_order : (xs ys : List Call) → AreInTurn xs → AreInTurn ys → ((editor : ℕ) → calls_of editor xs ≡ calls_of editor ys) → xs ≡ ys
 same_order [] [] turns_x turns_y same = refl
 same_order [] (y ∷ ys) turns_x turns_y same =
-    absurd (not_none y (ap (λ zs. slice_get zs 0) (same y.editor ∙ own_first y ys)))
+    absurd (none-some y (ap (λ zs. slice_get zs 0) (same y.editor ∙ own_first y ys)))
 same_order (x ∷ xs) [] turns_x turns_y same =
-    absurd (not_none x (ap (λ zs. slice_get zs 0) (sym (same x.editor) ∙ own_first x xs)))
+    absurd (none-some x (ap (λ zs. slice_get zs 0) (sym (same x.editor) ∙ own_first x xs)))
 same_order (x ∷ xs) (y ∷ ys) turns_x turns_y same = elim (cases_eq y.editor x.editor) [
   | inl own ↦ (let rest = same_order xs ys
       (λ j k a b lt at_j at_k. turns_x (suc j) (suc k) a b (omega (arith, lt)) at_j at_k)

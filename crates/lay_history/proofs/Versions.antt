@@ -2,6 +2,7 @@
 use Rattle.std.proofs.Common.{◌≡◌, ◌<◌, ◌≤◌, ℕ, ◌+◌, suc, List, [], ◌∷◌, ◌++◌, length, Option, Some, None, IfSome, refl, sym, ap, ◌∙◌, subst, arith, append-nil, length-append, inl, inr, slice_get, All}
 use Rattle.std.proofs.lemmas.Bool.{cases_lt}
 use Rattle.std.proofs.lemmas.List.Elements.{All-push}
+use Rattle.std.proofs.lemmas.Option.{none-some}
 use Rattle.lay_doc.specs.Document.{Document}
 use Rattle.lay_history.specs.declared.edits.history.Entry.{Entry}
 use Rattle.lay_history.specs.declared.edits.history.Entry.TheVariants.{Edit, Publish, Latest, Sync}
@@ -9,7 +10,7 @@ use Rattle.lay_history.specs.Histories.{accepted, last_or, last_published, publi
 use Rattle.lay_history.specs.Legal.{IsLegal, MayFollow}
 use Rattle.lay_history.specs.Calls.{call_in, calls}
 use Rattle.lay_history.specs.Laws.{FewVersions, VersionsRise}
-use Rattle.lay_history.proofs.Lists.{all_at, get_more, not_none}
+use Rattle.lay_history.proofs.Lists.{all_at, get_more}
 use Rattle.lay_history.proofs.OneMore.{accepted_more, last_of_more, legal_holds, published_more}
 
 -- each of these is smaller than those behind it
@@ -29,7 +30,7 @@ rising_more xs n rising below j k v w lt at_j at_k = elim (get_more xs n v j at_
 ]
 
 some_last : (x : ℕ) (xs : List ℕ) → last_or (Some x) xs ≡ None → ⊥
-some_last x [] e = not_none x (sym e)
+some_last x [] e = none-some x (sym e)
 some_last x (y ∷ xs) e = some_last y xs e
 
 pub none_last : (xs : List ℕ) → last_or None xs ≡ None → xs ≡ []
@@ -42,7 +43,7 @@ last_holds P x [] w p all e = subst (λ o. IfSome o P) e p
 last_holds P x (y ∷ ys) w p all e = last_holds P y ys w (all 0 y (omega arith)) (λ k d lt. all (suc k) d (omega (arith, lt))) e
 
 pub last_of_all : (P : ℕ → Type 0) (xs : List ℕ) (w : ℕ) → All P xs → last_or None xs ≡ Some w → P w
-last_of_all P [] w all e = absurd (not_none w e)
+last_of_all P [] w all e = absurd (none-some w e)
 last_of_all P (y ∷ ys) w all e = last_holds P y ys w (all 0 y (omega arith)) (λ k d lt. all (suc k) d (omega (arith, lt))) e
 
 -- the last version is the greatest, and there are at most one more
@@ -96,7 +97,7 @@ one_more init h (Latest editor index reply) follows is = same_more h (Latest edi
 one_more init h (Sync editor index reply) follows is = same_more h (Sync editor index reply) refl is
 
 none_yet : ArePublished []
-none_yet = record { rising = λ j k v w lt at_j at_k. absurd (not_none v at_j); greatest = tt }
+none_yet = record { rising = λ j k v w lt at_j at_k. absurd (none-some v at_j); greatest = tt }
 
 pub are_published : (init : Document) (h : List Entry) → IsLegal init h → ArePublished h
 are_published init h legal = legal_holds ArePublished init h legal none_yet (one_more init)

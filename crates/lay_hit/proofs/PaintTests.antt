@@ -1,7 +1,7 @@
 -- The tests of the steps of painting, by the step of a node and the node that paints it.
 use Rattle.std.proofs.Common.{◌≡◌, ℕ, ◌<◌, ◌≤◌, Bool, true, false, cond, not, ◌&&◌, ◌||◌, ℤ, pos, negsuc, refl, sym, ap, ◌∙◌, arith, if◌then◌else◌}
 use Rattle.std.specs.Prelude.{int_lt, int_le, nat_lt, nat_le, ◌==◌}
-use Rattle.std.proofs.lemmas.Bool.{leb-true}
+use Rattle.std.proofs.lemmas.Bool.{leb-true, and_parts}
 use Rattle.std.proofs.lemmas.Bool.Decides.{nat_tests}
 use Rattle.lay_hit.specs.declared.kinds.PaintKind.{PaintKind}
 use Rattle.lay_hit.specs.declared.kinds.PaintKind.TheVariants.{Stacking, Layered, Float, Atomic, Block, Inline}
@@ -24,11 +24,6 @@ and_none false = refl
 pub and_all : (e : Bool) → (e && true) ≡ e
 and_all true = refl
 and_all false = refl
-
--- of what passes two tests
-pub both : (a b : Bool) → (a && b) ≡ true → (a ≡ true) × (b ≡ true)
-both true b e = (refl, e)
-both false b e = absurd cc
 
 pub stacking_forms : (k : PaintKind) → is_stacking k ≡ true → forms_group k ≡ true
 stacking_forms Stacking e = refl
@@ -133,5 +128,5 @@ module _ (l : ℤ) (ow gr g : ℕ) where
 
 -- a level that is neither less nor greater than 0
 pub level_zero : (l : ℤ) → (int_le (pos 0) l && int_le l (pos 0)) ≡ true → l ≡ pos 0
-level_zero (pos n) e = let h = (both (nat_le 0 n) (nat_le n 0) e).1 in let z : n ≡ 0 = (let m = leb-true n 0 h in omega (arith, m)) in ap pos z
+level_zero (pos n) e = let h = (and_parts (nat_le 0 n) (nat_le n 0) e).1 in let z : n ≡ 0 = (let m = leb-true n 0 h in omega (arith, m)) in ap pos z
 level_zero (negsuc n) e = absurd cc

@@ -2,6 +2,8 @@
 use Rattle.std.proofs.Common.{◌≡◌, ℕ, zero, suc, ◌+◌, ◌<◌, ◌≤◌, Bool, true, false, cond, ◌&&◌, ◌||◌, List, [], ◌∷◌, ℤ, pos, refl, ap, ◌∙◌, arith, if◌then◌else◌}
 use Rattle.std.specs.Prelude.{int_le, ◌==◌}
 use Rattle.std.specs.List.{filter, range_with_len, AllByRecursion}
+use Rattle.std.proofs.lemmas.Bool.{and_parts}
+use Rattle.std.proofs.lemmas.List.Elements.{filter_agree}
 use Rattle.lay_hit.specs.declared.kinds.PaintKind.{PaintKind}
 use Rattle.lay_hit.specs.declared.kinds.PaintKind.TheVariants.{Stacking, Layered, Float, Atomic, Block, Inline}
 use Rattle.lay_hit.specs.PaintKinds.{is_stacking, is_layered, is_float, is_atomic, is_block, is_inline, forms_group}
@@ -13,7 +15,7 @@ use Rattle.lay_hit.specs.Wholes.{painted_by}
 use Rattle.lay_hit.specs.OrderedPages.{IsOrdered}
 use Rattle.lay_hit.proofs.Nearest.{around-counts, around-before}
 use Rattle.lay_hit.proofs.Buckets.{all-filter, in_step, steps_from, in_order-steps}
-use Rattle.lay_hit.proofs.PaintTests.{both, stacking_forms, step_low, negative_test, positive_test, zero_test, block_test, float_test, inline_test, level_zero}
+use Rattle.lay_hit.proofs.PaintTests.{stacking_forms, step_low, negative_test, positive_test, zero_test, block_test, float_test, inline_test, level_zero}
 
 pub filter-both : {X : Type 0} (a b : X → Bool) (xs : List X) → filter a (filter b xs) ≡ filter (λ x. b x && a x) xs
 filter-both a b [] = refl
@@ -22,10 +24,6 @@ filter-both {X} a b (x ∷ xs) = by_test (filter-both a b xs) (b x)
     by_test : filter a (filter b xs) ≡ filter (λ y. b y && a y) xs → (c : Bool) → filter a (cond c (x ∷ filter b xs) (filter b xs)) ≡ cond (c && a x) (x ∷ filter (λ y. b y && a y) xs) (filter (λ y. b y && a y) xs)
     by_test rest true = ap (λ (ys : List X). cond (a x) (x ∷ ys) ys) rest
     by_test rest false = rest
-
-pub filter-same : {X : Type 0} (a b : X → Bool) → ((x : X) → a x ≡ b x) → (xs : List X) → filter a xs ≡ filter b xs
-filter-same a b same [] = refl
-filter-same {X} a b same (x ∷ xs) = ap (λ (c : Bool). cond c (x ∷ filter a xs) (filter a xs)) (same x) ∙ ap (λ (ys : List X). cond (b x) (x ∷ ys) ys) (filter-same a b same xs)
 
 pub filter-none : {X : Type 0} (a : X → Bool) (xs : List X) → AllByRecursion (λ x. a x ≡ false) xs → filter a xs ≡ []
 filter-none a [] all = refl
@@ -90,7 +88,7 @@ module _ (p : Page) (o : IsOrdered p) where
 
   -- the nodes of a step that g paints
   pub step-nodes : (test : ℕ → Bool) (n g : ℕ) → ((k : ℕ) → ((painter_at p k == g) && (step k == n)) ≡ test k) → filter (in_step step levels n) (mine g) ≡ filter test (others p)
-  step-nodes test n g same = filter-both (in_step step levels n) (λ k. painter_at p k == g) (others p) ∙ filter-same (λ k. (painter_at p k == g) && (step k == n)) test same (others p)
+  step-nodes test n g same = filter-both (in_step step levels n) (λ k. painter_at p k == g) (others p) ∙ filter_agree (λ k. (painter_at p k == g) && (step k == n)) test same (others p)
 
   -- nodes of one level stay as they are
   pub one_level : (ks : List ℕ) → AllByRecursion (λ k. p.level k ≡ pos 0) ks → in_order levels ks ≡ ks
@@ -144,13 +142,13 @@ module _ (p : Page) (o : IsOrdered p) where
   positives g = ap (in_order levels) (step-nodes (is_positive_of p g) 7 g (λ k. positive_test (p.level k) (owner p k) (group p k) g (p.kind k)))
 
   pub blocks : (g : ℕ) → in_order levels (filter (in_step step levels 3) (mine g)) ≡ filter (is_block_of p g) (others p)
-  blocks g = plain_step (is_block_of p g) 3 g (λ k. block_test (p.level k) (owner p k) (group p k) g (p.kind k)) (λ k e. o.level k (block_flat (p.kind k) (both (is_block (p.kind k)) (group p k == g) e).0))
+  blocks g = plain_step (is_block_of p g) 3 g (λ k. block_test (p.level k) (owner p k) (group p k) g (p.kind k)) (λ k e. o.level k (block_flat (p.kind k) (and_parts (is_block (p.kind k)) (group p k == g) e).0))
 
   pub floating : (g : ℕ) → in_order levels (filter (in_step step levels 4) (mine g)) ≡ filter (is_float_of p g) (others p)
-  floating g = plain_step (is_float_of p g) 4 g (λ k. float_test (p.level k) (owner p k) (group p k) g (p.kind k)) (λ k e. o.level k (float_flat (p.kind k) (both (is_float (p.kind k)) (group p k == g) e).0))
+  floating g = plain_step (is_float_of p g) 4 g (λ k. float_test (p.level k) (owner p k) (group p k) g (p.kind k)) (λ k e. o.level k (float_flat (p.kind k) (and_parts (is_float (p.kind k)) (group p k == g) e).0))
 
   pub inlines : (g : ℕ) → in_order levels (filter (in_step step levels 5) (mine g)) ≡ filter (is_inline_of p g) (others p)
-  inlines g = plain_step (is_inline_of p g) 5 g (λ k. inline_test (p.level k) (owner p k) (group p k) g (p.kind k)) (λ k e. o.level k (inline_flat (p.kind k) (both (is_inline (p.kind k) || is_atomic (p.kind k)) (group p k == g) e).0))
+  inlines g = plain_step (is_inline_of p g) 5 g (λ k. inline_test (p.level k) (owner p k) (group p k) g (p.kind k)) (λ k e. o.level k (inline_flat (p.kind k) (and_parts (is_inline (p.kind k) || is_atomic (p.kind k)) (group p k == g) e).0))
 
   pub zeros : (g : ℕ) → in_order levels (filter (in_step step levels 6) (mine g)) ≡ filter (is_zero_of p g) (others p)
-  zeros g = plain_step (is_zero_of p g) 6 g (λ k. zero_test (p.level k) (owner p k) (group p k) g (p.kind k)) (λ k e. zero_flat k (p.kind k) refl (both (is_level_zero p k) (owner p k == g) e).0)
+  zeros g = plain_step (is_zero_of p g) 6 g (λ k. zero_test (p.level k) (owner p k) (group p k) g (p.kind k)) (λ k e. zero_flat k (p.kind k) refl (and_parts (is_level_zero p k) (owner p k == g) e).0)

@@ -1,6 +1,6 @@
 -- The walk from the last node to the first: what waits at each node stays true as it comes to one node more.
 use Rattle.std.proofs.Common.{◌≡◌, ℕ, ◌+◌, ◌<◌, ◌≤◌, Bool, true, false, not, ◌&&◌, ◌||◌, List, length, slice_index_or, set, replicate, refl, sym, ap, ◌∙◌, subst, arith, ◌⊎◌, inl, inr, Option, None, if◌then◌else◌}
-use Rattle.std.proofs.lemmas.Bool.{cases_eq, cases_Bool, and_from, and_parts, not-true, lt-ltb, ltb-true, eqb-true}
+use Rattle.std.proofs.lemmas.Bool.{cases_eq, cases_Bool, and_from, and_parts, not-true, lt-ltb, ltb-true, eqb-true, or_right, or_left, not_from_false}
 use Rattle.std.proofs.lemmas.List.{get_or-replicate, get_or-set_same, get_or-set_other, length-replicate, length-set}
 use Rattle.std.specs.Prelude.{◌==◌, is_some, nat_lt}
 use Rattle.lay_doc.specs.Document.{IsDocument}
@@ -25,24 +25,12 @@ use Rattle.lay_hit.proofs.WaitSteps.{no_both, same_there, comes_there, nothing_c
 use Rattle.lay_hit.proofs.PaintedBy.{painter-forms, painter-before, owner-stacks}
 use Rattle.lay_hit.proofs.FrontSteps.{page_ordered, Mine, frontmost_is, seen_either}
 
-or_right : (a b : Bool) → b ≡ true → (a || b) ≡ true
-or_right true b e = refl
-or_right false b e = e
-
-or_left : (a b : Bool) → a ≡ true → (a || b) ≡ true
-or_left true b e = refl
-or_left false b e = absurd cc
-
 -- who paints a node
 by_owner : (p : Page) (k : ℕ) → is_of_owner (p.kind k) ≡ true → painter_at p k ≡ owner p k
 by_owner p k e = ap (λ (b : Bool). if b then owner p k else group p k) e
 
 by_group : (p : Page) (k : ℕ) → is_of_owner (p.kind k) ≡ false → painter_at p k ≡ group p k
 by_group p k e = ap (λ (b : Bool). if b then owner p k else group p k) e
-
-not_false : (b : Bool) → b ≡ false → not b ≡ true
-not_false true e = absurd cc
-not_false false e = refl
 
 -- what is in front of two nodes of a page is one of it
 pub in_front_within : (p : Page) (n j k : ℕ) → j < n → k < n → in_front p j k < n
@@ -134,7 +122,7 @@ module _ (q : Question) (is : IsDocument q.doc.now) where
     to_group k m e = record {
       walked = behind k m;
       within = m.within;
-      counted = and_from (is_some (seen_in q k)) (not (is_of_owner (kind k))) m.counted (not_false (is_of_owner (kind k)) e);
+      counted = and_from (is_some (seen_in q k)) (not (is_of_owner (kind k))) m.counted (not_from_false (is_of_owner (kind k)) e);
       place = way_waits (ends_group q) (page q).parent group_root ordered.before n g k walked (sym (by_group (page q) k e) ∙ m.painter);
     }
 

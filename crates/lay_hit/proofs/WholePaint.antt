@@ -1,7 +1,7 @@
 -- The seven steps of painting are one walk: of each node its own pieces, and then what it paints.
 use Rattle.std.proofs.Common.{◌≡◌, ℕ, zero, suc, ◌+◌, ◌-◌, ◌<◌, ◌≤◌, Bool, true, false, ◌&&◌, ◌||◌, List, [], ◌∷◌, ◌++◌, pos, refl, sym, ap, ◌∙◌, subst, arith, if◌then◌else◌}
 use Rattle.std.proofs.lemmas.List.{append-nil}
-use Rattle.std.proofs.lemmas.Bool.{eqb-true, ne_eqb}
+use Rattle.std.proofs.lemmas.Bool.{eqb-true, ne_eqb, and_parts}
 use Rattle.std.proofs.lemmas.Grind.{flat_map-append}
 use Rattle.std.specs.Prelude.{int_lt, int_le, ◌==◌}
 use Rattle.std.specs.List.{filter, flat_map, AllByRecursion}
@@ -17,7 +17,7 @@ use Rattle.lay_hit.specs.Wholes.{own_pieces, is_painted_under, painted_by, whole
 use Rattle.lay_hit.specs.OrderedPages.{IsOrdered}
 use Rattle.lay_hit.proofs.Buckets.{in_step}
 use Rattle.lay_hit.proofs.Rising.{all-in_order}
-use Rattle.lay_hit.proofs.PaintTests.{both, and_none, stacking_forms}
+use Rattle.lay_hit.proofs.PaintTests.{and_none, stacking_forms}
 use Rattle.lay_hit.proofs.PaintedBy.{filter-none, all-range, all-each, all-passing, step, levels, mine, owner-stacks, group-before, owner-before, painter-forms, painter-before, painted-steps, negatives, positives, blocks, floating, inlines, zeros}
 
 pub flat_map-same : {X Y : Type 0} (f g : X → List Y) (xs : List X) → AllByRecursion (λ x. f x ≡ g x) xs → flat_map f xs ≡ flat_map g xs
@@ -131,7 +131,7 @@ module _ (p : Page) (o : IsOrdered p) where
         ∙ same_nodes (by_level p (filter (is_negative_of p g) (others p)))
         (all-in_order (λ j k. int_le (p.level j) (p.level k)) (λ k. paint p turns k ≡ whole p turns k) (filter (is_negative_of p g) (others p))
         (all-of (λ k. paint p turns k ≡ whole p turns k) (is_negative_of p g)
-        (λ k other e. let a = both (is_stacking (p.kind k)) (int_lt (p.level k) (pos 0) && (owner p k == g)) e in of_owner k other (both (int_lt (p.level k) (pos 0)) (owner p k == g) a.1).1 (stacking_forms (p.kind k) a.0))))
+        (λ k other e. let a = and_parts (is_stacking (p.kind k)) (int_lt (p.level k) (pos 0) && (owner p k == g)) e in of_owner k other (and_parts (int_lt (p.level k) (pos 0)) (owner p k == g) a.1).1 (stacking_forms (p.kind k) a.0))))
         ∙ ap (flat_map (whole p turns)) (sym (negatives p o g))
 
     positive_part : positive_layers p (paint p turns) g ≡ flat_map (whole p turns) (in_order (levels p o) (filter (in_step (step p o) (levels p o) 7) (mine p o g)))
@@ -141,7 +141,7 @@ module _ (p : Page) (o : IsOrdered p) where
         ∙ same_nodes (by_level p (filter (is_positive_of p g) (others p)))
         (all-in_order (λ j k. int_le (p.level j) (p.level k)) (λ k. paint p turns k ≡ whole p turns k) (filter (is_positive_of p g) (others p))
         (all-of (λ k. paint p turns k ≡ whole p turns k) (is_positive_of p g)
-        (λ k other e. let a = both (is_stacking (p.kind k)) (int_lt (pos 0) (p.level k) && (owner p k == g)) e in of_owner k other (both (int_lt (pos 0) (p.level k)) (owner p k == g) a.1).1 (stacking_forms (p.kind k) a.0))))
+        (λ k other e. let a = and_parts (is_stacking (p.kind k)) (int_lt (pos 0) (p.level k) && (owner p k == g)) e in of_owner k other (and_parts (int_lt (pos 0) (p.level k)) (owner p k == g) a.1).1 (stacking_forms (p.kind k) a.0))))
         ∙ ap (flat_map (whole p turns)) (sym (positives p o g))
 
     zero_part : zero_layers p (paint p turns) g ≡ flat_map (whole p turns) (in_order (levels p o) (filter (in_step (step p o) (levels p o) 6) (mine p o g)))
@@ -150,28 +150,28 @@ module _ (p : Page) (o : IsOrdered p) where
         (λ plain. owns_none (is_zero_of p g) (λ k e. ap (λ (b : Bool). is_level_zero p k && b) e ∙ and_none (is_level_zero p k)) plain)
         ∙ same_nodes (filter (is_zero_of p g) (others p))
         (all-of (λ k. paint p turns k ≡ whole p turns k) (is_zero_of p g)
-        (λ k other e. let a = both (is_level_zero p k) (owner p k == g) e in of_owner k other a.1 (zero_forms k (p.kind k) a.0)))
+        (λ k other e. let a = and_parts (is_level_zero p k) (owner p k == g) e in of_owner k other a.1 (zero_forms k (p.kind k) a.0)))
         ∙ ap (flat_map (whole p turns)) (sym (zeros p o g))
 
     float_part : floats p (paint p turns) g ≡ flat_map (whole p turns) (in_order (levels p o) (filter (in_step (step p o) (levels p o) 4) (mine p o g)))
     float_part =
         same_nodes (filter (is_float_of p g) (others p))
         (all-of (λ k. paint p turns k ≡ whole p turns k) (is_float_of p g)
-        (λ k other e. let a = both (is_float (p.kind k)) (group p k == g) e in of_group k other a.1 (float_forms (p.kind k) a.0)))
+        (λ k other e. let a = and_parts (is_float (p.kind k)) (group p k == g) e in of_group k other a.1 (float_forms (p.kind k) a.0)))
         ∙ ap (flat_map (whole p turns)) (sym (floating p o g))
 
     block_part : block_boxes p g ≡ flat_map (whole p turns) (in_order (levels p o) (filter (in_step (step p o) (levels p o) 3) (mine p o g)))
     block_part =
         flat_map-same p.boxes (whole p turns) (filter (is_block_of p g) (others p))
         (all-of (λ k. p.boxes k ≡ whole p turns k) (is_block_of p g)
-        (λ k other e. let a = both (is_block (p.kind k)) (group p k == g) e in let b = block_plain (p.kind k) a.0 in sym (leaf turns k (turns_left k other a.1) b.0 ∙ boxes_of k b.1)))
+        (λ k other e. let a = and_parts (is_block (p.kind k)) (group p k == g) e in let b = block_plain (p.kind k) a.0 in sym (leaf turns k (turns_left k other a.1) b.0 ∙ boxes_of k b.1)))
         ∙ ap (flat_map (whole p turns)) (sym (blocks p o g))
 
     inline_part : inline_content p (paint p turns) g ≡ flat_map (whole p turns) (in_order (levels p o) (filter (in_step (step p o) (levels p o) 5) (mine p o g)))
     inline_part =
         flat_map-same (λ k. if is_atomic (p.kind k) then paint p turns k else p.boxes_and_texts k) (whole p turns) (filter (is_inline_of p g) (others p))
         (all-of (λ k. (if is_atomic (p.kind k) then paint p turns k else p.boxes_and_texts k) ≡ whole p turns k) (is_inline_of p g)
-        (λ k other e. let a = both (is_inline (p.kind k) || is_atomic (p.kind k)) (group p k == g) e in by_test k other a.0 a.1 (is_atomic (p.kind k)) refl))
+        (λ k other e. let a = and_parts (is_inline (p.kind k) || is_atomic (p.kind k)) (group p k == g) e in by_test k other a.0 a.1 (is_atomic (p.kind k)) refl))
         ∙ ap (flat_map (whole p turns)) (sym (inlines p o g))
       where
         by_test : (k : ℕ) → IsOther k → (is_inline (p.kind k) || is_atomic (p.kind k)) ≡ true → (group p k == g) ≡ true → (b : Bool) → is_atomic (p.kind k) ≡ b → (if b then paint p turns k else p.boxes_and_texts k) ≡ whole p turns k

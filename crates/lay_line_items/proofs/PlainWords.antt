@@ -1,6 +1,6 @@
 -- The words and spaces of a text of ASCII.
 use Rattle.std.proofs.Common.{◌≡◌, ◌≢◌, ◌∙◌, ℕ, ◌+◌, ◌*◌, ◌^◌, ◌<◌, ◌≤◌, ◌==◌, nat_lt, not, ◌&&◌, ◌||◌, subst, pos, negsuc, neg_ℤ, ◌≤ℤ◌, Bool, true, false, if◌then◌else◌, List, [], ◌∷◌, ◌++◌, length, drop, append-nil, append_assoc, slice_index, ◌+ℤ◌, Option, None, Some, option_to_list, refl, sym, ap, arith, ℤ}
-use Rattle.std.proofs.lemmas.Bool.{and_parts, eq-eqb, lt-ltb, ltb-false, ltb-true, ne_eqb}
+use Rattle.std.proofs.lemmas.Bool.{and_parts, eq-eqb, lt-ltb, ltb-false, ltb-true, ne_eqb, not-true as isnt, or_parts}
 use Rattle.std.proofs.lemmas.Int.{ints}
 use Rattle.std.proofs.lemmas.List.{at_drop_more, drop_all, length-drop}
 use Rattle.lay_units.specs.declared.records.ClusterWidth.{ClusterWidth}
@@ -108,15 +108,6 @@ clash false is isnt = absurd cc
 differs : (a b : ℕ) → (a == b) ≡ false → a ≢ b
 differs a b other same = clash (a == b) (eq-eqb a b same) other
 
-isnt : (t : Bool) → not t ≡ true → t ≡ false
-isnt true is = absurd cc
-isnt false is = refl
-
-neither : (x y : Bool) → (x || y) ≡ false → (x ≡ false) × (y ≡ false)
-neither true y is = absurd cc
-neither false true is = absurd cc
-neither false false is = (refl, refl)
-
 -- a character of a word
 pub in_word : (b : ℕ) → is_in_word b ≡ true → (b < 128) × (parts_words b ≡ false) × (b ≢ 13)
 in_word b is =
@@ -127,7 +118,7 @@ in_word b is =
 pub letter : (b : ℕ) → is_in_word b ≡ true → (b ≢ 32) × (b ≢ 10)
 letter b is =
     let own = in_word b is in
-    let first = neither (b == 32) (b == 10) (neither (b == 32 || b == 10) (b == 9) own.1).0 in
+    let first = or_parts (b == 32) (b == 10) (or_parts (b == 32 || b == 10) (b == 9) own.1).0 in
     (differs b 32 first.0, differs b 10 first.1)
 
 -- what is no character of a word of a plain text
@@ -143,8 +134,8 @@ pub clean_word : (text : List ℕ) (k : ℕ) (before : Bool) → k < length text
 clean_word text k before below is rest =
     let b = slice_index text k in
     let own = in_word b is in
-    let parts = neither (b == 32 || b == 10) (b == 9) own.1 in
-    let first = neither (b == 32) (b == 10) parts.0 in
+    let parts = or_parts (b == 32 || b == 10) (b == 9) own.1 in
+    let first = or_parts (b == 32) (b == 10) parts.0 in
     subst (IsClean before) (sym (at_drop_more (λ bs. bs) text k 0 below))
     (own.0, differs b 9 parts.1, differs b 10 first.1, own.2, (λ e. differs b 32 first.0), subst (λ t. IsClean t (drop (k + 1) text)) (sym first.0) rest)
 

@@ -2,7 +2,7 @@
 use Rattle.std.proofs.Common.{◌≡◌, ◌≢◌, ◌∙◌, ℕ, zero, suc, ◌+◌, ◌<◌, ◌≤◌, ◌==◌, ◌||◌, ◌&&◌, Bool, true, false, if◌then◌else◌, List, [], ◌∷◌, ◌++◌, length, map, slice_index, refl, sym, ap, subst, arith, append_assoc, append-nil, length-append, encode_utf8_all, chars}
 use Rattle.std.specs.Str.{IsCharBoundary, IsUtf8}
 use Rattle.std.specs.List.{concat}
-use Rattle.std.proofs.lemmas.Bool.{and_parts, eq-eqb, eqb-true}
+use Rattle.std.proofs.lemmas.Bool.{and_parts, eq-eqb, eqb-true, false_from_ne_true}
 use Rattle.std.proofs.lemmas.Str.{IsCharBoundary-at_seam, IsUtf8-past_char}
 use Rattle.unicode_segmentation.specs.Grapheme.{graphemes, is_grapheme_break}
 use Rattle.unicode_segmentation.specs.Segments.{cut, segments}
@@ -41,10 +41,6 @@ is_word text from to some alone =
     let all = none_of (is_byte text from to 32) (is_linefeed text from to) (is_byte text from to 9) (is_zero_width_space text from to) alone in
     record { some = some; space = all.0; feed = all.1; tab = all.2; zero_width = all.3 }
 
-isnt : (b : Bool) → (b ≡ true → ⊥) → b ≡ false
-isnt true never = absurd (never refl)
-isnt false never = refl
-
 clash : (b : Bool) → b ≡ true → b ≡ false → ⊥
 clash true is other = absurd cc
 clash false is other = absurd cc
@@ -66,10 +62,10 @@ past_end (x ∷ xs) (suc k) some = let more = past_end xs k some in omega (arith
 pub joined_words : (text : List ℕ) (from mid to : ℕ) → IsWord text from mid → IsWord text mid to → IsCharBoundary text mid → IsWord text from to
 joined_words text from mid to a b seam = record {
   some = omega (arith, a.some, b.some);
-  space = isnt _ (λ e. no_byte 32 e);
-  feed = isnt _ (λ e. no_feed e);
-  tab = isnt _ (λ e. no_byte 9 e);
-  zero_width = isnt _ (λ e. no_zero_width e);
+  space = false_from_ne_true _ (λ e. no_byte 32 e);
+  feed = false_from_ne_true _ (λ e. no_feed e);
+  tab = false_from_ne_true _ (λ e. no_byte 9 e);
+  zero_width = false_from_ne_true _ (λ e. no_zero_width e);
 }
   where
     no_byte : (byte : ℕ) → is_byte text from to byte ≡ true → ⊥
@@ -77,7 +73,7 @@ joined_words text from mid to a b seam = record {
 
     no_feed : is_linefeed text from to ≡ true → ⊥
     no_feed e =
-        let second = either (is_byte text from to 10) (to == from + 2 && slice_index text from == 13 && slice_index text (from + 1) == 10) e (isnt _ (λ f. no_byte 10 f)) in
+        let second = either (is_byte text from to 10) (to == from + 2 && slice_index text from == 13 && slice_index text (from + 1) == 10) e (false_from_ne_true _ (λ f. no_byte 10 f)) in
         let outer = and_parts (to == from + 2 && slice_index text from == 13) (slice_index text (from + 1) == 10) second in
         let far = eqb-true to (from + 2) (and_parts (to == from + 2) (slice_index text from == 13) outer.0).0 in
         let at : mid ≡ from + 1 = omega (arith, far, a.some, b.some) in

@@ -2,6 +2,7 @@
 use Rattle.std.proofs.Common.{◌≡◌, ℕ, zero, suc, Bool, true, false, ◌||◌, ◌&&◌, if◌then◌else◌, List, [], ◌∷◌, ◌++◌, take, drop, sym, ap, ◌∙◌, Option, Some, None}
 use Rattle.std.specs.Bool.{⊤}
 use Rattle.std.specs.List.{list_any, slice_get}
+use Rattle.std.proofs.lemmas.Bool.{or_left}
 use Rattle.lay_units.specs.declared.length.Unit.{Unit as Length}
 use Rattle.lay_units.specs.declared.records.ClusterWidth.{ClusterWidth}
 use Rattle.lay_space.specs.declared.item.Item.{Item}
@@ -25,7 +26,7 @@ use Rattle.lay_line_measures.specs.SeenLines.{is_seen, has_seen_line}
 use Rattle.lay_line_measures.specs.Stretches.{parts_at, parts_of, stretches_of}
 use Rattle.lay_line_measures.specs.declared.text_parts.TextBox.{TextBox}
 use Rattle.lay_line_measures.specs.TextParts.{cluster_parts, parts_between, text_parts}
-use Rattle.lay_line_measures.proofs.Disjunctions.{or_false, or_assoc, or_left, or_more, or_through}
+use Rattle.lay_line_measures.proofs.Disjunctions.{or_false, or_assoc, or_more, or_through}
 use Rattle.lay_line_measures.proofs.SeenPens.{seen_at, take_more}
 
 abbrev pub shows : Part → Bool

@@ -1,8 +1,8 @@
 -- The runs of a list stand in one order.
 use Rattle.std.proofs.Common.{◌≡◌, ◌⊎◌, inl, inr, ℕ, zero, suc, ◌<◌, List, [], ◌∷◌, refl, sym, ap, ◌∙◌, arith, slice_get, Some}
+use Rattle.std.proofs.lemmas.Option.{same_Some}
 use Rattle.lay_margins.specs.declared.edge.Run.{Run}
 use Rattle.lay_margins.specs.Laws.{OneListOfRuns}
-use Rattle.lay_margins.proofs.Places.{some_same}
 
 abbrev IsIn : List Run → Run → Type 0
 IsIn xs r = (k : ℕ) × (slice_get xs k ≡ Some r)
@@ -15,7 +15,7 @@ head_least : (x r : Run) (xs : List Run) → IsRising (x ∷ xs) → IsIn (x ∷
 head_least x r xs up at = from at.0 at.1
   where
     from : (k : ℕ) → slice_get (x ∷ xs) k ≡ Some r → (r ≡ x) ⊎ (x.first < r.first)
-    from zero e = inl (sym (some_same x r e))
+    from zero e = inl (sym (same_Some x r e))
     from (suc k) e = inr (up zero (suc k) x r (omega arith) refl e)
 
 same_head : (x y : Run) (xs ys : List Run) → IsRising (x ∷ xs) → IsRising (y ∷ ys) → IsIn (y ∷ ys) x → IsIn (x ∷ xs) y → x ≡ y
@@ -33,7 +33,7 @@ in_tail x y r xs ys same up at other = from other.0 other.1
     from : (k : ℕ) → slice_get (y ∷ ys) k ≡ Some r → IsIn ys r
     from zero e =
         let lt = up zero (suc at.0) x r (omega arith) refl at.1 in
-        let f = ap (λ (q : Run). q.first) (same ∙ some_same y r e) in
+        let f = ap (λ (q : Run). q.first) (same ∙ same_Some y r e) in
         absurd (omega (arith, lt, f))
     from (suc k) e = (k, e)
 

@@ -2,7 +2,7 @@
 use Rattle.std.proofs.Common.{◌≡◌, ◌≢◌, ℕ, ◌<◌, ◌==◌, ◌&&◌, ◌||◌, nat_lt, Bool, true, false, cond, List, [], ◌∷◌, ◌++◌, length, reverse, take, ◌+◌, slice_index_or, slice_set, Option, Some, None, refl, sym, ap, ◌∙◌, arith, inl, inr}
 use Rattle.std.specs.List.{find}
 use Rattle.std.specs.Option.{option_map, option_or, unwrap_or}
-use Rattle.std.proofs.lemmas.Bool.{cases_eq, eq-eqb, ne_eqb}
+use Rattle.std.proofs.lemmas.Bool.{cases_eq, eq-eqb, ne_eqb, and_right}
 use Rattle.std.proofs.lemmas.Bool.Decides.{nat_tests}
 use Rattle.std.proofs.lemmas.Grind.{elements}
 use Rattle.std.proofs.lemmas.List.{reverse-append, take_more}
@@ -47,10 +47,6 @@ set_other cs i k c other = grind (arith, elements, other)
 pub set_count : (cs : List Corner) (i : ℕ) (c : Corner) → length (slice_set cs i c) ≡ length cs
 set_count cs i c = grind (arith, elements)
 
-and_other : (a b : Bool) → b ≡ false → (a && b) ≡ false
-and_other true b e = e
-and_other false b e = refl
-
 -- an atomic box is put where its piece stands
 pub set_is : (cs : List Corner) (p : LinePiece) → is_atomic p.kind ≡ true → p.node < length cs → (k : ℕ) → k < length cs
     → corner_at (slice_set cs p.node (corner_of_piece p)) k ≡ corner_among (p ∷ []) k (corner_at cs k)
@@ -58,7 +54,7 @@ set_is cs p atomic within k lt = elim (cases_eq p.node k) [
   | inl same ↦ (let named : (p.node == k) ≡ true = eq-eqb p.node k same in
       let is : is_atomic_of k p ≡ true = rw (atomic, named) refl in
       rw (← same) (set_here cs p.node (corner_of_piece p) within) ∙ this_piece p k (corner_at cs k) is)
-  | inr other ↦ (let is : is_atomic_of k p ≡ false = and_other (is_atomic p.kind) (p.node == k) (ne_eqb p.node k other) in
+  | inr other ↦ (let is : is_atomic_of k p ≡ false = and_right (is_atomic p.kind) (p.node == k) (ne_eqb p.node k other) in
       set_other cs p.node k (corner_of_piece p) other ∙ other_piece p k (corner_at cs k) is)
 ]
 

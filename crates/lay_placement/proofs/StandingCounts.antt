@@ -1,7 +1,7 @@
 -- The placement of a formatting context has a standing for each of its boxes.
 use Rattle.std.proofs.Common.{◌≡◌, ◌<◌, ℕ, zero, suc, List, [], ◌∷◌, length, length-append, refl, sym, ap, ◌∙◌, arith, inl, inr}
 use Rattle.std.proofs.lemmas.Bool.{cases_lt}
-use Rattle.lay_doc.proofs.OneStyles.{same_list}
+use Rattle.std.proofs.lemmas.List.{ext_get_or}
 use Rattle.lay_flow_boxes.specs.PlaceInputs.{PlaceInput}
 use Rattle.lay_placements.specs.declared.standing.Standing.{Standing}
 use Rattle.lay_placements.specs.Placements.{Placement}
@@ -29,4 +29,4 @@ standing_in i p (suc n) k lt = elim (cases_lt k n) [
 -- a column of the standings of all boxes is the one that is defined
 pub all_standings : (i : PlaceInput) (p : ContextPlaces) (ss : List Standing) (n : ℕ) → length ss ≡ n → ((k : ℕ) → k < n → standing_at ss k ≡ standing_of_box i p k) → ss ≡ standings_to i p n
 all_standings i p ss n counted each =
-    same_list no_standing ss (standings_to i p n) (counted ∙ sym (length_standings i p n)) (λ k lt. (let within : k < n = omega (arith, lt, counted) in each k within ∙ sym (standing_in i p n k within)))
+    ext_get_or no_standing ss (standings_to i p n) (counted ∙ sym (length_standings i p n)) (λ k lt. (let within : k < n = omega (arith, lt, counted) in each k within ∙ sym (standing_in i p n k within)))

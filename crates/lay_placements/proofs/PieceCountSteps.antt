@@ -1,6 +1,6 @@
 -- How many pieces are of a kind and a node, with one more.
 use Rattle.std.proofs.Common.{◌≡◌, ◌∙◌, ◌≢◌, ℕ, zero, suc, take, drop, ap, ◌+◌, ◌<◌, ◌≤◌, ◌==◌, ◌&&◌, List, [], ◌∷◌, ◌++◌, length, length-append, refl, sym, arith, inl, inr, Bool, true, false, if◌then◌else◌}
-use Rattle.std.proofs.lemmas.Bool.{cases_eq, eq-eqb, ne_eqb}
+use Rattle.std.proofs.lemmas.Bool.{cases_eq, eq-eqb, ne_eqb, and_right}
 use Rattle.lay_frag.specs.declared.frag.Frag.{Frag}
 use Rattle.lay_frag.specs.declared.frag.FragKind.{FragKind}
 use Rattle.lay_frag.specs.declared.frag.FragKind.TheVariants.{Box, Line, Text}
@@ -43,10 +43,6 @@ other_eq j k other = ne_eqb j k other
 both_true : (a b : Bool) → b ≡ true → (a && b) ≡ a
 both_true true b e = e
 both_true false b e = refl
-
-both_false : (a b : Bool) → b ≡ false → (a && b) ≡ false
-both_false true b e = e
-both_false false b e = refl
 
 -- the first of some pieces and those behind them
 pub count_both : (kind : FragKind) (id n : ℕ) (fs : List Frag) → count_of kind id (take n fs) + count_of kind id (drop n fs) ≡ count_of kind id fs
@@ -111,7 +107,7 @@ one_more fs f map next so_far many room here others = record {
     | inr other ↦ (let is : (f.node.0 == id) ≡ false = other_eq f.node.0 id (λ e. other (sym e)) in
         let more = count_more kind id (behind_first fs) (numbered fs f) in
         let all : behind_first (fs ++ numbered fs f ∷ []) ≡ behind_first fs ++ numbered fs f ∷ [] = one_behind FIRST_PIECES fs (numbered fs f) many in
-        let both = both_false (is_kind f.kind kind) (f.node.0 == id) is in
+        let both = and_right (is_kind f.kind kind) (f.node.0 == id) is in
         let kept = others id other in
         let was = so_far.each kind id in
         rw (all, more, both, kept) (omega (arith, was)))

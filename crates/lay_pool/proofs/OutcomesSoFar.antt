@@ -1,5 +1,6 @@
 -- What is kept while the outcomes of a batch are put together: those of the claims so far are there, each at its place.
-use Rattle.std.proofs.Common.{◌≡◌, ◌⊎◌, inl, inr, ⊎_elim, ℕ, zero, suc, ◌+◌, List, [], ◌∷◌, ◌++◌, length, slice_get, Option, Some, None, IfSome, refl, sym, ap, ◌∙◌, subst, arith, rules, append_assoc, length-append}
+use Rattle.std.proofs.Common.{◌≡◌, ◌⊎◌, inl, inr, ⊎_elim, ℕ, zero, suc, ◌+◌, List, [], ◌∷◌, ◌++◌, length, slice_get, Option, Some, None, IfSome, refl, sym, ap, ◌∙◌, subst, arith, append_assoc, length-append}
+use Rattle.std.proofs.lemmas.Option.{same_Some, none-some}
 use Rattle.lay_cell_work.specs.Claims.{Claim}
 use Rattle.lay_cell_work.specs.declared.claim_lists.outcome.Outcome.{Outcome}
 use Rattle.lay_cell_work.specs.ClaimLists.Outcomes.{IsOutcomeAt, IsOutcomeOf, IsWorkOf, Work}
@@ -17,16 +18,10 @@ middle_at : {X : Type 0} (xs ys : List X) (x : X) → slice_get (xs ++ x ∷ ys)
 middle_at [] ys x = refl
 middle_at (a ∷ xs) ys x = middle_at xs ys x
 
-some_one : {A : Type 0} (a b : A) → Some a ≡ Some b → a ≡ b
-some_one a b e = grind (rules, e)
-
-none_some : {A : Type 0} (a : A) → None ≡ Some a → ⊥
-none_some a e = grind (rules, e)
-
 -- what stands in a list with one more stood in it before, or is the last one
 snoc_at : {X : Type 0} (xs : List X) (x : X) (i : ℕ) (y : X) → slice_get (xs ++ x ∷ []) i ≡ Some y → (slice_get xs i ≡ Some y) ⊎ ((i ≡ length xs) × (x ≡ y))
-snoc_at [] x zero y h = inr (refl, some_one x y h)
-snoc_at [] x (suc i) y h = absurd (none_some y h)
+snoc_at [] x zero y h = inr (refl, same_Some x y h)
+snoc_at [] x (suc i) y h = absurd (none-some y h)
 snoc_at (a ∷ xs) x zero y h = inl h
 snoc_at (a ∷ xs) x (suc i) y h = ⊎_elim (λ g. inl g) (λ (g : (i ≡ length xs) × (x ≡ y)). inr (ap suc g.0, g.1)) (snoc_at xs x i y h)
 
@@ -40,7 +35,7 @@ noted_at claims c place notes at noted d h = of_done d (noted place d h)
   where
     of_done : (d : Option Work) → IsOfPlace claims place d → IfSome d (IsWorkOf c)
     of_done None p = tt
-    of_done (Some e) p = subst (λ z. IsWorkOf z e) (some_one p.0 c (sym p.1 ∙ at)) p.2
+    of_done (Some e) p = subst (λ z. IsWorkOf z e) (same_Some p.0 c (sym p.1 ∙ at)) p.2
 
 pub drained_more : (claims yielded rest : List Claim) (c : Claim) (place : ℕ) (notes notes' : List (Option (Option Work))) (os os' : List Outcome) (o : Outcome)
     → IsDrained claims yielded (c ∷ rest) place notes os → IsOutcomeOf c o → os' ≡ os ++ o ∷ []

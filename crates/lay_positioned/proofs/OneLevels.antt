@@ -2,7 +2,7 @@
 -- to lower ones.
 use Rattle.std.proofs.Common.{◌≡◌, ℕ, zero, suc, ◌+◌, ◌<◌, ◌≤◌, Bool, true, List, length, slice_index, sym, ap, ◌∙◌, arith, inl, inr}
 use Rattle.std.proofs.lemmas.Bool.{cases_lt}
-use Rattle.lay_doc.proofs.OneStyles.{same_list}
+use Rattle.std.proofs.lemmas.List.{ext_get_or}
 use Rattle.lay_contexts.specs.FormattingContexts.{AreFormattingContexts, FormattingContext, formatting_context_at}
 use Rattle.lay_positioned.specs.Absolute.{is_absolute, is_fixed}
 use Rattle.lay_positioned.specs.Laws.{OneLevelCount, OneLevels, WaysLeadDown, WaysLeadOut}
@@ -19,7 +19,7 @@ module _ (contexts : List FormattingContext) (are : AreFormattingContexts contex
   ]
 
   pub one_column : (x y : List ℕ) → HasLevels contexts x → HasLevels contexts y → x ≡ y
-  one_column x y a b = same_list 0 x y (a.count ∙ sym b.count) (λ i lt. levels_before x y a b (length contexts) (omega arith) i (omega (arith, a.count)))
+  one_column x y a b = ext_get_or 0 x y (a.count ∙ sym b.count) (λ i lt. levels_before x y a b (length contexts) (omega arith) i (omega (arith, a.count)))
 
   -- the level of an inner one is that of the one around it and its own
   pub level_inside : (levels : List ℕ) → HasLevels contexts levels → (i : ℕ) → 0 < i → i < length contexts

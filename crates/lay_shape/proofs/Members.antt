@@ -6,10 +6,6 @@ use Rattle.std.specs.Option.{option_map}
 use Rattle.std.specs.List.{range_with_len}
 use Rattle.lay_cells.specs.Shapes.{IsIn}
 
-pub bool_cases : (b : Bool) → (b ≡ true) ⊎ (b ≡ false)
-bool_cases true = inl refl
-bool_cases false = inr refl
-
 module _ {X : Type 0} where
   pub in_none : (x : X) → IsIn [] x → ⊥
   in_none x has = none-some x has.1

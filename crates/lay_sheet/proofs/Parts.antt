@@ -1,12 +1,9 @@
 -- The first part of a block where no brace is opened before it ends.
-use Rattle.std.proofs.Common.{◌≡◌, ◌<◌, ◌+◌, ◌==◌, ℕ, zero, suc, refl, sym, rules, Bool, true, false, List, [], ◌∷◌, Some, ◌-◌, ◌∙◌, ap, length, take, drop, slice_index, add-one, arith}
+use Rattle.std.proofs.Common.{◌≡◌, ◌<◌, ◌+◌, ◌==◌, ℕ, zero, suc, sym, rules, Bool, true, false, List, [], ◌∷◌, Some, ◌-◌, ◌∙◌, ap, length, take, drop, slice_index, add-one, arith}
 use Rattle.std.proofs.lemmas.Grind.{common_steps}
+use Rattle.std.proofs.lemmas.Bool.{false_from_ne_true}
 use Rattle.memchr.specs.Find.{IsFirstByte, is_byte3}
 use Rattle.lay_sheet.specs.Pieces.{block_to, behind_block, part_to, behind_part}
-
-pub not_true : (b : Bool) → (b ≡ true → ⊥) → b ≡ false
-not_true true unless = absurd (unless refl)
-not_true false _ = refl
 
 -- a brace or a semicolon
 abbrev is_sign : ℕ → Bool
@@ -64,7 +61,7 @@ block-some (b ∷ bs) (suc end) within none stops =
 -- where the first brace or semicolon of a text opens nothing
 module _ (text : List ℕ) (end : ℕ) (found : IsFirstByte (is_byte3 123 125 59) text (Some end)) (unopened : (slice_index text end == 123) ≡ false) where
   none : NoneBefore text end
-  none k below = not_true (is_sign (slice_index text k)) (found.0.before k (omega arith) below)
+  none k below = false_from_ne_true (is_sign (slice_index text k)) (found.0.before k (omega arith) below)
 
   within : end < length text
   within = found.0.high

@@ -2,6 +2,7 @@
 use Rattle.std.proofs.Common.{◌≡◌, ◌++◌, Bool, true, false, cond, if◌then◌else◌, ◌&&◌, ◌||◌, not, List, [], ◌∷◌, Option, Some, None, refl, sym, ap, ◌∙◌, append_assoc, append-nil}
 use Rattle.std.specs.List.{filter}
 use Rattle.std.proofs.lemmas.List.Elements.{filter-append}
+use Rattle.std.proofs.lemmas.Bool.{not-true, not-false}
 use Rattle.lay_space.specs.declared.tokens.Token.{Token}
 use Rattle.lay_space.specs.declared.tokens.Token.TheVariants.{Cluster, TextEnd, Atomic, Start, End, Float, Anchor}
 use Rattle.lay_space.specs.declared.breaks.Entry.{Entry}
@@ -87,14 +88,6 @@ keeps_all : (p : Token → Bool) (Holds : Bool → Bool → List Entry → Type 
     → filter p (content_of (entries_of xs)) ≡ filter p xs
 keeps_all p Holds stays grows fresh xs = keeps p Holds stays grows fresh None false [] (broken false xs) tt ∙ ap (filter p) (content_broken false xs)
 
-off : (b : Bool) → not b ≡ true → b ≡ false
-off true e = absurd cc
-off false e = refl
-
-on : (b : Bool) → not b ≡ false → b ≡ true
-on true e = refl
-on false e = absurd cc
-
 clash : (b : Bool) → b ≡ true → b ≡ false → ⊥
 clash true t f = absurd cc
 clash false t f = absurd cc
@@ -121,19 +114,19 @@ WaitsInFlow f started held = started ≡ false → passing in_flow held ≡ []
 
 flow_stays : Stays in_flow WaitsInFlow
 flow_stays (Cluster c) f started held is back passes = absurd cc
-flow_stays TextEnd f started held is back passes = is (off started back)
+flow_stays TextEnd f started held is back passes = is (not-true started back)
 flow_stays (Atomic n m) f started held is back passes = absurd cc
 flow_stays (Start n takes) f started held is back passes = absurd cc
-flow_stays (End n) f started held is back passes = is (off started back)
+flow_stays (End n) f started held is back passes = is (not-true started back)
 flow_stays (Float n) f started held is back passes = absurd cc
 flow_stays (Anchor n) f started held is back passes = absurd cc
 
 flow_grows : Grows WaitsInFlow
 flow_grows (Cluster c) f started held is stays can = absurd cc
-flow_grows TextEnd f started held is stays can = λ e. absurd (clash started (on started stays) (left_off started false e))
+flow_grows TextEnd f started held is stays can = λ e. absurd (clash started (not-false started stays) (left_off started false e))
 flow_grows (Atomic n m) f started held is stays can = absurd cc
 flow_grows (Start n takes) f started held is stays can = λ e. absurd (clash true refl (right_off started true e))
-flow_grows (End n) f started held is stays can = λ e. absurd (clash started (on started stays) (left_off started false e))
+flow_grows (End n) f started held is stays can = λ e. absurd (clash started (not-false started stays) (left_off started false e))
 flow_grows (Float n) f started held is stays can = λ e. none_more in_flow held (Float n) refl (is (left_off started false e))
 flow_grows (Anchor n) f started held is stays can = λ e. none_more in_flow held (Anchor n) refl (is (left_off started false e))
 
@@ -147,8 +140,8 @@ out_stays TextEnd f started held is back passes = absurd cc
 out_stays (Atomic n m) f started held is back passes = absurd cc
 out_stays (Start n takes) f started held is back passes = absurd cc
 out_stays (End n) f started held is back passes = absurd cc
-out_stays (Float n) f started held is back passes = is (off f back)
-out_stays (Anchor n) f started held is back passes = is (off f back)
+out_stays (Float n) f started held is back passes = is (not-true f back)
+out_stays (Anchor n) f started held is back passes = is (not-true f back)
 
 out_grows : Grows WaitsOut
 out_grows (Cluster c) f started held is stays can = absurd cc
@@ -156,8 +149,8 @@ out_grows TextEnd f started held is stays can = λ e. none_more is_out_of_flow h
 out_grows (Atomic n m) f started held is stays can = absurd cc
 out_grows (Start n takes) f started held is stays can = λ e. none_more is_out_of_flow held (Start n takes) refl (is e)
 out_grows (End n) f started held is stays can = λ e. none_more is_out_of_flow held (End n) refl (is e)
-out_grows (Float n) f started held is stays can = λ e. absurd (clash f (on f stays) e)
-out_grows (Anchor n) f started held is stays can = λ e. absurd (clash f (on f stays) e)
+out_grows (Float n) f started held is stays can = λ e. absurd (clash f (not-false f stays) e)
+out_grows (Anchor n) f started held is stays can = λ e. absurd (clash f (not-false f stays) e)
 
 abbrev pub is_met : Token → Bool
 is_met x = not (floats_pass x)
@@ -172,8 +165,8 @@ met_stays TextEnd f started held is back passes = absurd cc
 met_stays (Atomic n m) f started held is back passes = absurd cc
 met_stays (Start n takes) f started held is back passes = absurd cc
 met_stays (End n) f started held is back passes = absurd cc
-met_stays (Float n) f started held is back passes = is (off f back)
-met_stays (Anchor n) f started held is back passes = is (off f back)
+met_stays (Float n) f started held is back passes = is (not-true f back)
+met_stays (Anchor n) f started held is back passes = is (not-true f back)
 
 met_grows : Grows WaitsMet
 met_grows (Cluster c) f started held is stays can = absurd cc
@@ -181,8 +174,8 @@ met_grows TextEnd f started held is stays can = λ e. none_more is_met held Text
 met_grows (Atomic n m) f started held is stays can = absurd cc
 met_grows (Start n takes) f started held is stays can = λ e. none_more is_met held (Start n takes) (ap not can) (is e)
 met_grows (End n) f started held is stays can = λ e. none_more is_met held (End n) refl (is e)
-met_grows (Float n) f started held is stays can = λ e. absurd (clash f (on f stays) e)
-met_grows (Anchor n) f started held is stays can = λ e. absurd (clash f (on f stays) e)
+met_grows (Float n) f started held is stays can = λ e. absurd (clash f (not-false f stays) e)
+met_grows (Anchor n) f started held is stays can = λ e. absurd (clash f (not-false f stays) e)
 
 pub breaks_keep_content_lem : BreaksKeepContent
 breaks_keep_content_lem xs = record {

@@ -15,10 +15,6 @@ pub record IsLeft (m : Mode) (text : List ℕ) (before : Bool) (rest : List ℕ)
   pub space : ends_in_space state.after_space (left_over m state.after_linefeed state.after_space (chars rest)) ≡ ends_in_space before (left_over m false before (chars text))
   pub row : IfSome state.row (λ b. runs_to_linefeed (chars rest) ≡ b)
 
--- the next character of what is left
-pub chars_next : (rest after : List ℕ) (c : ℕ) → IsUtf8 rest → rest ≡ encode c ++ after → chars rest ≡ c ∷ chars after
-chars_next rest after c utf8 e = chars_past_char rest after c utf8 e
-
 pub chars_none : (rest : List ℕ) → length rest ≡ 0 → chars rest ≡ []
 chars_none [] e = chars-nil
 chars_none (b ∷ bs) e = absurd (omega (arith, e))

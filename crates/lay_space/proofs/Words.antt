@@ -1,5 +1,6 @@
 -- White space that goes leaves the words, and white space between them.
 use Rattle.std.proofs.Common.{◌≡◌, ℕ, ◌==◌, ◌&&◌, ◌||◌, Bool, true, false, if◌then◌else◌, List, [], ◌∷◌, map, refl, sym, ap, ◌∙◌, subst}
+use Rattle.std.proofs.lemmas.Bool.{or_right, and_right}
 use Rattle.lay_space.specs.declared.item.Mode.{Mode}
 use Rattle.lay_space.specs.Modes.{joins_lines}
 use Rattle.lay_space.specs.WhiteSpace.{is_blank, runs_to_linefeed, strip, as_space, squeeze, ends_in_space}
@@ -21,10 +22,6 @@ or_second : (a b : Bool) → (a || b) ≡ false → b ≡ false
 or_second true true e = e
 or_second true false e = refl
 or_second false b e = e
-
-or_on : (a b : Bool) → b ≡ true → (a || b) ≡ true
-or_on true b e = refl
-or_on false b e = e
 
 -- the words of a row of white space, and of another character
 white_words : (b : Bool) (c : ℕ) (cs : List ℕ) → is_white c ≡ true → words b (c ∷ cs) ≡ (if b then words true cs else (32 ∷ words true cs))
@@ -81,14 +78,10 @@ white_char m true b c ys cs before cw rest = one (as_space m c == 32)
     one true = dropped b c (squeeze true ys) cs (before refl) cw (rest true)
     one false = both_white b (as_space m c) c (squeeze (as_space m c == 32) ys) cs (white_stays m c cw) cw (rest (as_space m c == 32))
 
-and_off : (a b : Bool) → b ≡ false → (a && b) ≡ false
-and_off true b e = e
-and_off false b e = refl
-
 plain_squeezed : (a : Bool) (c : ℕ) (ys : List ℕ) → is_white c ≡ false → squeeze a (c ∷ ys) ≡ c ∷ squeeze false ys
 plain_squeezed a c ys e =
     let other : (c == 32) ≡ false = or_second (c == 9 || c == 13) (c == 32) (or_first (is_blank c) (c == 10) e) in
-    ap (λ k. if k then squeeze a ys else (c ∷ squeeze (c == 32) ys)) (and_off a (c == 32) other) ∙ ap (λ k. c ∷ squeeze k ys) other
+    ap (λ k. if k then squeeze a ys else (c ∷ squeeze (c == 32) ys)) (and_right a (c == 32) other) ∙ ap (λ k. c ∷ squeeze k ys) other
 
 plain_char : (m : Mode) (a b : Bool) (c : ℕ) (ys cs : List ℕ) → is_white c ≡ false → Same false (squeeze false ys) cs → Same b (squeeze a (as_space m c ∷ ys)) (c ∷ cs)
 plain_char m a b c ys cs cp same =
@@ -100,7 +93,7 @@ opens_white d cs e = one (is_blank d) refl e
   where
     one : (t : Bool) → is_blank d ≡ t → (if t then runs_to_linefeed cs else d == 10) ≡ true → is_white d ≡ true
     one true is e = ap (λ x. x || d == 10) is
-    one false is e = or_on (is_blank d) (d == 10) e
+    one false is e = or_right (is_blank d) (d == 10) e
 
 row_runs : (cs : List ℕ) → runs_to_linefeed cs ≡ true → (words false cs ≡ 32 ∷ words true cs) × (ends_in_white false cs ≡ ends_in_white true cs)
 row_runs [] e = absurd (never (sym e))
@@ -131,7 +124,7 @@ left_one m c cs l a b before feeds rest true true feed is drops fed = blank_drop
 left_one m c cs l a b before feeds rest true false feed is drops fed =
     white_char m a b c (map (as_space m) (strip l cs)) cs before (ap (λ x. x || c == 10) is) (λ next. rest l next true (λ e. refl) (λ e. refl))
 left_one m c cs l a b before feeds rest false drops true is dropping fed =
-    white_char m a b c (map (as_space m) (strip true cs)) cs before (or_on (is_blank c) (c == 10) fed) (λ next. rest true next true (λ e. refl) (λ e. refl))
+    white_char m a b c (map (as_space m) (strip true cs)) cs before (or_right (is_blank c) (c == 10) fed) (λ next. rest true next true (λ e. refl) (λ e. refl))
 left_one m c cs l a b before feeds rest false drops false is dropping fed =
     plain_char m a b c (map (as_space m) (strip false cs)) cs (ap (λ x. x || c == 10) is ∙ fed) (rest false false false (λ e. e) (λ e. e))
 
@@ -140,7 +133,7 @@ left_same m [] l a b before feeds = record { words = refl; ends = refl }
 left_same m (c ∷ cs) l a b before feeds = left_one m c cs l a b before feeds (left_same m cs) (is_blank c) (l || runs_to_linefeed cs) (c == 10) refl refl refl
 
 space_is_white : (c : ℕ) → (c == 32) ≡ true → is_white c ≡ true
-space_is_white c e = ap (λ x. (c == 9 || c == 13 || x) || c == 10) e ∙ ap (λ x. x || c == 10) (or_on (c == 9 || c == 13) true refl)
+space_is_white c e = ap (λ x. (c == 9 || c == 13 || x) || c == 10) e ∙ ap (λ x. x || c == 10) (or_right (c == 9 || c == 13) true refl)
 
 -- what stands behind a space stands behind white space
 pub ends_white : (a b : Bool) (cs : List ℕ) → (a ≡ true → b ≡ true) → ends_in_space a cs ≡ true → ends_in_white b cs ≡ true

@@ -1,5 +1,5 @@
 -- Columns that grow by one entry, and columns that agree.
-use Rattle.std.proofs.Common.{◌≡◌, ℕ, suc, ◌+◌, ◌<◌, List, [], ◌∷◌, ◌++◌, length, get_or, refl, sym, ◌∙◌, subst, arith, inl, inr}
+use Rattle.std.proofs.Common.{◌≡◌, ℕ, suc, ◌+◌, ◌<◌, List, [], ◌∷◌, ◌++◌, length, get_or, sym, ◌∙◌, subst, arith, inl, inr}
 use Rattle.std.proofs.Math.ListN.{get_or-append}
 use Rattle.std.proofs.Math.Seq.{get_or-append_seam}
 use Rattle.std.proofs.lemmas.Bool.{cases_lt}
@@ -14,13 +14,3 @@ one_more P d xs x n counted each last k less = elim (cases_lt k n) [
       let read : get_or (xs ++ x ∷ []) k d ≡ x = subst (λ (j : ℕ). get_or (xs ++ x ∷ []) j d ≡ x) (counted ∙ sym q) (get_or-append_seam xs x [] d) in
       subst (P k) (sym read) (subst (λ (j : ℕ). P j x) (sym q) last))
 ]
-
--- columns that agree at each place are one
-pub same_list : {X : Type 0} (d : X) (xs ys : List X) → length xs ≡ length ys → ((k : ℕ) → k < length xs → get_or xs k d ≡ get_or ys k d) → xs ≡ ys
-same_list d [] [] e same = refl
-same_list d [] (y ∷ ys) e same = absurd (omega (arith, e))
-same_list d (x ∷ xs) [] e same = absurd (omega (arith, e))
-same_list d (x ∷ xs) (y ∷ ys) e same =
-    let head : x ≡ y = same 0 (omega arith) in
-    let tail : xs ≡ ys = same_list d xs ys (omega (arith, e)) (λ k lt. same (suc k) (omega (arith, lt))) in
-    rw (head, tail) refl

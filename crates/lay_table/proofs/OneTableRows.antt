@@ -1,5 +1,6 @@
 -- A table has one list of rows: each of their workings has one value beside the ones before it.
 use Rattle.std.proofs.Common.{◌≡◌, ◌<◌, List, length, map, sym, ap, ◌∙◌, subst, arith}
+use Rattle.std.proofs.lemmas.List.{ext_get_or}
 use Rattle.lay_units.specs.declared.length.Unit.{Unit as Length}
 use Rattle.lay_grid.specs.declared.heights.RowsIn.{RowsIn}
 use Rattle.lay_grid.specs.RowBaselines.{AreRowBaselines}
@@ -13,11 +14,10 @@ use Rattle.lay_table.specs.RowNeeds.{needs_of, rows_in}
 use Rattle.lay_table.specs.TableInputs.{TableInput, grid_of}
 use Rattle.lay_table.specs.TableRows.{AreTracks, HaveCellSizes, bottoms_of, used_size}
 use Rattle.lay_table.specs.Tracks.{Tracks}
-use Rattle.lay_table.proofs.ColumnEntries.{same_list}
 
 one_cell_list : (i : TableInput) (x y : List BoxSizes) → HaveCellSizes i x → HaveCellSizes i y → x ≡ y
 one_cell_list i x y a b =
-    same_list no_sizes x y (a.count ∙ sym b.count)
+    ext_get_or no_sizes x y (a.count ∙ sym b.count)
     (λ c less. (let within : c < length (grid_of i).cells = omega (arith, less, a.count) in one_cell_sizes_lem _ _ _ _ _ (a.each c within) (b.each c within)))
 
 one_tracks : (rows : RowsIn) (t u : Tracks) → AreTracks rows t → AreTracks rows u → t ≡ u

@@ -3,10 +3,10 @@ use Rattle.std.proofs.Common.{◌≡◌, ℕ, zero, suc, ◌+◌, ◌<◌, ◌==
 use Rattle.std.proofs.Math.ListN.{get_or-append}
 use Rattle.std.proofs.Math.Seq.{get_or-append_seam}
 use Rattle.std.proofs.lemmas.Bool.{cases_lt}
+use Rattle.std.proofs.lemmas.List.{ext_get_or}
 use Rattle.lay_placements.specs.declared.standing.Standing.{Standing}
 use Rattle.lay_placements.specs.Standings.{no_standing, standing_at}
 use Rattle.lay_table.specs.TableInputs.{TableInput}
-use Rattle.lay_table.proofs.ColumnEntries.{same_list}
 use Rattle.lay_table.specs.PlaceBounds.{AreStandings}
 use Rattle.lay_table.specs.TablePlacements.{standings_to}
 use Rattle.lay_table.specs.TableStandings.{TablePlaces, number_in, standing_by, standing_of}
@@ -35,5 +35,5 @@ each_to i p (suc n) k less = elim (cases_lt k n) [
 
 pub are_all : (i : TableInput) (p : TablePlaces) (standings : List Standing) → AreStandings i p standings → standings ≡ standings_to i p (length i.boxes)
 are_all i p standings are =
-    same_list no_standing standings (standings_to i p (length i.boxes)) (are.count ∙ sym (count_to i p (length i.boxes)))
+    ext_get_or no_standing standings (standings_to i p (length i.boxes)) (are.count ∙ sym (count_to i p (length i.boxes)))
     (λ k less. (let within : k < length i.boxes = omega (arith, less, are.count) in are.each k within ∙ sym (each_to i p (length i.boxes) k within)))

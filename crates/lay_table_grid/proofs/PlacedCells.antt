@@ -2,6 +2,7 @@
 use Rattle.std.proofs.Common.{◌≡◌, ℕ, zero, suc, ◌+◌, ◌<◌, ◌≤◌, cond, nat_eq, List, [], ◌∷◌, ◌++◌, length, get_or, refl, sym, ap, ◌∙◌, subst, arith, All, eq-eqb}
 use Rattle.std.specs.Prelude.{⊤}
 use Rattle.std.proofs.lemmas.List.{length-append, length-map}
+use Rattle.std.proofs.lemmas.List.Elements.{All-tail}
 use Rattle.lay_box_tree.specs.declared.box_tree.BoxNode.{BoxNode}
 use Rattle.lay_grid.specs.declared.cells.Area.{Area}
 use Rattle.lay_grid.specs.declared.cells.Cell.{Cell}
@@ -51,9 +52,6 @@ both_some : (xs ys : List Area) → AreSome xs → AreSome ys → AreSome (xs ++
 both_some [] ys p q = q
 both_some (x ∷ xs) ys p q = (p.0, both_some xs ys p.1 q)
 
-rest_of : {X : Type 0} (P : X → Type 0) (x : X) (xs : List X) → All P (x ∷ xs) → All P xs
-rest_of P x xs all = λ k d less. all (suc k) d (omega arith)
-
 some_in_row : (r left : ℕ) (spans : List Span) → 1 ≤ left → All (λ (span : Span). 1 ≤ span.rows) spans → All (λ (span : Span). 1 ≤ span.columns) spans
     → AreSome (areas_in_row r left spans)
 some_in_row r left [] some rows columns = tt
@@ -61,7 +59,7 @@ some_in_row r left (span ∷ spans) some rows columns =
     let a = rows 0 span (omega arith) in
     let b = columns 0 span (omega arith) in (
       record { rows = omega arith; columns = b },
-      some_in_row r left spans some (rest_of (λ (span : Span). 1 ≤ span.rows) span spans rows) (rest_of (λ (span : Span). 1 ≤ span.columns) span spans columns),
+      some_in_row r left spans some (All-tail (λ (span : Span). 1 ≤ span.rows) span spans rows) (All-tail (λ (span : Span). 1 ≤ span.columns) span spans columns),
     )
 
 own_group : (group : ℕ) (rest : ℕ) → 1 ≤ cond (nat_eq group group) (1 + rest) 0

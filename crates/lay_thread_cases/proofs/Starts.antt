@@ -1,20 +1,14 @@
 -- Passes of editors that may make one call each.
-use Rattle.std.proofs.Common.{◌≡◌, ℕ, zero, suc, ◌<◌, [], ◌∷◌, List, Some, None, slice_get, slice_index_or, sym, subst, ap, arith, rules}
+use Rattle.std.proofs.Common.{◌≡◌, ℕ, zero, suc, ◌<◌, [], ◌∷◌, List, Some, slice_get, slice_index_or, sym, subst, ap, arith}
 use Rattle.std.specs.List.{All}
-use Rattle.std.proofs.lemmas.Option.{slice_get-get_or}
+use Rattle.std.proofs.lemmas.Option.{slice_get-get_or, none-some, same_Some}
 use Rattle.lay_board.specs.Passes.{AreNew, EngineOf, PassOf}
 use Rattle.lay_board.specs.declared.views.Origin.{Origin}
 
-none_some : {A : Type 0} (a : A) → None ≡ Some a → ⊥
-none_some a e = grind (rules, e)
-
-some_one : {A : Type 0} (a b : A) → Some a ≡ Some b → a ≡ b
-some_one a b e = grind (rules, e)
-
 one_call : (i left : ℕ) → slice_get (1 ∷ 1 ∷ []) i ≡ Some left → 0 < left
-one_call zero left e = let is = some_one 1 left e in omega (arith, is)
-one_call (suc zero) left e = let is = some_one 1 left e in omega (arith, is)
-one_call (suc (suc i)) left e = absurd (none_some left e)
+one_call zero left e = let is = same_Some 1 left e in omega (arith, is)
+one_call (suc zero) left e = let is = same_Some 1 left e in omega (arith, is)
+one_call (suc (suc i)) left e = absurd (none-some left e)
 
 module _ (engine : EngineOf) (origin : Origin) (calls : List ℕ) (passes : List PassOf)
     (are_new : AreNew engine.table origin calls passes) where

@@ -12,11 +12,12 @@ use Rattle.clap.specs.Takes.{is_given}
 use Rattle.clap.specs.Faults.{given_default_fault, check_fault, defaults_fault, level_fault}
 use Rattle.clap.specs.Walk.{finished, has_row, nothing_held, rows_after, walk, walk_from, with_default}
 use Rattle.std.proofs.Common.{◌&&◌, not}
+use Rattle.std.proofs.lemmas.Bool.{or_parts}
 use Rattle.clap.specs.Walk.{Row, Text, Walk, idle, option, settled, used, walked}
 use Rattle.lay_words.specs.Grammar.{Pairs, name_in, options, waits_for, is_known, is_odd}
 use Rattle.lay_words.specs.Agree.{Gives}
 use Rattle.lay_words.specs.Command.{option_rule, leaf}
-use Rattle.lay_words.proofs.WordKinds.{Kind, no_true, by_bool, kind_of_word, flag, value}
+use Rattle.lay_words.proofs.WordKinds.{Kind, by_bool, kind_of_word, flag, value}
 use Rattle.lay_words.proofs.Turns.{St, pending_in, walk_of, KnownIn, rows_in, settled_is, settle_none, settle_hungry, Turns, Halts, some_not, attached, begun, stranger, hungry, stray, filled_in, none, one}
 use Rattle.lay_words.proofs.FoundValues.{gives_more}
 
@@ -106,10 +107,6 @@ wait_word name names w ws (value l s d) idles rows m got k g =
     (goes name names from (walk_of rows (Some (m, w ∷ [])) idle) w ws (options names None (got ++ (m, w) ∷ []) ws) (filled_in name names rows m w k l s d)
     (idles rows (one m w) (got ++ (m, w) ∷ []) k (gives_more rows got m w g)))
 
-pub or_false : (a b : Bool) → (a || b) ≡ false → (a ≡ false) × (b ≡ false)
-or_false true b e = absurd (no_true e)
-or_false false b e = (refl, e)
-
 pub ends_idle : (name : Text) (names : List Text) → Idle name names []
 unfolding clap_on_literals options
 ends_idle name names rows st got k g = (settle_none names rows st k, subst (λ h. Gives h.rows got) (sym (settled_is names rows st k)) g)
@@ -121,7 +118,7 @@ ends_waiting name names rows m got k g e = some_not _ _ (sym (settle_hungry name
 pub both : (name : Text) (names : List Text) (words : List Text) → list_any is_odd words ≡ false → Idle name names words × Waits name names words
 both name names [] odd = (ends_idle name names, ends_waiting name names)
 both name names (w ∷ ws) odd =
-    let tidy = or_false (is_odd w) (list_any is_odd ws) odd in
+    let tidy = or_parts (is_odd w) (list_any is_odd ws) odd in
     let ih = both name names ws tidy.1 in
     let kind_of_w = kind_of_word w tidy.0 in
     (idle_word name names w ws kind_of_w ih.0 ih.1, wait_word name names w ws kind_of_w ih.0)

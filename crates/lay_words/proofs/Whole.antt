@@ -16,6 +16,7 @@ use Rattle.clap.specs.Faults.{entered_fault}
 use Rattle.clap.specs.Walk.{Names, answers_to}
 use Rattle.clap.specs.Walk.{value as step_value}
 use Rattle.std.proofs.Common.{append_assoc, is_some, option_map}
+use Rattle.std.proofs.lemmas.Bool.{or_parts}
 use Rattle.clap.specs.Faults.{check_fault, defaults_fault, level_fault}
 use Rattle.clap.specs.Walk.{finished, nothing_held, rows_after, walk_from}
 use Rattle.clap.specs.Walk.{Held, Row, Rule, Step, Text, Walk, idle, long_or_other, settled, short_or_plain, subcommand_met, subcommand_or_other, trailing, walked, word_met}
@@ -25,7 +26,7 @@ use Rattle.lay_words.specs.Agree.{Reads}
 use Rattle.lay_words.specs.Command.{our_app, option_rule, leaf}
 use Rattle.lay_words.proofs.WordKinds.{Kind, by_bool, kind_of_word, same_text_at, flag, value}
 use Rattle.lay_words.proofs.Turns.{some_not}
-use Rattle.lay_words.proofs.Leaves.{Agrees, or_first, or_false, or_nothing, leaf_agrees}
+use Rattle.lay_words.proofs.Leaves.{Agrees, or_first, or_nothing, leaf_agrees}
 
 abbrev pub stop_at : Text → List Text → Walk
 stop_at n ws = record { held = nothing_held; waiting = idle; position = 1; is_trailing = false; stopped = Some (n, ws) }
@@ -208,7 +209,7 @@ not_parsed w ws r g h k s =
 pub reads : (words : List Text) → list_any is_odd words ≡ false → Reads (parsed words) (fault_of our_app words) (subcommand_of our_app words)
 reads [] odd = λ e. some_not kind.MissingSubcommand [] (sym none_fault ∙ e)
 reads (w ∷ ws) odd =
-    let tidy = or_false (is_odd w) (list_any is_odd ws) odd in
+    let tidy = or_parts (is_odd w) (list_any is_odd ws) odd in
     by_bool (bytes_eq (codes "run") w)
     (λ r. subst (ReadsFrom ws) (same_text_at (codes "run") w r) (reads_run ws tidy.1))
     (λ r. by_bool (bytes_eq (codes "gen") w)

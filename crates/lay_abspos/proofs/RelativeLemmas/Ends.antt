@@ -167,11 +167,6 @@ module _ (boxes : List BoxNode) (tree : IsTree (box_parents boxes)) where
         ])
       ]
 
--- a list with one more at its end
-pub length-longer : {X : Type 0} (xs : List X) (x : X) → length (xs ++ x ∷ []) ≡ length xs + 1
-length-longer [] x = omega arith
-length-longer (y ∷ ys) x = let e = length-longer ys x in omega (arith, e)
-
 read-longer : {X : Type 0} (xs : List X) (x d : X) (i : ℕ) → i < length xs → get_or (xs ++ x ∷ []) i d ≡ get_or xs i d
 read-longer [] x d i lt = absurd (omega (arith, lt))
 read-longer (y ∷ ys) x d zero lt = refl

@@ -1,7 +1,7 @@
 -- The boxes of a formatting context are moved in one way.
 use Rattle.std.proofs.Common.{◌≡◌, ℕ, zero, suc, ◌<◌, ◌≤◌, List, length, slice_index_or, Option, None, sym, ap, ◌∙◌, arith, inl, inr}
 use Rattle.std.proofs.lemmas.Bool.{cases_lt}
-use Rattle.lay_doc.proofs.OneStyles.{same_list}
+use Rattle.std.proofs.lemmas.List.{ext_get_or}
 use Rattle.lay_box_tree.specs.declared.box_tree.BoxNode.{BoxNode}
 use Rattle.lay_abspos.specs.Relative.FormerParents.{AreFormerParents}
 use Rattle.lay_abspos.proofs.RelativeLemmas.Nearest.{one_former_parent as one_former_parent_lem}
@@ -15,7 +15,7 @@ use Rattle.lay_abspos.proofs.RelativeLemmas.MoveSteps.{move_before}
 
 one_former_list : (boxes : List BoxNode) (a b : List (Option ℕ)) → AreFormerParents boxes a → AreFormerParents boxes b → a ≡ b
 one_former_list boxes a b are and =
-    same_list None a b (are.count ∙ sym and.count)
+    ext_get_or None a b (are.count ∙ sym and.count)
     (λ k lt. (let within : k < length boxes = omega (arith, lt, are.count) in one_former_parent_lem boxes k (slice_index_or a k None) (slice_index_or b k None) (are.each k within) (and.each k within)))
 
 -- moves agree from the own box on
@@ -32,4 +32,4 @@ moves_to boxes sizes m n are a b same (suc l) le k lt = elim (cases_lt k l) [
 pub one_column_of_moves_lem : OneColumnOfMoves
 one_column_of_moves_lem boxes sizes m n are a b =
     let same = one_former_list boxes a.formers b.formers a.are_formers b.are_formers in
-    same_list no_offset m n (a.count ∙ sym b.count) (λ k lt. moves_to boxes sizes m n are a b same (length boxes) (omega arith) k (omega (arith, lt, a.count)))
+    ext_get_or no_offset m n (a.count ∙ sym b.count) (λ k lt. moves_to boxes sizes m n are a b same (length boxes) (omega arith) k (omega (arith, lt, a.count)))

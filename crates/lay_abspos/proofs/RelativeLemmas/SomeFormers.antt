@@ -1,6 +1,7 @@
 -- What held each box before blocks broke it, there is always one such list.
 use Rattle.std.proofs.Common.{◌≡◌, ◌⊎◌, inl, inr, ℕ, zero, suc, ◌<◌, ◌≤◌, Bool, true, false, List, [], ◌∷◌, ◌++◌, length, slice_index_or, refl, subst, sym, arith, Option, None, Some}
-use Rattle.std.proofs.lemmas.Bool.{cases_lt}
+use Rattle.std.proofs.lemmas.Bool.{cases_lt, cases_Bool}
+use Rattle.std.proofs.lemmas.List.{length_push}
 use Rattle.lay_doc.specs.Tree.{IsTree, IsUnder, end_of}
 use Rattle.lay_doc.proofs.Subtrees.{has_subtree_lem}
 use Rattle.lay_box_tree.specs.BoxColumns.{box_parents}
@@ -9,11 +10,7 @@ use Rattle.lay_box_tree.specs.declared.box_tree.BoxNode.{BoxNode}
 use Rattle.lay_box_tree.proofs.BoxForests.{length-parents}
 use Rattle.lay_box_tree.specs.InlineParts.{id_at, is_inline_at, is_part_at}
 use Rattle.lay_abspos.specs.Relative.FormerParents.{AreFormerParents, IsFormerParent, WasIn}
-use Rattle.lay_abspos.proofs.RelativeLemmas.Ends.{each-longer, length-longer}
-
-cases_bool : (b : Bool) → (b ≡ true) ⊎ (b ≡ false)
-cases_bool true = inl refl
-cases_bool false = inr refl
+use Rattle.lay_abspos.proofs.RelativeLemmas.Ends.{each-longer}
 
 never : (b : Bool) → b ≡ true → b ≡ false → ⊥
 never true is not = cc
@@ -47,7 +44,7 @@ module _ (boxes : List BoxNode) (id p : ℕ) where
   next_before (suc n) = elim (next_before n) [
     | inl found ↦ inl (record { at = found.at; behind = found.behind; before = (let b = found.before in omega (arith, b)); part = found.part; first = found.first })
     | inr none ↦ elim (cases_lt p n) [
-      | inl low ↦ elim (cases_bool (is_part_at boxes id n)) [
+      | inl low ↦ elim (cases_Bool (is_part_at boxes id n)) [
         | inl is ↦ inl (record { at = n; behind = low; before = omega arith; part = is; first = none })
         | inr not ↦ inr (none_more n none (λ behind. not))
       ]
@@ -97,7 +94,7 @@ module _ (boxes : List BoxNode) (tree : IsTree (box_parents boxes)) (k : ℕ) (w
       ]
 
   was : (p : ℕ) → WasIn boxes p k ⊎ (WasIn boxes p k → ⊥)
-  was p = elim (cases_bool (is_inline_at boxes p)) [
+  was p = elim (cases_Bool (is_inline_at boxes p)) [
     | inr not ↦ inr (λ w. never (is_inline_at boxes p) w.part not)
     | inl part ↦ elim (cases_lt p k) [
       | inr high ↦ inr (λ w. let b = w.before in omega (arith, b, high))
@@ -155,7 +152,7 @@ formers_to boxes tree (suc n) le =
     let so_far = formers_to boxes tree n (omega (arith, le)) in
     let next = some_former boxes tree n (omega (arith, le)) in
     let counted = so_far.count in
-    let longer = length-longer so_far.formers next.0 in
+    let longer = length_push so_far.formers next.0 in
     record {
       formers = so_far.formers ++ next.0 ∷ [];
       count = omega (arith, counted, longer);

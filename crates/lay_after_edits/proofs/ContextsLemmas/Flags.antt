@@ -1,5 +1,5 @@
 -- Lists of flags.
-use Rattle.std.proofs.Common.{◌≡◌, ◌⊎◌, inl, inr, ℕ, zero, suc, ◌+◌, ◌<◌, Bool, true, false, List, [], ◌∷◌, ◌++◌, length, refl, ap, sym, ◌∙◌, arith}
+use Rattle.std.proofs.Common.{◌≡◌, inl, inr, ℕ, zero, suc, ◌+◌, ◌<◌, Bool, true, false, List, [], ◌∷◌, ◌++◌, length, refl, ap, sym, ◌∙◌, arith}
 use Rattle.std.proofs.lemmas.Bool.{cases_lt}
 use Rattle.std.proofs.lemmas.Grind.{elements}
 use Rattle.lay_after_edits.specs.Contexts.Links.{is_made}
@@ -24,10 +24,6 @@ mark-keeps at before after m k flag = elim (cases_lt k at) [
 pub is-false : (b : Bool) → (b ≡ true → false ≡ true) → b ≡ false
 is-false true h = sym (h refl)
 is-false false h = refl
-
-pub by-flag : (b : Bool) → (b ≡ true) ⊎ (b ≡ false)
-by-flag true = inl refl
-by-flag false = inr refl
 
 pub no-flag : (b : Bool) → b ≡ true → b ≡ false → false ≡ true
 no-flag b t f = sym f ∙ t

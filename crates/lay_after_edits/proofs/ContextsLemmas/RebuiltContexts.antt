@@ -1,5 +1,6 @@
 -- Contexts none of whose own nodes changed keep their boxes.
 use Rattle.std.proofs.Common.{◌≡◌, inl, inr, ℕ, ◌<◌, Bool, false, List, length, refl, ap, sym, ◌∙◌, arith, slice_index}
+use Rattle.std.proofs.lemmas.Bool.{cases_Bool}
 use Rattle.lay_style.specs.declared.style.Style.{Style}
 use Rattle.lay_style.specs.ComputedStyle.{style_at}
 use Rattle.lay_doc.specs.declared.node.Node.{Node}
@@ -16,7 +17,6 @@ use Rattle.lay_after_edits.specs.Contexts.Reach.{ArePlacesOf, IsAlike}
 use Rattle.lay_after_edits.specs.Contexts.Rebuilt.{AreRebuilt, SameBoxes}
 use Rattle.lay_after_edits.proofs.ContextsLemmas.AlikeBoxes.{AlikeNode}
 use Rattle.lay_after_edits.proofs.ContextsLemmas.BuiltSteps.{boxes-before, context-before}
-use Rattle.lay_after_edits.proofs.ContextsLemmas.Flags.{by-flag}
 use Rattle.lay_after_edits.proofs.ContextsLemmas.Restyling.{same-alike}
 use Rattle.lay_after_edits.proofs.ContextsLemmas.SameBoxes.{Stays, boxes-of-alike, boxes-stay}
 
@@ -34,7 +34,7 @@ module _ (d e : Document) (ss ts : List Style) (made : List Bool) (anew : AreMad
 
   module _ (alike : AreAlikeTo d.nodes e.nodes ss ts made (length d.nodes)) where
     alike-node : (k : ℕ) → k < length d.nodes → AlikeNode d.nodes e.nodes k
-    alike-node k lt = elim (by-flag (is_made made k)) [
+    alike-node k lt = elim (cases_Bool (is_made made k)) [
       | inl flag ↦ (let f = anew.nodes.form k lt in
           record { one = f.one; other = f.other; here = f.here; there = f.there; id = f.id; kind = f.kind; text = (alike k lt flag).text f.one f.other f.here f.there })
       | inr unflagged ↦ (let s = (stays-at k lt unflagged).content in
@@ -42,7 +42,7 @@ module _ (d e : Document) (ss ts : List Style) (made : List Bool) (anew : AreMad
     ]
 
     alike-style : (k : ℕ) → k < length d.nodes → IsAlike (style_at ss k) (style_at ts k)
-    alike-style k lt = elim (by-flag (is_made made k)) [
+    alike-style k lt = elim (cases_Bool (is_made made k)) [
       | inl flag ↦ (alike k lt flag).style
       | inr unflagged ↦ same-alike (style_at ss k) (style_at ts k) (anew.styles k lt unflagged)
     ]

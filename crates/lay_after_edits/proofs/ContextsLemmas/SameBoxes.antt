@@ -1,6 +1,7 @@
 -- Nodes that generate the same boxes by themselves with other styles: the same of them are contexts, with the same contexts around them.
 use Rattle.std.proofs.Common.{◌≡◌, inl, inr, ℕ, ◌<◌, List, length, ap, sym, subst, ◌∙◌, arith, IsTrue, Option, Some, slice_index}
 use Rattle.std.proofs.lemmas.Bool.{cases_lt}
+use Rattle.std.proofs.lemmas.Option.{slice_get_within as there}
 use Rattle.lay_style.specs.declared.style.Style.{Style}
 use Rattle.lay_style.specs.ComputedStyle.{style_at}
 use Rattle.lay_doc.specs.declared.node.Node.{Node}
@@ -10,7 +11,6 @@ use Rattle.lay_boxgen.specs.Contexts.{GeneratesBox, IsContextAt, below, box_at, 
 use Rattle.lay_boxgen.proofs.NodeColumns.{length-parents}
 use Rattle.lay_contexts.specs.ContextTree.{IsAround, boxes_of_place, further, parent, parent_of}
 use Rattle.lay_contexts.specs.OwnNodes.{AreOwnNodes, IsOwnNode, OwnNode, own_at}
-use Rattle.lay_contexts.proofs.OneStand.{there}
 use Rattle.lay_contexts.proofs.OwnBoxes.{own_nodes_decide}
 use Rattle.lay_contexts.proofs.EditedLemmas.OwnList.{are-own, own_nodes, own_places}
 use Rattle.lay_contexts.proofs.EditedLemmas.SameTrees.{SameNode}

@@ -1,5 +1,6 @@
 -- An edit keeps the styles outside of its stretch.
 use Rattle.std.proofs.Common.{◌≡◌, ℕ, zero, suc, ◌+◌, ◌<◌, List, length, refl, sym, ap, ◌∙◌, arith, subst, Option, None, Some, option_map, slice_index}
+use Rattle.std.proofs.lemmas.Option.{same_Some}
 use Rattle.lay_style.specs.declared.style.Style.{Style}
 use Rattle.lay_style.specs.Places.{place_of}
 use Rattle.lay_style.specs.ComputedStyle.{HasStyles}
@@ -26,9 +27,6 @@ use Rattle.lay_after_edits.proofs.StylesLemmas.RemovedNodes.{removed_moved}
 there : (nodes : List Node) (id p : ℕ) → place_of id (ids_of nodes) ≡ Some p → p < length nodes
 there nodes id p e = let h = place_within id (ids_of nodes) p e in omega (arith, h, length-ids nodes)
 
-some_is : {X : Type 0} (x y : X) → Some x ≡ Some y → x ≡ y
-some_is x y e = cc
-
 -- the stretch of nodes in a move from these nodes to those
 abbrev Moves : List Node → List Node → Stretch → Type 0
 Moves nodes news s = IsMoved (parents_of nodes) (parents_of news) (declarations_of nodes) (declarations_of news) s
@@ -39,7 +37,7 @@ restyled : (d : Document) (id : ℕ) (f : Node → Node) (s : Stretch) → IsDoc
 restyled d id f s is same None e none = absurd cc
 restyled d id f s is same (Some p) e stretch =
     let moved = changed_moved d.nodes p f is.tree same (there d.nodes id p e) in
-    subst (Moves d.nodes (after_change d id f).nodes) (some_is (subtree_at (parents_of d.nodes) p) s stretch) (rw e moved)
+    subst (Moves d.nodes (after_change d id f).nodes) (same_Some (subtree_at (parents_of d.nodes) p) s stretch) (rw e moved)
 
 -- a change of a text
 retexted : (d : Document) (id : ℕ) (t : List ℕ) → IsDocument d → (o : Option ℕ) → place_of id (ids_of d.nodes) ≡ o → text_fault d id (length t) ≡ None
@@ -59,7 +57,7 @@ grown d edit parent index new s is none stretch =
     let moved = inserted_moved d.nodes at (becomes new p (slice_index (depths_of d.nodes) p + 1)) is.tree (omega (arith, a)) (omega (arith, w, length-parents d.nodes)) in
     let same : Some (inserted_at at) ≡ Some s = sym (ap (option_map (λ (q : ℕ). inserted_at (slot_of (parents_of d.nodes) q index))) put.named) ∙ stretch in
     subst (λ (e : Document). Moves d.nodes e.nodes s) (sym (after_put d parent index new p put.named))
-    (subst (Moves d.nodes (inserted_below d p index new).nodes) (some_is (inserted_at at) s same) moved)
+    (subst (Moves d.nodes (inserted_below d p index new).nodes) (same_Some (inserted_at at) s same) moved)
 
 -- nodes taken out
 shrunk : (d : Document) (id : ℕ) (s : Stretch) → IsDocument d → (o : Option ℕ) → place_of id (ids_of d.nodes) ≡ o → remove_fault d id ≡ None
@@ -68,13 +66,13 @@ shrunk d id s is None e none stretch = absurd cc
 shrunk d id s is (Some zero) e none stretch = absurd (let h = rw e at none in cc)
 shrunk d id s is (Some (suc p)) e none stretch =
     let moved = removed_moved d.nodes (suc p) is.tree (omega arith) (there d.nodes id (suc p) e) in
-    subst (Moves d.nodes (after_remove d id).nodes) (some_is (removed_at (parents_of d.nodes) (suc p)) s stretch) (rw e moved)
+    subst (Moves d.nodes (after_remove d id).nodes) (same_Some (removed_at (parents_of d.nodes) (suc p)) s stretch) (rw e moved)
 
 edited_moves : (d : Document) (edit : Edit) (s : Stretch) → IsDocument d → fault d edit ≡ None → stretch_of d edit ≡ Some s → Moves d.nodes (after d edit).nodes s
 edited_moves d (SetStyle node decl) s is none stretch = restyled d node.0 (with_style decl) s is (λ n. refl) (place_of node.0 (ids_of d.nodes)) refl stretch
 edited_moves d (ClearStyle node property) s is none stretch = restyled d node.0 (without_style property) s is (λ n. refl) (place_of node.0 (ids_of d.nodes)) refl stretch
 edited_moves d (SetText node text) s is none stretch =
-    subst (Moves d.nodes (after_change d node.0 (with_text text)).nodes) (some_is (none_of (length d.nodes)) s stretch)
+    subst (Moves d.nodes (after_change d node.0 (with_text text)).nodes) (same_Some (none_of (length d.nodes)) s stretch)
     (retexted d node.0 text is (place_of node.0 (ids_of d.nodes)) refl none)
 edited_moves d (Insert parent index new) s is none stretch = grown d (Insert parent index new) parent.0 index new s is none stretch
 edited_moves d (Remove node) s is none stretch = shrunk d node.0 s is (place_of node.0 (ids_of d.nodes)) refl none stretch

@@ -3,7 +3,7 @@
 use Rattle.std.proofs.Common.{◌≡◌, ◌<◌, ◌≤◌, ◌+◌, ℕ, zero, suc, List, [], ◌∷◌, length, slice_get, slice_index_or, None, Some, refl, ap, sym, subst, ◌∙◌, arith, inl, inr}
 use Rattle.std.proofs.lemmas.Bool.{cases_lt}
 use Rattle.std.proofs.lemmas.Option.{slice_get-get_or}
-use Rattle.lay_doc.proofs.OneStyles.{same_list}
+use Rattle.std.proofs.lemmas.List.{ext_get_or}
 use Rattle.lay_context_sizes.specs.MeasuredContexts.{MeasuredContext, not_measured}
 use Rattle.lay_context_sizes.specs.ContextSizes.{SizedContext, not_sized}
 use Rattle.lay_context.specs.declared.input.Input.{Input}
@@ -66,9 +66,9 @@ module _ (one : OneLocal) (i : CellInput) (leads : LeadsInward i) where
     ]
 
   one_value : (v w : CellValue) → IsCellLocal i v → IsCellLocal i w → phase_of v ≡ phase_of w → v ≡ w
-  one_value (Widths ws) (Widths us) a b e = ap Widths (same_list not_measured ws us (a.count ∙ sym b.count) (λ r lt. widths_same ws us a b (length i.roots) r (omega arith)))
-  one_value (Sizes zs) (Sizes ys) a b e = ap Sizes (same_list not_sized zs ys (a.count ∙ sym b.count) (λ r lt. sizes_same zs ys a b (suc r) r (omega arith)))
-  one_value (Places ps) (Places qs) a b e = ap Places (same_list not_placed ps qs (a.count ∙ sym b.count) (λ r lt. places_same ps qs a b (length i.roots) r (omega arith)))
+  one_value (Widths ws) (Widths us) a b e = ap Widths (ext_get_or not_measured ws us (a.count ∙ sym b.count) (λ r lt. widths_same ws us a b (length i.roots) r (omega arith)))
+  one_value (Sizes zs) (Sizes ys) a b e = ap Sizes (ext_get_or not_sized zs ys (a.count ∙ sym b.count) (λ r lt. sizes_same zs ys a b (suc r) r (omega arith)))
+  one_value (Places ps) (Places qs) a b e = ap Places (ext_get_or not_placed ps qs (a.count ∙ sym b.count) (λ r lt. places_same ps qs a b (length i.roots) r (omega arith)))
   one_value (Widths ws) (Sizes ys) a b e = absurd cc
   one_value (Widths ws) (Places qs) a b e = absurd cc
   one_value (Sizes zs) (Widths us) a b e = absurd cc

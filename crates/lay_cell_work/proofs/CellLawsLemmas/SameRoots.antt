@@ -4,7 +4,7 @@ use Rattle.std.proofs.Common.{◌≡◌, ◌<◌, ◌≤◌, ◌+◌, ◌-◌, �
 use Rattle.std.specs.List.{range_with_len}
 use Rattle.std.proofs.lemmas.Bool.{cases_lt}
 use Rattle.std.proofs.lemmas.List.FromFn.{get_or-map-range_with_len, length-map-range_with_len}
-use Rattle.lay_doc.proofs.OneStyles.{same_list}
+use Rattle.std.proofs.lemmas.List.{ext_get_or}
 use Rattle.lay_box_tree.specs.BoxColumns.{box_at}
 use Rattle.lay_box_tree.specs.declared.box_tree.BoxNode.{BoxNode}
 use Rattle.lay_contexts.specs.Contexts.{boxes_in, context_at}
@@ -126,7 +126,7 @@ module _ (one_home : OneHome) (a b : Table) (is_a : IsTable a) (is_b : IsTable b
       let x = is_a.are_formatting_contexts.homes_are.each c same.within in
       let y = is_b.are_formatting_contexts.homes_are.each e same.there in
       let count : length HA ≡ length HB = x.count ∙ ap length same.boxes ∙ sym y.count in
-      same_list 0 HA HB count (λ k lt. one_home BA k (slice_index HA k) (slice_index HB k) (x.each k (let n = x.count in omega (arith, lt, n)))
+      ext_get_or 0 HA HB count (λ k lt. one_home BA k (slice_index HA k) (slice_index HB k) (x.each k (let n = x.count in omega (arith, lt, n)))
       (subst (λ (boxes : List BoxNode). IsHome boxes k (slice_index HB k)) (sym same.boxes) (y.each k (let n = y.count in omega (arith, lt, count, n)))))
 
   pub inside_same : (r : ℕ) → r < length BA → r < length BB
@@ -213,7 +213,7 @@ module _ (one_home : OneHome) (a b : Table) (is_a : IsTable a) (is_b : IsTable b
       ap (λ (i : ℕ). root_input medium a.formatting_contexts (workings_in a) (first_number a.contexts c) i phase) left
       ∙ each p.place p.before p.root
       ∙ ap (λ (i : ℕ). root_input medium b.formatting_contexts (workings_in b) (first_number b.contexts e) i phase) right) in
-      let roots : map f (range_with_len 0 n) ≡ map g (range_with_len 0 m) = same_list no_root (map f (range_with_len 0 n)) (map g (range_with_len 0 m)) (nf ∙ count ∙ sym ng)
+      let roots : map f (range_with_len 0 n) ≡ map g (range_with_len 0 m) = ext_get_or no_root (map f (range_with_len 0 n)) (map g (range_with_len 0 m)) (nf ∙ count ∙ sym ng)
       (λ s lt. get_or-map-range_with_len f 0 n s s no_root (omega (arith, lt, nf)) (omega arith) ∙ one s (omega (arith, lt, nf)) ∙ sym (get_or-map-range_with_len g 0 m s s no_root (omega (arith, lt, nf, count)) (omega arith))) in
       let key : key_of a.contexts c phase ≡ key_of b.contexts e phase = ap (λ (boxes : List BoxNode). record { node = (box_at boxes 0).node; phase = phase }) same.boxes in
       let put : CellKey → List RootInput → CellInput = λ k xs. record { key = k; roots = xs } in

@@ -2,6 +2,7 @@
 use Rattle.std.proofs.Common.{◌≡◌, inl, inr, ℕ, zero, suc, ◌+◌, ◌≤◌, List, [], ◌∷◌, map, slice_get, slice_set, Some, true, false, refl, rules, arith, ap, sym, subst, ◌∙◌}
 use Rattle.std.specs.Prelude.{option_map}
 use Rattle.std.proofs.lemmas.Bool.{false≢true}
+use Rattle.std.proofs.lemmas.Option.{same_Some}
 use Rattle.lay_cells.specs.Looks.{IsAt, IsGone}
 use Rattle.lay_cells.specs.Rows.{Row, Solved, State, entry_of}
 use Rattle.lay_cells.specs.Shapes.{IsShape}
@@ -14,7 +15,7 @@ use Rattle.lay_cells.specs.declared.answers.Finished.{Finished}
 use Rattle.lay_cells.specs.declared.answers.Finished.TheVariants as finished
 use Rattle.lay_cells.specs.declared.answers.Released.{Released as Answer}
 use Rattle.lay_cells.specs.declared.answers.Released.TheVariants as released
-use Rattle.lay_cells.proofs.Lists.{length-set, map_at, one_at, set_same, some_inj}
+use Rattle.lay_cells.proofs.Lists.{length-set, map_at, one_at, set_same}
 use Rattle.lay_cells.specs.Progress.Settled.{CleansAt, FinishedCellsAreClean, GrantedClaimsAreReleased, ReusedCellsAreClean, claim_number}
 use Rattle.lay_cells.proofs.ProgressLemmas.ChangedRows.{claims_keep_rows_lem}
 
@@ -61,7 +62,7 @@ module _ {K I V : Type 0} where
   claimed_now relates s sound i r q input (Granted n) number at h is =
       let row = sound.each r (i, at) in
       let o = open_of q (s.draws + 1) (ap (λ (z : Row K I V). z.claim) h.4) in
-      let e : number ≡ s.draws + 1 = sym (some_inj n number is) ∙ h.0 in
+      let e : number ≡ s.draws + 1 = sym (same_Some n number is) ∙ h.0 in
       let f : q.first ≡ r.first = ap (λ (z : Row K I V). z.first) h.4 in
       record {
         number_is = o.0 ∙ ap Some (sym e);
@@ -73,7 +74,7 @@ module _ {K I V : Type 0} where
   claimed_now relates s sound i r q input (Taken n) number at h is =
       let row = sound.each r (i, at) in
       let o = open_of q n (ap (λ (z : Row K I V). z.claim) h.2) in
-      let e : number ≡ n = sym (some_inj n number is) in
+      let e : number ≡ n = sym (same_Some n number is) in
       let f : q.first ≡ r.first = ap (λ (z : Row K I V). z.first) h.2 in
       let l : n ≡ r.last = row.opened n h.1 in
       record {
@@ -86,7 +87,7 @@ module _ {K I V : Type 0} where
   finish_now : (r q : Row K I V) (d : Solved K I V) (a : Finished) → IsOpenNow r d.number d.input → Finishes r d a q → (a ≡ finished.Cleaned) × (q.dirty ≡ false)
   finish_now r q d finished.Gone o h = absurd (let f = o.first in let l = h.0 in omega (arith, f, l))
   finish_now r q d (finished.Superseded n) o h = absurd (h.1 (o.number_is, o.given))
-  finish_now r q d finished.Stored o h = absurd (false≢true (some_inj false true (sym o.fresh ∙ h.2)))
+  finish_now r q d finished.Stored o h = absurd (false≢true (same_Some false true (sym o.fresh ∙ h.2)))
   finish_now r q d finished.Cleaned o h = (refl, ap (λ (z : Row K I V). z.dirty) h.3)
 
   give_back_now : (r q : Row K I V) (number : ℕ) (input : I) (a : Answer) → IsOpenNow r number input → GivesBack r number a q → a ≡ released.Released

@@ -1,6 +1,7 @@
 -- How often claims of cells were granted, through what is done to the cells.
 use Rattle.std.proofs.Common.{◌≡◌, ◌⊎◌, inl, inr, ℕ, zero, suc, ◌+◌, ◌≤◌, ◌<◌, List, [], ◌∷◌, Some, length, slice_get, slice_set, refl, rules, arith, ap, sym, subst, ◌∙◌}
 use Rattle.std.proofs.lemmas.List.Sums.{sum_by-cons}
+use Rattle.std.proofs.lemmas.Option.{same_Some}
 use Rattle.lay_cells.specs.Marks.{Reached, marked}
 use Rattle.lay_cells.specs.Reshapes.{Carries, Rebuilds, RebuildsAll}
 use Rattle.lay_cells.specs.Rows.{Row, Solved, State}
@@ -12,7 +13,6 @@ use Rattle.lay_cells.specs.declared.answers.Finished.{Finished}
 use Rattle.lay_cells.specs.declared.answers.Finished.TheVariants as finished
 use Rattle.lay_cells.specs.declared.answers.Released.{Released}
 use Rattle.lay_cells.specs.declared.answers.Released.TheVariants as released
-use Rattle.lay_cells.proofs.Lists.{some_inj}
 use Rattle.lay_cells.specs.Progress.Grants.{ClaimsCount, CleanCellsCount, FinishesCount, FirstShapesDraw, GiveBacksCount, MarksCount, ReshapesCount, ReshapesDraw, grants, laid_of_all}
 
 -- all but the element at a place
@@ -36,7 +36,7 @@ module _ {K I V : Type 0} where
       → laid_of_all (slice_set rows i q) + r.laid ≡ laid_of_all rows + q.laid
   sum_set [] i r q at = absurd (grind (rules, at))
   sum_set (a ∷ rows) zero r q at =
-      let same : a.laid ≡ r.laid = ap (λ (x : Row K I V). x.laid) (some_inj a r at) in
+      let same : a.laid ≡ r.laid = ap (λ (x : Row K I V). x.laid) (same_Some a r at) in
       omega (arith, sum_cons q rows, sum_cons a rows, same)
   sum_set (a ∷ rows) (suc i) r q at =
       let rest = sum_set rows i r q at in
@@ -105,7 +105,7 @@ module _ {K I V : Type 0} where
   sum_without : (rows : List (Row K I V)) (i : ℕ) (r : Row K I V) → slice_get rows i ≡ Some r → laid_of_all rows ≡ r.laid + laid_of_all (without rows i)
   sum_without [] i r at = absurd (grind (rules, at))
   sum_without (a ∷ rows) zero r at =
-      let same : a.laid ≡ r.laid = ap (λ (x : Row K I V). x.laid) (some_inj a r at) in
+      let same : a.laid ≡ r.laid = ap (λ (x : Row K I V). x.laid) (same_Some a r at) in
       omega (arith, sum_cons a rows, same)
   sum_without (a ∷ rows) (suc i) r at =
       let rest = sum_without rows i r at in
@@ -126,7 +126,7 @@ module _ {K I V : Type 0} where
     where
       not_here : h.1.0 ≡ i → ⊥
       not_here e =
-          let same : h.0 ≡ r = some_inj h.0 r (sym h.1.1 ∙ ap (slice_get old) e ∙ at) in
+          let same : h.0 ≡ r = same_Some h.0 r (sym h.1.1 ∙ ap (slice_get old) e ∙ at) in
           let keys : q.key ≡ p.key = sym key ∙ ap (λ (x : Row K I V). x.key) (sym same) ∙ h.2 in
           let zero_is : zero ≡ suc j = apart zero (suc j) q p refl at_p keys in
           omega (arith, zero_is)
@@ -169,7 +169,7 @@ module _ {K I V : Type 0} where
   rebuilds_come old F new n [] (p ∷ qs) m h j q at = absurd h
   rebuilds_come old F new n (e ∷ es) [] m h j q at = absurd h
   rebuilds_come old F new n (e ∷ es) (p ∷ qs) m h zero q at =
-      let same = some_inj p q at in
+      let same = same_Some p q at in
       let c = rebuild_comes old F new n e q h.0 (subst (λ (x : Row K I V). Rebuilds old F new n e x h.0) same h.1) in
       (e, refl, c.0, c.1)
   rebuilds_come old F new n (e ∷ es) (p ∷ qs) m h (suc j) q at = rebuilds_come old F new h.0 es qs m h.2 j q at

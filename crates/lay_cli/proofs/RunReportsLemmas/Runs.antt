@@ -1,10 +1,10 @@
 -- A core's report, as a legal one.
 use Rattle.std.proofs.Common.{◌≡◌, ℕ, ◌==◌, suc, List, [], ◌∷◌, find, cond, Some, option_map, refl, sym, ap, ◌∙◌, subst, arith, inl, inr, eq-eqb, ne_eqb, All}
 use Rattle.std.proofs.lemmas.Bool.{cases_eq}
+use Rattle.std.proofs.lemmas.Option.{same_Some, none-some}
 use Rattle.lay_frag.specs.Pieces.{Context}
 use Rattle.lay_history.specs.Histories.{doc_at}
 use Rattle.lay_history.specs.Trees.{PublishedTreeValue, tree_at}
-use Rattle.lay_history.proofs.Lists.{not_none, some_is}
 use Rattle.lay_context.specs.Laws.{OneSolution}
 use Rattle.lay_context.specs.Solves.{Solves}
 use Rattle.lay_core.specs.Laws.{LastTree}
@@ -34,13 +34,13 @@ record IsAmong (P : PublishedTreeValue → Type 0) (version : ℕ) (tree : List 
 
 among : (P : PublishedTreeValue → Type 0) (version : ℕ) (trees : List PublishedTreeValue) (tree : List Context) → All P trees
     → tree_at version trees ≡ Some tree → IsAmong P version tree
-among P version [] tree all e = absurd (not_none tree e)
+among P version [] tree all e = absurd (none-some tree e)
 among P version (t ∷ trees) tree all e = elim (cases_eq t.version version) [
   | inl same ↦ record {
     published = t;
     holds = all 0 t (omega arith);
     version_is = same;
-    tree_is = some_is t.tree tree (sym (ap (λ b. option_map (λ x. x.tree) (cond b (Some t) (find (λ x. x.version == version) trees))) (eq-eqb t.version version same)) ∙ e);
+    tree_is = same_Some t.tree tree (sym (ap (λ b. option_map (λ x. x.tree) (cond b (Some t) (find (λ x. x.version == version) trees))) (eq-eqb t.version version same)) ∙ e);
   }
   | inr other ↦ among P version trees tree (λ k d lt. all (suc k) d (omega (arith, lt)))
       (sym (ap (λ b. option_map (λ x. x.tree) (cond b (Some t) (find (λ x. x.version == version) trees))) (ne_eqb t.version version other)) ∙ e)

@@ -3,6 +3,7 @@ use Rattle.std.proofs.Common.{◌≡◌, inl, inr, ℕ, zero, suc, ◌+◌, ◌-
 use Rattle.std.specs.List.{insert}
 use Rattle.std.proofs.lemmas.Bool.{cases_lt, le-ltb, lt-ltb}
 use Rattle.std.proofs.lemmas.List.Edits.{get_or-insert_at, length-insert}
+use Rattle.std.proofs.lemmas.Option.{slice_get-map, slice_get-get_or}
 use Rattle.lay_style.specs.ComputedStyle.{declarations_at}
 use Rattle.lay_doc.specs.declared.edit.Edit.{Edit}
 use Rattle.lay_doc.specs.declared.node.Node.{Node}
@@ -13,7 +14,7 @@ use Rattle.lay_doc.proofs.PutTrees.{shifted_high, shifted_low}
 use Rattle.lay_contexts.specs.ContextTree.{parent_of}
 use Rattle.lay_contexts.specs.Edited.Reached.{IsReached, IsUnderThere, place_in, subject_of}
 use Rattle.lay_contexts.proofs.EditedLemmas.KeptContexts.{Keeping}
-use Rattle.lay_contexts.proofs.EditedLemmas.MovedNodes.{get-map, get-or, get-shifted, shifted-back, shifted-less, shifted-more}
+use Rattle.lay_contexts.proofs.EditedLemmas.MovedNodes.{get-shifted, shifted-back, shifted-less, shifted-more}
 use Rattle.lay_contexts.proofs.EditedLemmas.NamedPlaces.{place-is}
 use Rattle.lay_contexts.proofs.EditedLemmas.OwnList.{got}
 use Rattle.lay_contexts.proofs.EditedLemmas.SameTrees.{SameNode, or-map, same-declarations}
@@ -42,7 +43,7 @@ module _ (d : Document) (edit : Edit) (at : ℕ) (new : Node) (doc : IsDocument 
         other = moved at g.0;
         here = g.1;
         there = ap (slice_get grown.nodes) (sym r.0)
-            ∙ (get-map (moved at) (insert d.nodes at new) (shifted at k) ∙ ap (option_map (moved at)) (get-shifted d.nodes at new k within r.1 ∙ g.1));
+            ∙ (slice_get-map (moved at) (insert d.nodes at new) (shifted at k) ∙ ap (option_map (moved at)) (get-shifted d.nodes at new k within r.1 ∙ g.1));
         id = refl;
         kind = refl;
         text = refl;
@@ -74,8 +75,8 @@ module _ (d : Document) (edit : Edit) (at : ℕ) (new : Node) (doc : IsDocument 
   named =
       let lt : at < length (insert d.nodes at new) = (let l = length-insert d.nodes at new within in omega (arith, within, l)) in
       let there : slice_get grown.nodes at ≡ Some (moved at new) =
-      get-map (moved at) (insert d.nodes at new) at
-      ∙ ap (option_map (moved at)) (get-or (insert d.nodes at new) at new lt ∙ ap Some (get_or-insert_at d.nodes at new new within)) in
+      slice_get-map (moved at) (insert d.nodes at new) at
+      ∙ ap (option_map (moved at)) (slice_get-get_or (insert d.nodes at new) at new lt ∙ ap Some (get_or-insert_at d.nodes at new new within)) in
       ap (place_in (ids_of grown.nodes)) subject
       ∙ place-is new.id.0 (ids_of grown.nodes) (λ i j less in_ids. is.ids i j less (omega (arith, in_ids, length-ids grown.nodes))) at
       (omega (arith, within, length-grown, length-ids grown.nodes)) (or-map (λ n. n.id.0) grown.nodes at (moved at new) 0 there)

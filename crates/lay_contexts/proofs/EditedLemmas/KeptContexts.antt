@@ -1,6 +1,7 @@
 -- Where an edit keeps all nodes that it doesn't reach, a context keeps its boxes, or has a node among its own that is reached.
 use Rattle.std.proofs.Common.{◌≡◌, ◌⊎◌, inl, inr, ℕ, zero, suc, ◌<◌, List, length, refl, ap, sym, subst, ◌∙◌, arith, Bool, true, false, Option, Some, None, slice_index}
 use Rattle.std.proofs.lemmas.Bool.{cases_eq, cases_lt}
+use Rattle.std.proofs.lemmas.Option.{slice_get_within as there}
 use Rattle.lay_style.specs.declared.style.Style.{Style}
 use Rattle.lay_style.specs.ComputedStyle.{HasStyles, declarations_at, style_at}
 use Rattle.lay_style.specs.Places.{place_of}
@@ -14,7 +15,6 @@ use Rattle.lay_doc.proofs.Subtrees.{has_subtree_lem}
 use Rattle.lay_boxgen.specs.Contexts.{IsContext, IsContextAt, IsContextThere}
 use Rattle.lay_boxgen.specs.Listing.{boxes_at}
 use Rattle.lay_contexts.specs.ContextTree.{IsAround}
-use Rattle.lay_contexts.proofs.OneStand.{there}
 use Rattle.lay_contexts.specs.Edited.Reached.{IsReached, IsUnderThere, place_in, subject_of}
 use Rattle.lay_contexts.specs.Edited.Touched.{HasOwn, IsOwn, KeepsBoxes, element, inside}
 use Rattle.lay_contexts.proofs.EditedLemmas.NamedPlaces.{place-is, place-reads}

@@ -1,6 +1,7 @@
 -- A node that an edit doesn't reach is what it was.
 use Rattle.std.proofs.Common.{◌≡◌, inl, inr, ℕ, ◌<◌, ◌==◌, Bool, true, false, List, [], length, ap, sym, ◌∙◌, arith, if◌then◌else◌, Some, option_map, slice_get, slice_index}
 use Rattle.std.proofs.lemmas.Bool.{cases_lt, eq-eqb, ne_eqb}
+use Rattle.std.proofs.lemmas.Option.{slice_get_within as there}
 use Rattle.lay_style.specs.declared.style.Style.{Style}
 use Rattle.lay_style.specs.ComputedStyle.{style_at}
 use Rattle.lay_style.specs.Values.{Declaration}
@@ -10,7 +11,6 @@ use Rattle.lay_doc.specs.declared.node.NodeId.{NodeId}
 use Rattle.lay_doc.specs.Document.{Document, ids_of}
 use Rattle.lay_doc.specs.NodeRefs.{parent_id}
 use Rattle.lay_contexts.specs.ContextTree.{parent_of}
-use Rattle.lay_contexts.proofs.OneStand.{there}
 use Rattle.lay_contexts.specs.Edited.Unreached.{IsKeptAt, content_of}
 use Rattle.lay_contexts.proofs.EditedLemmas.KeptContexts.{Keeping, Styled}
 use Rattle.lay_contexts.proofs.EditedLemmas.SameTrees.{or-map, same-box, same-style}

@@ -1,21 +1,12 @@
 -- What stands at a place of a list of nodes after one was put in, or some were taken out.
-use Rattle.std.proofs.Common.{◌≡◌, inl, inr, ℕ, zero, suc, ◌+◌, ◌-◌, ◌<◌, ◌≤◌, List, [], ◌∷◌, length, map, get_or, refl, ap, sym, ◌∙◌, arith, Some, option_map, slice_get}
+use Rattle.std.proofs.Common.{◌≡◌, inl, inr, ℕ, suc, ◌+◌, ◌-◌, ◌<◌, ◌≤◌, List, [], ◌∷◌, length, get_or, ap, sym, ◌∙◌, arith, Some, slice_get}
 use Rattle.std.specs.List.{insert, remove_range}
 use Rattle.std.proofs.lemmas.Bool.{cases_lt}
 use Rattle.std.proofs.lemmas.List.Edits.{get_or-insert_above, get_or-insert_below, length-insert}
+use Rattle.std.proofs.lemmas.Option.{slice_get-get_or}
 use Rattle.lay_doc.specs.Tree.{shifted}
 use Rattle.lay_doc.proofs.Cut.{cut_read, length-cut, old_place}
 use Rattle.lay_doc.proofs.PutTrees.{shifted_high, shifted_low}
-
-pub get-map : {X Y : Type 0} (f : X → Y) (xs : List X) (k : ℕ) → slice_get (map f xs) k ≡ option_map f (slice_get xs k)
-get-map f [] k = refl
-get-map f (x ∷ xs) zero = refl
-get-map f (x ∷ xs) (suc k) = get-map f xs k
-
-pub get-or : {X : Type 0} (xs : List X) (k : ℕ) (d : X) → k < length xs → slice_get xs k ≡ Some (get_or xs k d)
-get-or [] k d lt = absurd (omega (arith, lt))
-get-or (x ∷ xs) zero d lt = refl
-get-or (x ∷ xs) (suc k) d lt = get-or xs k d (omega (arith, lt))
 
 -- Places before and after a new node.
 pub shifted-less : (at j k : ℕ) → j < k → shifted at j < shifted at k
@@ -57,11 +48,11 @@ moved-read xs at x d k le = elim (cases_lt k at) [
 pub get-shifted : {X : Type 0} (xs : List X) (at : ℕ) (x : X) (k : ℕ) → at ≤ length xs → k < length xs → slice_get (insert xs at x) (shifted at k) ≡ slice_get xs k
 get-shifted xs at x k le lt =
     let inside : shifted at k < length (insert xs at x) = (let a = shifted-within at k (length xs) le lt in let l = length-insert xs at x le in omega (arith, a, l)) in
-    get-or (insert xs at x) (shifted at k) x inside ∙ (ap Some (moved-read xs at x x k le) ∙ sym (get-or xs k x lt))
+    slice_get-get_or (insert xs at x) (shifted at k) x inside ∙ (ap Some (moved-read xs at x x k le) ∙ sym (slice_get-get_or xs k x lt))
 
 -- Places after some nodes were taken out.
 pub get-old : {X : Type 0} (xs : List X) (i j k : ℕ) → i ≤ j → j ≤ length xs → k + (j - i) < length xs → old_place i j k < length xs → slice_get (remove_range xs i j) k ≡ slice_get xs (old_place i j k)
 get-old [] i j k le within lt inside = absurd (omega (arith, lt))
 get-old (x ∷ xs) i j k le within lt inside =
     let l = length-cut (x ∷ xs) i j le within in
-    get-or (remove_range (x ∷ xs) i j) k x (omega (arith, lt, l)) ∙ (ap Some (cut_read (x ∷ xs) i j k x le within) ∙ sym (get-or (x ∷ xs) (old_place i j k) x inside))
+    slice_get-get_or (remove_range (x ∷ xs) i j) k x (omega (arith, lt, l)) ∙ (ap Some (cut_read (x ∷ xs) i j k x le within) ∙ sym (slice_get-get_or (x ∷ xs) (old_place i j k) x inside))

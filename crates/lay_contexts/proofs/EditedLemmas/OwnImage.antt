@@ -2,6 +2,7 @@
 use Rattle.std.proofs.Common.{◌≡◌, inl, inr, ℕ, ◌<◌, List, length, map, ap, sym, subst, ◌∙◌, arith, Some, slice_index}
 use Rattle.std.proofs.lemmas.Bool.{cases_lt}
 use Rattle.std.proofs.lemmas.List.{get_or-map}
+use Rattle.std.proofs.lemmas.Option.{slice_get_within as there}
 use Rattle.lay_style.specs.declared.style.Style.{Style}
 use Rattle.lay_style.specs.ComputedStyle.{style_at}
 use Rattle.lay_doc.specs.declared.node.Node.{Node}
@@ -9,7 +10,6 @@ use Rattle.lay_doc.specs.Document.{Document, IsDocument}
 use Rattle.lay_boxgen.specs.Contexts.{IsContextAt}
 use Rattle.lay_contexts.specs.ContextTree.{IsAround, boxes_of_place, parent_of}
 use Rattle.lay_contexts.specs.OwnNodes.{AreOwnNodes, IsOwnNode, OwnNode, own_at}
-use Rattle.lay_contexts.proofs.OneStand.{there}
 use Rattle.lay_contexts.proofs.OwnBoxes.{own_nodes_decide}
 use Rattle.lay_contexts.specs.Edited.Touched.{IsOwn, element, inside}
 use Rattle.lay_contexts.proofs.EditedLemmas.OwnList.{are-own, length-map, own_nodes, own_places}

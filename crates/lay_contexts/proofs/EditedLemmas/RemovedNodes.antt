@@ -2,6 +2,7 @@
 use Rattle.std.proofs.Common.{◌≡◌, inl, inr, ℕ, ◌+◌, ◌-◌, ◌<◌, ◌≤◌, length, refl, ap, sym, subst, ◌∙◌, arith, Option, Some, option_map, slice_get}
 use Rattle.std.specs.List.{remove_range}
 use Rattle.std.proofs.lemmas.Bool.{cases_lt, le-ltb, lt-ltb}
+use Rattle.std.proofs.lemmas.Option.{slice_get-map}
 use Rattle.lay_style.specs.ComputedStyle.{declarations_at}
 use Rattle.lay_doc.specs.declared.edit.Edit.{Edit}
 use Rattle.lay_doc.specs.Document.{Document, IsDocument, declarations_of, ids_of, parents_of}
@@ -13,7 +14,7 @@ use Rattle.lay_doc.proofs.Subtrees.{end_is_slot, has_subtree_lem, parent_outside
 use Rattle.lay_contexts.specs.ContextTree.{parent_of}
 use Rattle.lay_contexts.specs.Edited.Reached.{IsReached, IsUnderThere, place_in, subject_of}
 use Rattle.lay_contexts.proofs.EditedLemmas.KeptContexts.{Keeping}
-use Rattle.lay_contexts.proofs.EditedLemmas.MovedNodes.{get-map, get-old}
+use Rattle.lay_contexts.proofs.EditedLemmas.MovedNodes.{get-old}
 use Rattle.lay_contexts.proofs.EditedLemmas.OwnList.{got}
 use Rattle.lay_contexts.proofs.EditedLemmas.SameTrees.{SameNode, or-map, same-declarations}
 
@@ -63,7 +64,7 @@ module _ (d : Document) (edit : Edit) (p : ℕ) (doc : IsDocument d) (not_root :
         one = g.0;
         other = moved_back p end g.0;
         here = g.1;
-        there = get-map (moved_back p end) (remove_range d.nodes p end) m
+        there = slice_get-map (moved_back p end) (remove_range d.nodes p end) m
             ∙ ap (option_map (moved_back p end)) (get-old d.nodes p end m le within r.1 (old_inside p end m (length d.nodes) r.1) ∙ (ap (slice_get d.nodes) r.0 ∙ g.1));
         id = refl;
         kind = refl;

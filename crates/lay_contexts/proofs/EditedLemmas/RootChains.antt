@@ -1,6 +1,6 @@
 -- What the own box of a formatting context or of one around it may be is said by nodes.
 use Rattle.std.proofs.Common.{◌≡◌, ◌⊎◌, inl, inr, ◌↔◌, ℕ, zero, suc, ◌<◌, ◌≤◌, Bool, true, false, ◌&&◌, ◌||◌, List, [], ◌∷◌, length, get_or, refl, ap, sym, subst, ◌∙◌, arith, if◌then◌else◌, Option, None, Some, slice_get, slice_index}
-use Rattle.std.proofs.lemmas.Bool.{cases_lt}
+use Rattle.std.proofs.lemmas.Bool.{cases_lt, or_left, or_right, or_cases}
 use Rattle.std.proofs.lemmas.List.{get_or-map}
 use Rattle.lay_style.specs.declared.style.Style.{Style}
 use Rattle.lay_style.specs.ComputedStyle.{style_at}
@@ -47,8 +47,7 @@ use Rattle.lay_contexts.specs.Edited.Shrinking.{IsWithin, IsWithinOutward, Takes
 use Rattle.lay_contexts.proofs.EditedLemmas.StrayNodes.{anonymous_tables_stand_by_nodes}
 use Rattle.lay_contexts.proofs.EditedLemmas.OwnList.{around-before}
 use Rattle.lay_contexts.proofs.EditedLemmas.PartLeaves.{place-of}
-use Rattle.lay_contexts.proofs.EditedLemmas.StrayForms.{or-left, or-right}
-use Rattle.lay_contexts.proofs.EditedLemmas.TableChains.{anonymous-by, chain, differ, none-at-own, or-cases, root-flag, root-kinds, table-kind}
+use Rattle.lay_contexts.proofs.EditedLemmas.TableChains.{anonymous-by, chain, differ, none-at-own, root-flag, root-kinds, table-kind}
 use Rattle.lay_contexts.proofs.EditedLemmas.TableMarks.{Marked, is_table_box, marked-part}
 
 abbrev pub Is : (Flow → BoxKind → Style → Bool) → BoxNode → Bool
@@ -246,13 +245,13 @@ module _ (S : Flow → BoxKind → Style → Bool) (takes : TakesAnonymousTables
     said (suc turns) zero few inside root w = inr w
     said (suc turns) (suc r) few inside root w = elim (cases-of S all (number_of contexts i (suc r)) w) [
       | inl e ↦ (let t = root-is (suc r) (omega arith) inside root (sym (first-is i (suc r) lt inside root) ∙ e) in
-          inl (or-right (m (suc r)) (is_table_box (listed_at (B i) (suc r))) t))
+          inl (or_right (m (suc r)) (is_table_box (listed_at (B i) (suc r))) t))
       | inr out ↦ (let h : ℕ = home i (suc r) in
           let there = home_there contexts of.homes are of.homes_are i (suc r) lt inside in
           let root_there = home_root contexts of.homes are of.homes_are i (suc r) lt inside in
           let before : h < suc r = home_before (B i) boxes_ok.tree (suc r) h inside ((of.homes_are.each i lt).each (suc r) inside) (omega arith) in
           elim (said turns h (omega (arith, before, few)) there root_there (subst W (root-outer i r lt inside root) out.1)) [
-            | inl p ↦ inl (or-left (m (suc r)) (is_table_box (listed_at (B i) (suc r))) (to-home (suc r) (omega arith) inside ∙ p))
+            | inl p ↦ inl (or_left (m (suc r)) (is_table_box (listed_at (B i) (suc r))) (to-home (suc r) (omega arith) inside ∙ p))
             | inr w ↦ inr w
           ])
     ]
@@ -265,7 +264,7 @@ module _ (S : Flow → BoxKind → Style → Bool) (takes : TakesAnonymousTables
         out p = outward (number_of contexts i (suc r)) (root-some i (suc r) (omega arith)) (subst W (sym (root-outer i r lt inside root)) (rest p))
 
         by : Said (suc r) → W (number_of contexts i (suc r))
-        by (inl p) = elim (or-cases (m (suc r)) (is_table_box (listed_at (B i) (suc r))) p) [
+        by (inl p) = elim (or_cases (m (suc r)) (is_table_box (listed_at (B i) (suc r))) p) [
           | inl mark ↦ out (inl (sym (to-home (suc r) (omega arith) inside) ∙ mark))
           | inr t ↦ first (number_of contexts i (suc r)) (first-is i (suc r) lt inside root ∙ table-is (suc r) inside t)
         ]

@@ -2,6 +2,7 @@
 -- boxes by themselves, and the same contexts around them.
 use Rattle.std.proofs.Common.{◌≡◌, inl, inr, ℕ, zero, suc, ◌+◌, ◌<◌, ◌==◌, Bool, false, List, [], ◌∷◌, length, map, refl, ap, sym, subst, ◌∙◌, arith, IsTrue, Option, None, Some, option_map, slice_get, slice_index_or}
 use Rattle.std.proofs.lemmas.Bool.{cases_lt, ne_eqb}
+use Rattle.std.proofs.lemmas.Option.{slice_get_within as there}
 use Rattle.lay_style.specs.declared.style.Style.{Style}
 use Rattle.lay_style.specs.ComputedStyle.{HasStyles, computed_style, declarations_at, parent_style, style_at}
 use Rattle.lay_style.specs.Values.{Declaration}
@@ -16,7 +17,6 @@ use Rattle.lay_boxgen.specs.Contexts.{GeneratesBox, IsContextAt, below, box_at, 
 use Rattle.lay_boxgen.specs.NodeBoxes.{establishes_context, form_of, node_flow}
 use Rattle.lay_boxgen.proofs.NodeColumns.{length-parents}
 use Rattle.lay_contexts.specs.ContextTree.{IsAround, further, parent, parent_of}
-use Rattle.lay_contexts.proofs.OneStand.{there}
 
 -- one node stands at k in the one list and at m in the other
 pub record SameNode (ns ms : List Node) (k m : ℕ) : Type 0 where

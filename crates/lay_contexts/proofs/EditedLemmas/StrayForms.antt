@@ -1,6 +1,7 @@
 -- Which parts of tables stray in which boxes (17.2.1). What the second stage puts round boxes is at home where it stands, and what strayed
 -- goes on straying in it. In the third stage cells stray where a row would, and all else that strays is misparented.
 use Rattle.std.proofs.Common.{◌≡◌, ◌⊎◌, inl, inr, ℕ, Bool, true, false, ◌&&◌, ◌||◌, not, refl, ap, sym, ◌∙◌}
+use Rattle.std.proofs.lemmas.Bool.{and_left}
 use Rattle.lay_boxgen.specs.Forms.{is_cell, is_column, is_column_group, is_in_flow, is_inline, is_proper_table_child, is_proper_table_descendant, is_row, is_row_group, is_table, is_table_part, is_white}
 use Rattle.lay_boxgen.specs.MissingParents.{is_misparented_column, is_misparented_group_or_caption, is_misparented_row}
 use Rattle.lay_boxgen.specs.declared.facts.Facts.{Facts}
@@ -13,21 +14,9 @@ pub or-false : (b c : Bool) → c ≡ false → (b || c) ≡ b
 or-false true c e = refl
 or-false false c e = e
 
-pub or-left : (b c : Bool) → b ≡ true → (b || c) ≡ true
-or-left true c e = refl
-or-left false c e = absurd cc
-
-pub or-right : (b c : Bool) → c ≡ true → (b || c) ≡ true
-or-right true c e = refl
-or-right false c e = e
-
 pub and-false : (b : Bool) → (b && false) ≡ false
 and-false true = refl
 and-false false = refl
-
-pub and-left : (b c : Bool) → b ≡ false → (b && c) ≡ false
-and-left true c e = absurd cc
-and-left false c e = refl
 
 -- not both: one of them isn't
 pub not-both : (b c : Bool) → not (b && c) ≡ true → (b ≡ false) ⊎ (c ≡ false)
@@ -53,13 +42,13 @@ white-part _ e = absurd cc
 -- what is no part strays nowhere
 pub no-stray : (f g : Facts) → is_table_part g.form ≡ false → is_stray f g ≡ false
 no-stray f g e =
-    ap (λ (b : Bool). is_in_flow g.flow && b) (and-left (is_table_part g.form) (not (is_proper_table_descendant f.form g.form || (is_column_group f.form && is_column g.form))) e)
+    ap (λ (b : Bool). is_in_flow g.flow && b) (and_left (is_table_part g.form) (not (is_proper_table_descendant f.form g.form || (is_column_group f.form && is_column g.form))) e)
     ∙ and-false (is_in_flow g.flow)
 
 -- what strays alike where it is in flow
 pub strays-alike : (x y : Form) (g : Facts) → ((is_in_flow g.flow ≡ false) ⊎ (strays_in x g.form ≡ strays_in y g.form))
     → (is_in_flow g.flow && strays_in x g.form) ≡ (is_in_flow g.flow && strays_in y g.form)
-strays-alike x y g (inl out) = and-left (is_in_flow g.flow) (strays_in x g.form) out ∙ sym (and-left (is_in_flow g.flow) (strays_in y g.form) out)
+strays-alike x y g (inl out) = and_left (is_in_flow g.flow) (strays_in x g.form) out ∙ sym (and_left (is_in_flow g.flow) (strays_in y g.form) out)
 strays-alike x y g (inr same) = ap (λ (b : Bool). is_in_flow g.flow && b) same
 
 -- The second stage. What is no cell in a row strays in its cell as in the row.

@@ -1,6 +1,6 @@
 -- Whether the box of an inner context stands in an anonymous table, within the context around, is said by the nodes between.
 use Rattle.std.proofs.Common.{◌≡◌, ◌⊎◌, inl, inr, ℕ, zero, suc, ◌+◌, ◌-◌, ◌<◌, ◌≤◌, ◌==◌, ◌↔◌, Bool, true, false, ◌&&◌, ◌||◌, not, List, [], ◌∷◌, length, refl, ap, sym, subst, ◌∙◌, arith, if◌then◌else◌, Option, None, Some, option_map, slice_get, slice_index}
-use Rattle.std.proofs.lemmas.Bool.{cases_lt, eqb-true, ne_eqb}
+use Rattle.std.proofs.lemmas.Bool.{cases_lt, eqb-true, ne_eqb, or_left, or_right, and_left, or_cases}
 use Rattle.lay_style.specs.declared.style.Style.{Style}
 use Rattle.lay_style.specs.declared.style_words.Display.{Display}
 use Rattle.lay_style.specs.declared.style_words.Display.TheVariants as display
@@ -33,14 +33,9 @@ use Rattle.lay_contexts.proofs.OneStand.{marked-true, within}
 use Rattle.lay_contexts.proofs.RisingLists.{Has, from-has}
 use Rattle.lay_contexts.specs.Edited.AnonymousTables.{AllInside, AnonymousTablesStandByNodes, EachInside, IsInStrayPart, IsKnownInside, ListInside, between, here, is_anonymous_table, is_stray, is_stray_part, strays_in}
 use Rattle.lay_contexts.proofs.EditedLemmas.EachTree.{Each}
-use Rattle.lay_contexts.proofs.EditedLemmas.StrayForms.{and-left, or-false, or-left, or-right}
+use Rattle.lay_contexts.proofs.EditedLemmas.StrayForms.{or-false}
 use Rattle.lay_contexts.proofs.EditedLemmas.StrayRules.{After, AfterIn, Before, BeforeIn, after-list, inside-generated}
 use Rattle.lay_contexts.proofs.EditedLemmas.PartLeaves.{and_tree, behind, below, cut-is, leaf, leaf-is, leaf_of, leaf_with, no-inline, own_with, place-of, put-and}
-
--- Booleans.
-or-cases : (b c : Bool) → (b || c) ≡ true → (b ≡ true) ⊎ (c ≡ true)
-or-cases true c e = inl refl
-or-cases false c e = inr e
 
 differ : (b : Bool) → b ≡ true → b ≡ false → ⊥
 differ true e h = cc
@@ -147,15 +142,15 @@ module _ (nodes : List Node) (ss : List Style) (is_tree : IsTree (parents_of nod
     stray-is = ap (λ (o : Option Facts). is_stray_part o (box_at nodes ss c)) above ∙ ap (is_stray_part (Some p)) there
 
     into : (b || is_stray p f) ≡ true → IsInStrayPart nodes ss c
-    into e = elim (or-cases b (is_stray p f) e) [
+    into e = elim (or_cases b (is_stray p f) e) [
       | inl around ↦ (let u = says.0 around in between c positive u.0 u.1)
       | inr stray ↦ here c positive (stray-is ∙ stray)
     ]
 
     back : IsInStrayPart nodes ss c → (b || is_stray p f) ≡ true
     back w = elim (stray-cases nodes ss c w) [
-      | inl stray ↦ or-right b (is_stray p f) (sym stray-is ∙ stray)
-      | inr around ↦ or-left b (is_stray p f) (says.1 around)
+      | inl stray ↦ or_right b (is_stray p f) (sym stray-is ∙ stray)
+      | inr around ↦ or_left b (is_stray p f) (says.1 around)
     ]
 
     at-place : f.place ≡ c
@@ -228,7 +223,7 @@ module _ (nodes : List Node) (ss : List Style) (is_tree : IsTree (parents_of nod
       anchored : is_absolute f.flow ≡ true → Child p b (tree (anchor_facts f) no_trees)
       anchored e =
           let part : is_stray p f ≡ is_stray p (anchor_facts f) =
-          and-left (is_in_flow f.flow) (strays_in p.form f.form) (no_flow f.flow e) in
+          and_left (is_in_flow f.flow) (strays_in p.form f.form) (no_flow f.flow e) in
           (subst (λ (x : Bool). P (b || x) (anchor_facts f)) part (known-anchor c positive b p f above there says), λ w. absurd cc, tt)
 
       opened-by : is_closed f ≡ false → Child p b (tree f (trees_of (below nodes is_tree ss c)))

@@ -1,6 +1,7 @@
 -- Which boxes stand in anonymous tables, rule by rule of box generation: before the third stage of 17.2.1 it is said by the parts of tables
 -- that stray, and from then on by the wrappers. The second stage leaves that as it is.
 use Rattle.std.proofs.Common.{◌≡◌, ◌⊎◌, ⊎_elim, inl, inr, Bool, true, false, ◌&&◌, ◌||◌, List, [], ◌∷◌, ◌++◌, filter, refl, ap, sym, subst, ◌∙◌, if◌then◌else◌}
+use Rattle.std.proofs.lemmas.Bool.{or_left, or_right}
 use Rattle.lay_boxgen.specs.Boxes.{Tree, Trees, tree, no_trees, also, trees_of, facts_of, remade, all_remade, in_box}
 use Rattle.lay_boxgen.specs.BrokenInlines.{broken}
 use Rattle.lay_boxgen.specs.Forms.{is_cell, is_in_flow, is_inline, is_proper_table_child, is_row, is_row_group, is_table, is_white}
@@ -19,7 +20,7 @@ use Rattle.lay_boxgen.specs.Parts.{all_put, is_closed, nothing, put, put_list}
 use Rattle.lay_contexts.specs.Edited.AnonymousTables.{is_anonymous_table, is_stray, strays_in}
 use Rattle.lay_contexts.proofs.EditedLemmas.ClearTrees.{no-child, no-parented, no-relevant, no-run, none}
 use Rattle.lay_contexts.proofs.EditedLemmas.EachTree.{Each, IsMade, each-append, each-broken, each-filter, each-in_wrapper, each-map, each-relevant, each-run_wrapped}
-use Rattle.lay_contexts.proofs.EditedLemmas.StrayForms.{and-false, cell-at-home, cell-misparented, cells-as-rows, in-row-home, in-table-home, inline-is, is_misparented_form, kept-in-cell, kept-in-row, misparented-is, no-stray, not-both, or-false, or-left, or-right, row-at-home, strays-alike, white-part}
+use Rattle.lay_contexts.proofs.EditedLemmas.StrayForms.{and-false, cell-at-home, cell-misparented, cells-as-rows, in-row-home, in-table-home, inline-is, is_misparented_form, kept-in-cell, kept-in-row, misparented-is, no-stray, not-both, or-false, row-at-home, strays-alike, white-part}
 
 -- white space is of no inner context, and holds nothing
 abbrev pub Blank : Facts → Trees → Type 0
@@ -219,7 +220,7 @@ module _ (P : Bool → Facts → Type 0) (opened : (b : Bool) (f : Facts) → f.
         (λ t e k. table-child t table e k)
         (λ t w k. (white-child f RowFacts b t w k, k))
         (λ t e w k. k)
-        (row-made (row-at-home f.form (or-left (is_table f.form) (is_row_group f.form) table)))
+        (row-made (row-at-home f.form (or_left (is_table f.form) (is_row_group f.form) table)))
         ts h
 
     rows-of-group : is_row_group f.form ≡ true → (ts : List Tree) → Each (Child f b) ts → Each (Child f b) (in_rows_of_group f ts)
@@ -228,7 +229,7 @@ module _ (P : Bool → Facts → Type 0) (opened : (b : Bool) (f : Facts) → f.
         (λ t e k. group-child t group e k)
         (λ t w k. (white-child f RowFacts b t w k, k))
         (λ t e w k. k)
-        (row-made (row-at-home f.form (or-right (is_table f.form) (is_row_group f.form) group)))
+        (row-made (row-at-home f.form (or_right (is_table f.form) (is_row_group f.form) group)))
         ts h
 
   child-along : (f : Facts) (b : Bool) (ts : List Tree) → Each (Child f b) ts → Each (Child f b) (child_wrapped f ts)
@@ -244,7 +245,7 @@ module _ (P : Bool → Facts → Type 0) (opened : (b : Bool) (f : Facts) → f.
   -- The third stage.
   module _ (f : Facts) (b : Bool) where
     in-table : (t : Tree) → is_stray f (facts_of t) ≡ true → Middle f b t → After P true t
-    in-table t e h = at-state (b || is_stray f (facts_of t)) true (or-right b (is_stray f (facts_of t)) e) t h
+    in-table t e h = at-state (b || is_stray f (facts_of t)) true (or_right b (is_stray f (facts_of t)) e) t h
 
     -- a child that is no cell in flow, or stands in a row
     abbrev NoCell : Tree → Type 0
@@ -300,7 +301,7 @@ module _ (P : Bool → Facts → Type 0) (opened : (b : Bool) (f : Facts) → f.
     table-after x table other run h = (
       opened b (anonymous_facts f x) refl,
       λ w. absurd (let z : true ≡ false = sym w ∙ other in cc),
-      subst (λ (c : Bool). AfterIn P c (trees_of run)) (sym (or-right b (is_table x) table)) (after-in true run h),
+      subst (λ (c : Bool). AfterIn P c (trees_of run)) (sym (or_right b (is_table x) table)) (after-in true run h),
     )
 
     round-after : (run : List Tree) → Each (After P true) run → After P b (anonymous_box f (if is_inline f.form then form.InlineWrapper else form.Wrapper) run)

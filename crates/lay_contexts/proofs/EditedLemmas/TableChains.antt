@@ -1,6 +1,7 @@
 -- From a box to the nearest root above it: whether it stands in an anonymous table is said there too.
-use Rattle.std.proofs.Common.{◌≡◌, ◌⊎◌, inl, inr, ℕ, zero, suc, ◌<◌, Bool, true, false, ◌&&◌, ◌||◌, not, List, length, get_or, refl, ap, sym, ◌∙◌, arith}
+use Rattle.std.proofs.Common.{◌≡◌, inl, inr, ℕ, zero, suc, ◌<◌, Bool, true, false, ◌&&◌, ◌||◌, not, List, length, get_or, refl, ap, sym, ◌∙◌, arith}
 use Rattle.std.proofs.lemmas.List.{get_or-map}
+use Rattle.std.proofs.lemmas.Bool.{false_from_ne_true}
 use Rattle.lay_style.specs.declared.style.Style.{Style}
 use Rattle.lay_style.specs.declared.style_words.TableLayout.TheVariants.{Auto}
 use Rattle.lay_doc.specs.declared.node.Node.{Node}
@@ -18,18 +19,9 @@ use Rattle.lay_contexts.specs.Edited.Shrinking.{TakesAnonymousTables}
 use Rattle.lay_contexts.proofs.EditedLemmas.StrayForms.{or-false}
 use Rattle.lay_contexts.proofs.EditedLemmas.TableMarks.{Marked, is_table_box}
 
--- Booleans.
-pub or-cases : (b c : Bool) → (b || c) ≡ true → (b ≡ true) ⊎ (c ≡ true)
-or-cases true c e = inl refl
-or-cases false c e = inr e
-
 pub differ : (b : Bool) → b ≡ true → b ≡ false → ⊥
 differ true e h = cc
 differ false e h = cc
-
-not-true : (b : Bool) → (b ≡ true → ⊥) → b ≡ false
-not-true true h = absurd (h refl)
-not-true false h = refl
 
 -- Kinds of boxes.
 table-root : (a i : Bool) (x : BoxKind) → (a && is_wrapper x) ≡ true → (i ≡ true → a ≡ false) → (a && not i && is_wrapper_or_cell x) ≡ true
@@ -95,5 +87,5 @@ module _ (nodes_of : List Node) (ss : List Style) (boxes : List BoxNode) (marks 
       let before = low k positive lt in
       let p_in : p < length boxes = omega (arith, before, lt) in
       let p_some : 0 < p = not_own boxes p e in
-      let no_table : is_table_box (box_at boxes p) ≡ false = not-true (is_table_box (box_at boxes p)) (λ t. differ (is_root boxes p) (table-is-root p p_some p_in t) e) in
+      let no_table : is_table_box (box_at boxes p) ≡ false = false_from_ne_true (is_table_box (box_at boxes p)) (λ t. differ (is_root boxes p) (table-is-root p p_some p_in t) e) in
       step k positive lt ∙ (or-false (mark p) (is_table_box (box_at boxes p)) no_table ∙ chain p h up p_some p_in)

@@ -1,10 +1,10 @@
 -- The rows after a new shape and after marks: each is made anew, with no input, or was there with the same key, input and turns.
 use Rattle.std.proofs.Common.{◌≡◌, ◌⊎◌, inl, inr, ℕ, zero, suc, List, [], ◌∷◌, slice_get, None, Some, refl, ap, sym, subst}
+use Rattle.std.proofs.lemmas.Option.{same_Some}
 use Rattle.lay_cells.specs.Marks.{Marks, Reached, marked}
 use Rattle.lay_cells.specs.Reshapes.{Carries, Rebuilds, RebuildsAll}
 use Rattle.lay_cells.specs.Rows.{Row}
 use Rattle.lay_cells.specs.Shapes.{Entry, IsIn}
-use Rattle.lay_cells.proofs.Lists.{some_inj}
 use Rattle.lay_cells.proofs.Marked.{beside}
 
 module _ {K I V : Type 0} where
@@ -37,7 +37,7 @@ module _ {K I V : Type 0} where
     pub rebuilt_from : (n : ℕ) (es : List (Entry K)) (qs : List (Row K I V)) (m : ℕ) → RebuildsAll old F new n es qs m → (i : ℕ) (z : Row K I V) → slice_get qs i ≡ Some z → IsFrom old z
     rebuilt_from n es [] m h i z at = absurd cc
     rebuilt_from n [] (q ∷ qs) m h i z at = absurd h
-    rebuilt_from n (e ∷ es) (q ∷ qs) m h zero z at = subst (λ (x : Row K I V). IsFrom old x) (some_inj q z at) (rebuilt n e q h.0 h.1)
+    rebuilt_from n (e ∷ es) (q ∷ qs) m h zero z at = subst (λ (x : Row K I V). IsFrom old x) (same_Some q z at) (rebuilt n e q h.0 h.1)
     rebuilt_from n (e ∷ es) (q ∷ qs) m h (suc i) z at = rebuilt_from h.0 es qs m h.2 i z at
 
   marked_from : (old : List (Row K I V)) (r : Row K I V) → IsFrom old r → IsFrom old (marked r)

@@ -1,12 +1,13 @@
 -- The changes of a cell's input in a history: there is one list of them, and not more turns than changes, since from a version to a later
 -- one in which the cell is given another input some list of edits changes it.
 use Rattle.std.proofs.Common.{◌≡◌, ◌⊎◌, ⊎_elim, inl, inr, ◌<◌, ◌≤◌, ◌+◌, ◌-◌, ℕ, zero, suc, Bool, true, false, List, [], ◌∷◌, length, take, slice_get, Option, None, Some, refl, ap, sym, subst, ◌∙◌, arith}
+use Rattle.std.proofs.lemmas.Option.{same_Some}
 use Rattle.lay_positioned.specs.Levels.{one_if}
 use Rattle.lay_doc.specs.Document.{Document}
 use Rattle.lay_history.specs.declared.edits.history.Entry.{Entry}
 use Rattle.lay_face.specs.FaceValue.{FaceValue}
 use Rattle.lay_history.specs.Histories.{accepted, doc_at}
-use Rattle.lay_history.proofs.Lists.{get_some, some_is, take_whole}
+use Rattle.lay_history.proofs.Lists.{get_some, take_whole}
 use Rattle.lay_shape.specs.declared.cell_key.CellKey.{CellKey}
 use Rattle.lay_cell_work.specs.CellInputs.{CellInput}
 use Rattle.lay_core.specs.CoreLaws.GivenInputs.{HasCell, IsGivenIn}
@@ -18,7 +19,7 @@ use Rattle.lay_core.proofs.CoreLawsLemmas.TurnSteps.{has_cell, last_given, last_
 -- one more flag counts as much as it says
 one_more : (flags : List Bool) (v : ℕ) (flag : Bool) → slice_get flags v ≡ Some flag → changes (take (suc v) flags) ≡ changes (take v flags) + one_if flag
 one_more [] v flag e = absurd cc
-one_more (f ∷ fs) zero flag e = let same : one_if f ≡ one_if flag = ap one_if (some_is f flag e) in omega (arith, same)
+one_more (f ∷ fs) zero flag e = let same : one_if f ≡ one_if flag = ap one_if (same_Some f flag e) in omega (arith, same)
 one_more (f ∷ fs) (suc v) flag e = let rest = one_more fs v flag e in omega (arith, rest)
 
 rise : (flags : List Bool) (v w : ℕ) → v ≤ w → changes (take v flags) ≤ changes (take w flags)

@@ -1,11 +1,11 @@
 -- How turns go on: where an input is handed in that the cell is given in the present version, and where a history goes on.
 use Rattle.std.proofs.Common.{◌≡◌, ◌≢◌, ◌⊎◌, ⊎_elim, inl, inr, ◌<◌, ◌≤◌, ◌+◌, ℕ, zero, suc, List, Option, None, Some, IsSome, refl, ap, sym, subst, ◌∙◌, arith}
 use Rattle.std.proofs.lemmas.Bool.{false≢true}
+use Rattle.std.proofs.lemmas.Option.{same_Some}
 use Rattle.lay_doc.specs.Document.{Document}
 use Rattle.lay_history.specs.declared.edits.history.Entry.{Entry}
 use Rattle.lay_face.specs.FaceValue.{FaceValue}
 use Rattle.lay_history.specs.Histories.{accepted, doc_at}
-use Rattle.lay_history.proofs.Lists.{some_is}
 use Rattle.lay_shape.specs.declared.cell_key.CellKey.{CellKey}
 use Rattle.lay_cell_work.specs.CellInputs.{CellInput}
 use Rattle.lay_core.specs.CoreLaws.GivenInputs.{HasCell, IsGivenIn}
@@ -83,7 +83,7 @@ module _ (init : Document) (face : FaceValue) (h : List Entry) (key : CellKey) w
     pub handed_in : (given : Option CellInput) (turns n : ℕ) → HasTurned init face h key given turns → TurnsTo given turns input n → HasTurned init face h key (Some input) n
     handed_in given turns n is turned = record {
       none = λ e. absurd cc;
-      some = λ i e. subst (λ (x : CellInput). HasTurnedTo init face h key n x) (some_is input i e) (handed_to given turns n is turned);
+      some = λ i e. subst (λ (x : CellInput). HasTurnedTo init face h key n x) (same_Some input i e) (handed_to given turns n is turned);
     }
 
   pub not_turned : HasTurned init face h key None 0

@@ -1,11 +1,11 @@
 -- The blocks of a context have one layout and no other.
 use Rattle.std.proofs.Common.{◌≡◌, ℕ, zero, suc, ◌<◌, Bool, false, ℤ, List, [], length, refl, sym, ap, ◌∙◌, arith, subst, slice_index_or}
+use Rattle.std.proofs.lemmas.List.{ext_get_or}
 use Rattle.lay_flow.specs.declared.blocks.flow_box.FlowBox.{FlowBox}
 use Rattle.lay_flow.specs.Blocks.Boxes.{parents_of}
 use Rattle.lay_units.specs.declared.length.Unit.{Unit as Length}
 use Rattle.lay_units.specs.Lengths.{no_length}
 use Rattle.lay_doc.specs.Tree.{IsTree}
-use Rattle.lay_doc.proofs.OneStyles.{same_list}
 use Rattle.lay_flow.specs.Blocks.Lengths.{length_at}
 use Rattle.lay_flow.specs.Blocks.Children.{flag_at}
 use Rattle.lay_flow.specs.Blocks.MarginRuns.{Runs, HasRuns, through_of, before_top_of, to_bottom_of, top_run_of, bottom_run_of}
@@ -30,14 +30,14 @@ one_runs boxes r x tree some c is also =
     let n : ℕ = agree_at boxes tree (λ i. r) (λ i. x) (λ i. next_of boxes r is) (λ i. next_of boxes x also) clears some in
     let all = all_same boxes tree (λ i. r) (λ i. x) (λ i. next_of boxes r is) (λ i. next_of boxes x also) clears some n (omega arith) in
     same_runs r x c
-    (same_list false r.through x.through (is.through_length ∙ sym also.through_length) (λ k lt. all.through k (omega (arith, lt, is.through_length))))
-    (same_list [] r.before_tops x.before_tops (is.before_tops_length ∙ sym also.before_tops_length) (λ k lt. all.before_top k (omega (arith, lt, is.before_tops_length))))
-    (same_list [] r.to_bottoms x.to_bottoms (is.to_bottoms_length ∙ sym also.to_bottoms_length) (λ k lt. all.to_bottom k (omega (arith, lt, is.to_bottoms_length))))
-    (same_list [] r.top_runs x.top_runs (is.top_runs_length ∙ sym also.top_runs_length) (λ k lt. all.top_run k (omega (arith, lt, is.top_runs_length))))
-    (same_list [] r.bottom_runs x.bottom_runs (is.bottom_runs_length ∙ sym also.bottom_runs_length) (λ k lt. all.bottom_run k (omega (arith, lt, is.bottom_runs_length))))
+    (ext_get_or false r.through x.through (is.through_length ∙ sym also.through_length) (λ k lt. all.through k (omega (arith, lt, is.through_length))))
+    (ext_get_or [] r.before_tops x.before_tops (is.before_tops_length ∙ sym also.before_tops_length) (λ k lt. all.before_top k (omega (arith, lt, is.before_tops_length))))
+    (ext_get_or [] r.to_bottoms x.to_bottoms (is.to_bottoms_length ∙ sym also.to_bottoms_length) (λ k lt. all.to_bottom k (omega (arith, lt, is.to_bottoms_length))))
+    (ext_get_or [] r.top_runs x.top_runs (is.top_runs_length ∙ sym also.top_runs_length) (λ k lt. all.top_run k (omega (arith, lt, is.top_runs_length))))
+    (ext_get_or [] r.bottom_runs x.bottom_runs (is.bottom_runs_length ∙ sym also.bottom_runs_length) (λ k lt. all.bottom_run k (omega (arith, lt, is.bottom_runs_length))))
 
 pub same_lengths : (xs ys : List Length) → length xs ≡ length ys → ((k : ℕ) → k < length xs → length_at xs k ≡ length_at ys k) → xs ≡ ys
-same_lengths xs ys e each = same_list no_length xs ys e (λ k lt. same_length (slice_index_or xs k no_length) (slice_index_or ys k no_length) (each k lt))
+same_lengths xs ys e each = ext_get_or no_length xs ys e (λ k lt. same_length (slice_index_or xs k no_length) (slice_index_or ys k no_length) (each k lt))
 
 next_positions : (boxes : List FlowBox) (y : BlockLayout) → HasPositions boxes y → AreNextPositions boxes y y.places
 next_positions boxes y is = record { start = is.start; mark = is.mark; height = is.height }

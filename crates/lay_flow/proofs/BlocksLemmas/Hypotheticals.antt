@@ -1,7 +1,7 @@
 -- A box has one hypothetical layout and no other.
 use Rattle.std.proofs.Common.{◌≡◌, ℕ, zero, suc, ◌<◌, ◌≤◌, Bool, true, false, List, [], ◌∷◌, length, nat_lt, refl, sym, ◌∙◌, ap, arith, inl, inr, if◌then◌else◌}
 use Rattle.std.proofs.lemmas.Bool.{cases_lt}
-use Rattle.lay_doc.proofs.OneStyles.{same_list}
+use Rattle.std.proofs.lemmas.List.{ext_get_or}
 use Rattle.lay_flow.specs.Blocks.Children.{flag_at}
 use Rattle.lay_flow.specs.Blocks.Laws.{OneHypothetical, SomeHypothetical}
 use Rattle.lay_flow.proofs.BlocksLemmas.Tabulated.{tab, tab_length, tab_at}
@@ -9,7 +9,7 @@ use Rattle.lay_flow.proofs.BlocksLemmas.BlockLayoutLaws.{one_block_layout_lem, l
 
 pub one_hypothetical_lem : OneHypothetical
 one_hypothetical_lem boxes y without other k tree some is also =
-    let clears = same_list false without.runs.clears other.runs.clears (is.is_layout.has_runs.clears_length ∙ sym also.is_layout.has_runs.clears_length) (λ j lt. elim (cases_lt j k) [
+    let clears = ext_get_or false without.runs.clears other.runs.clears (is.is_layout.has_runs.clears_length ∙ sym also.is_layout.has_runs.clears_length) (λ j lt. elim (cases_lt j k) [
       | inl low ↦ is.earlier j low ∙ sym (also.earlier j low)
       | inr high ↦ is.later j high ∙ sym (also.later j high)
     ]) in

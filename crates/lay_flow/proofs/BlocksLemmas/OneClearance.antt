@@ -1,12 +1,12 @@
 -- Two flows of a context that are alike before a box give it the same clearance.
 use Rattle.std.proofs.Common.{◌≡◌, ◌⊎◌, ℕ, zero, suc, ◌<◌, ◌≤◌, Bool, true, false, ℤ, List, length, refl, sym, ap, ◌∙◌, arith, inl, inr, Option, Some, None, subst}
 use Rattle.std.proofs.lemmas.Bool.{cases_lt}
+use Rattle.std.proofs.lemmas.List.{ext_get_or}
 use Rattle.lay_flow.specs.Blocks.FlowBoxes.{IsFlowTree}
 use Rattle.lay_flow.specs.declared.blocks.flow_box.FlowBox.{FlowBox}
 use Rattle.lay_flow.specs.Blocks.Boxes.{parent_at, parents_of}
 use Rattle.lay_units.specs.declared.length.Unit.{Unit as Length}
 use Rattle.lay_doc.specs.Tree.{IsTree}
-use Rattle.lay_doc.proofs.OneStyles.{same_list}
 use Rattle.lay_floats.specs.declared.placed.Placed.{Placed}
 use Rattle.lay_floats.specs.declared.requests.Side.{Side}
 use Rattle.lay_floats.specs.declared.requests.Side.TheVariants.{Left as left, Right as right}
@@ -123,7 +123,7 @@ module _ (boxes : List FlowBox) (tree : IsTree (parents_of boxes)) (some : 0 < l
         let h = here.is_hypothetical in
         let t = there.is_hypothetical in
         one_runs boxes here.without.runs there.without.runs tree some
-        (same_list false here.without.runs.clears there.without.runs.clears (h.is_layout.has_runs.clears_length ∙ sym t.is_layout.has_runs.clears_length) (λ j lt. elim (cases_lt j k) [
+        (ext_get_or false here.without.runs.clears there.without.runs.clears (h.is_layout.has_runs.clears_length ∙ sym t.is_layout.has_runs.clears_length) (λ j lt. elim (cases_lt j k) [
           | inl low ↦ h.earlier j low ∙ was.clears j low ∙ sym (t.earlier j low)
           | inr high ↦ h.later j high ∙ sym (t.later j high)
         ])) h.is_layout.has_runs t.is_layout.has_runs

@@ -1,10 +1,10 @@
 -- A context has one flow.
 use Rattle.std.proofs.Common.{◌≡◌, ℕ, ◌+◌, ◌<◌, ◌≤◌, false, ℤ, ◌+ℤ◌, List, length, map, refl, sym, ap, ◌∙◌, arith, inl, subst}
+use Rattle.std.proofs.lemmas.List.{ext_get_or}
 use Rattle.lay_flow.specs.Blocks.FlowBoxes.{IsFlowTree}
 use Rattle.lay_flow.specs.declared.blocks.flow_box.FlowBox.{FlowBox}
 use Rattle.lay_flow.specs.Blocks.Boxes.{parent_at, parents_of}
 use Rattle.lay_doc.specs.Tree.{IsTree}
-use Rattle.lay_doc.proofs.OneStyles.{same_list}
 use Rattle.lay_floats.specs.declared.requests.Clear.TheVariants.{Both as clear_both}
 use Rattle.lay_floats.specs.ClearEdge.{IsClearEdge}
 use Rattle.lay_floats.proofs.Unique.{one_clear_edge_lem}
@@ -81,11 +81,11 @@ module _ (boxes : List FlowBox) (tree : IsTree (parents_of boxes)) (some : 0 < l
       (run_before boxes f.layout.runs 0 (length boxes)) (λ c from above inside. let least = at_last.alike.gathered.least in absurd (omega (arith, from, above, least)))
 
   places_same : f.places ≡ g.places
-  places_same = same_list no_spot f.places g.places (is.places_length ∙ sym also.places_length)
+  places_same = ext_get_or no_spot f.places g.places (is.places_length ∙ sym also.places_length)
       (λ k lt. let l = is.places_length in places_to boxes tree are f g is also (length boxes) (omega arith) marks_all k (omega (arith, l, lt)))
 
   clears_same : f.layout.runs.clears ≡ g.layout.runs.clears
-  clears_same = same_list false f.layout.runs.clears g.layout.runs.clears (is.layout.has_runs.clears_length ∙ sym also.layout.has_runs.clears_length)
+  clears_same = ext_get_or false f.layout.runs.clears g.layout.runs.clears (is.layout.has_runs.clears_length ∙ sym also.layout.has_runs.clears_length)
       (λ k lt. let l = is.layout.has_runs.clears_length in at_last.alike.clears k (omega (arith, l, lt)))
 
   edges_same : f.layout.clear_edges ≡ g.layout.clear_edges
@@ -123,7 +123,7 @@ one_context_flow_lem boxes f g are is also = flows_same boxes are.tree are.some 
 pub one_flow_of_lem : OneFlowOf
 one_flow_of_lem boxes out other are is also =
     let e = one_context_flow_lem boxes is.flow also.flow are is.is_flow also.is_flow in
-    let boxes_same : out.boxes ≡ other.boxes = same_list no_box_place out.boxes other.boxes (is.places.count ∙ sym also.places.count) (λ k lt. let l = is.places.count in
+    let boxes_same : out.boxes ≡ other.boxes = ext_get_or no_box_place out.boxes other.boxes (is.places.count ∙ sym also.places.count) (λ k lt. let l = is.places.count in
     is.places.each k (omega (arith, lt, l))
     ∙ ap (λ (f : Flow). border_box_in boxes f k) e
     ∙ sym (also.places.each k (omega (arith, lt, l)))) in

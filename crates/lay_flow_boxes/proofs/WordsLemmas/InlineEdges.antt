@@ -1,7 +1,7 @@
 -- The edges of an inline box without percentages.
 use Rattle.std.proofs.Common.{◌≡◌, zero, suc, ℤ, pos, negsuc, ◌+ℤ◌, Bool, true, false}
 use Rattle.std.proofs.Common.{◌&&◌, ◌||◌, not, if◌then◌else◌, refl, sym, ap, ◌∙◌, arith}
-use Rattle.std.proofs.lemmas.Bool.{ne_eqb}
+use Rattle.std.proofs.lemmas.Bool.{ne_eqb, or_left, or_right}
 use Rattle.std.proofs.lemmas.Int.{ints, clamps}
 use Rattle.lay_units.specs.Units.{clamp_of}
 use Rattle.lay_units.specs.declared.length.Unit.{Unit as Length}
@@ -60,14 +60,9 @@ together a b c m e p q = omega (arith, ints, p, q)
 together_behind : (a b c m e : ℤ) → m ≡ a → e ≡ b +ℤ c → a +ℤ b +ℤ c ≡ e +ℤ m
 together_behind a b c m e p q = omega (arith, ints, p, q)
 
--- which of them are there
-or_first : (u v : Bool) → u ≡ true → (u || v) ≡ true
-or_first true v h = refl
-or_first false v h = absurd cc
-
 some_of_sum : (a b v : ℤ) → v ≡ a +ℤ b → is_nonzero v ≡ true → (is_nonzero a || is_nonzero b) ≡ true
 some_of_sum (pos (suc n)) b v e h =
-    or_first (is_nonzero (pos (suc n))) (is_nonzero b) (ap (λ (z : Bool). not z) (ne_eqb (suc n) 0 (λ z. omega (arith, z))))
+    or_left (is_nonzero (pos (suc n))) (is_nonzero b) (ap (λ (z : Bool). not z) (ne_eqb (suc n) 0 (λ z. omega (arith, z))))
 some_of_sum (negsuc n) b v e h = refl
 some_of_sum (pos zero) b v e h = let same : v ≡ b = omega (arith, ints, e) in ap is_nonzero (sym same) ∙ h
 
@@ -115,10 +110,6 @@ one_or_other : (x y u v : Bool) → (x ≡ true → u ≡ true) → (y ≡ true 
 one_or_other x y true v p q w = refl
 one_or_other true y false v p q w = absurd (let u = p refl in cc u)
 one_or_other false y false v p q w = q w
-
-or_second : (u v : Bool) → v ≡ true → (u || v) ≡ true
-or_second true v h = refl
-or_second false v h = h
 
 if_there : (f g y v : Bool) → f ≡ g → (y ≡ true → v ≡ true) → (g && y) ≡ true → (f && v) ≡ true
 if_there true true y v e p w = p w
@@ -211,7 +202,7 @@ end_edges s z p q are same =
           (together_behind (margin_or_zero s.margin.right).0 (size_of s.border.width.right.0).0
           (size_or_zero s.padding.right).0 z.widths.margin_right.0 z.edges.right.0
           are.right_margin are.right_edge),
-      (λ h. or_second (has_vertical_edges s) (p.last && has_right_edges s)
+      (λ h. or_right (has_vertical_edges s) (p.last && has_right_edges s)
           (if_there p.last q.last (shows_right z) (has_right_edges s) last (right_seen s z are) h)),
     )
 

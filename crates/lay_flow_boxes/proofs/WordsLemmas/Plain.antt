@@ -1,7 +1,7 @@
 -- Bytes that are nothing but text to a line: no space, linefeed, tab or zero width space. Two such stretches that meet at a character are
 -- one such stretch.
 use Rattle.std.proofs.Common.{◌≡◌, ◌⊎◌, inl, inr, ℕ, ◌+◌, ◌<◌, ◌≤◌, Bool, true, false, ◌&&◌, ◌||◌, ◌==◌, nat_lt, if◌then◌else◌, List, length, slice_index, refl, sym, ap, ◌∙◌, subst, arith, eq-eqb, ne_eqb, eqb-true, le-ltb}
-use Rattle.std.proofs.lemmas.Bool.{cases_eq, cases_lt}
+use Rattle.std.proofs.lemmas.Bool.{cases_eq, cases_lt, false_from_ne_true, both_ways}
 use Rattle.lay_space.specs.declared.item.Mode.{Mode}
 use Rattle.lay_space.specs.declared.tokens.ClusterKind.{ClusterKind}
 use Rattle.lay_space.specs.declared.tokens.ClusterKind.TheVariants.{PreservedSpace, Linefeed, Tab, ZeroWidthSpace, Other}
@@ -47,13 +47,6 @@ second_of false b p = p
 one_of : (a b : Bool) → a || b ≡ true → (a ≡ true) ⊎ (b ≡ true)
 one_of true b h = inl refl
 one_of false b h = inr h
-
-false_by : (a : Bool) → (a ≡ true → ⊥) → a ≡ false
-false_by true never = absurd (never refl)
-false_by false never = refl
-
-never_both : (a : Bool) → a ≡ false → a ≡ true → ⊥
-never_both a p q = absurd (cc (p, q))
 
 byte_true : (text : List ℕ) (from to byte : ℕ) → IsByte text from to byte → is_byte text from to byte ≡ true
 byte_true text from to byte is = both (to == from + 1) (slice_index text from == byte) (eq-eqb _ _ is.0) (eq-eqb _ _ is.1)
@@ -107,11 +100,11 @@ pub plain_alone : (text : List ℕ) (from to : ℕ) → stands_alone text from t
 plain_alone text from to h =
     let t = alone_tests (is_byte text from to 32) (is_linefeed text from to) (is_byte text from to 9) (is_zero_width_space text from to) h in
     record {
-      space = λ is. never_both _ t.0 (byte_true text from to 32 is);
-      linefeed = λ is. never_both _ t.1 (first_of (is_byte text from to 10) _ (byte_true text from to 10 is));
-      tab = λ is. never_both _ t.2 (byte_true text from to 9 is);
-      crlf = λ is. never_both _ t.1 (return_true text from to is);
-      zero_width = λ is. never_both _ t.3 (zero_true text from to is);
+      space = λ is. both_ways _ t.0 (byte_true text from to 32 is);
+      linefeed = λ is. both_ways _ t.1 (first_of (is_byte text from to 10) _ (byte_true text from to 10 is));
+      tab = λ is. both_ways _ t.2 (byte_true text from to 9 is);
+      crlf = λ is. both_ways _ t.1 (return_true text from to is);
+      zero_width = λ is. both_ways _ t.3 (zero_true text from to is);
     }
 
 kind_by : (x y z : ClusterKind) (a b c d : Bool) → a ≡ false → b ≡ false → c ≡ false → d ≡ false
@@ -121,10 +114,10 @@ kind_by x y z a b c d p q r s = rw (p, q, r, s) refl
 pub plain_kind : (m : Mode) (text : List ℕ) (from to : ℕ) → IsPlain text from to → kind_of m text from to ≡ Other
 plain_kind m text from to plain =
     kind_by (space_kind m) (if joins_lines m then Other else Linefeed) (if collapses m then Other else Tab) _ _ _ _
-    (false_by _ (λ h. plain.space (byte_of text from to 32 h)))
-    (false_by _ (λ h. by (linefeed_of text from to h)))
-    (false_by _ (λ h. plain.tab (byte_of text from to 9 h)))
-    (false_by _ (λ h. plain.zero_width (zero_of text from to h)))
+    (false_from_ne_true _ (λ h. plain.space (byte_of text from to 32 h)))
+    (false_from_ne_true _ (λ h. by (linefeed_of text from to h)))
+    (false_from_ne_true _ (λ h. plain.tab (byte_of text from to 9 h)))
+    (false_from_ne_true _ (λ h. plain.zero_width (zero_of text from to h)))
   where
     by : IsByte text from to 10 ⊎ IsReturn text from to → ⊥
     by (inl is) = plain.linefeed is

@@ -4,6 +4,7 @@ use Rattle.std.proofs.Common.{List, [], ◌∷◌, ◌++◌, All, take, IsTrue, 
 use Rattle.std.specs.List.{list_any, slice_get}
 use Rattle.std.proofs.lemmas.List.Folds.{list_any-append}
 use Rattle.std.proofs.lemmas.List.Elements.{All-head, All-tail}
+use Rattle.std.proofs.lemmas.Bool.{or_left}
 use Rattle.lay_units.specs.declared.length.Unit.{Unit as Length}
 use Rattle.lay_units.specs.declared.records.ClusterWidth.{ClusterWidth}
 use Rattle.lay_space.specs.declared.item.Item.{Item}
@@ -21,7 +22,7 @@ use Rattle.lay_line_measures.specs.BoxMeasuresValue.{BoxMeasuresValue}
 use Rattle.lay_line_measures.specs.SeenLines.{has_seen_line, is_seen as is_seen_part}
 use Rattle.lay_line_measures.specs.Stretches.{parts_at as line_parts_at, parts_of as line_parts_of, stretches_of}
 use Rattle.lay_line_measures.specs.TextParts.{advance, cluster_parts, linefeed_parts, text_parts as line_text_parts}
-use Rattle.lay_line_measures.proofs.Disjunctions.{or_false, or_left}
+use Rattle.lay_line_measures.proofs.Disjunctions.{or_false}
 use Rattle.lay_line_measures.proofs.SeenPens.{seen_at, take_more}
 use Rattle.lay_measure.specs.declared.line_parts.LinePart.{LinePart}
 use Rattle.lay_measure.specs.declared.line_parts.LinePart.TheVariants as part

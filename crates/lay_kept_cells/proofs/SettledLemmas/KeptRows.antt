@@ -1,5 +1,6 @@
 -- Pairs and claims of a row that is changed, and of rows that are marked.
 use Rattle.std.proofs.Common.{◌≡◌, ⊎_elim, ◌<◌, ◌≤◌, ℕ, List, length, slice_get, slice_set, Option, Some, None, IsNone, option_map, refl, arith, ap, sym, subst, ◌∙◌}
+use Rattle.std.proofs.lemmas.Option.{same_Some}
 use Rattle.lay_cells.specs.Marks.{Marks, Reached, marked, staled}
 use Rattle.lay_cells.specs.Places.{AtPlace}
 use Rattle.lay_cells.specs.Reads.{AllClean}
@@ -13,7 +14,7 @@ use Rattle.lay_cells.specs.declared.answers.Finished.TheVariants as finished
 use Rattle.lay_cells.specs.declared.answers.Released.{Released}
 use Rattle.lay_cells.specs.declared.answers.Released.TheVariants as released
 use Rattle.lay_cells.specs.declared.cell.Open.{Open}
-use Rattle.lay_cells.proofs.Lists.{set_cases, some_inj}
+use Rattle.lay_cells.proofs.Lists.{set_cases}
 use Rattle.lay_cells.proofs.Marked.{beside}
 use Rattle.lay_shape.specs.declared.cell_key.CellKey.{CellKey}
 use Rattle.lay_cell_work.specs.CellInputs.{CellInput}
@@ -55,12 +56,12 @@ module _ (number : ℕ) (r q : CellRow) (later : (n : ℕ) → IsOpen r n → nu
   opened_as : q.kept ≡ r.kept → (m : ℕ) → number < m → IsOpen q m → IsStill number r q
   opened_as kept m lt opened = record {
     kept = λ d is le. sym kept ∙ is;
-    opened = λ n is. (let e = some_inj m n (sym opened ∙ is) in omega (arith, lt, e));
+    opened = λ n is. (let e = same_Some m n (sym opened ∙ is) in omega (arith, lt, e));
   }
 
   completed : (d : Done) → number < d.number → q.kept ≡ Some d → q.claim ≡ None → IsStill number r q
   completed d lt kept none = record {
-    kept = λ e is le. (let eq = ap (λ (x : Done). x.number) (some_inj d e (sym kept ∙ is)) in absurd (omega (arith, lt, le, eq)));
+    kept = λ e is le. (let eq = ap (λ (x : Done). x.number) (same_Some d e (sym kept ∙ is)) in absurd (omega (arith, lt, le, eq)));
     opened = λ n is. absurd (open_none q.claim n none is);
   }
 

@@ -1,5 +1,6 @@
 -- Contexts whose cells stay through one edit and another keep them through both.
-use Rattle.std.proofs.Common.{◌≡◌, ℕ, zero, suc, ◌<◌, ◌||◌, Bool, true, false, List, [], ◌∷◌, length, refl, arith, ap, sym, ◌∙◌}
+use Rattle.std.proofs.Common.{◌≡◌, ℕ, zero, suc, ◌<◌, ◌||◌, Bool, List, [], ◌∷◌, length, refl, arith, ap, sym, ◌∙◌}
+use Rattle.std.proofs.lemmas.Bool.{or_parts}
 use Rattle.lay_contexts.specs.Contexts.{Context}
 use Rattle.lay_shape.specs.KeptShapes.KeptBoxes.{KeepCells}
 use Rattle.lay_after_edits.specs.Contexts.Links.{is_made}
@@ -17,10 +18,6 @@ either_made (x ∷ xs) [] e i = absurd (omega (arith, e))
 either_made (x ∷ xs) (y ∷ ys) e zero = refl
 either_made (x ∷ xs) (y ∷ ys) e (suc i) = either_made xs ys (omega (arith, e)) i
 
-neither : (a b : Bool) → (a || b) ≡ false → (a ≡ false) × (b ≡ false)
-neither true b e = absurd cc
-neither false b e = (refl, e)
-
 pub kept_twice : (before contexts later : List Context) (changed made : List Bool) → KeepCells before contexts changed → KeepCells contexts later made
     → KeepCells before later (either changed made)
 kept_twice before contexts later changed made p q = record {
@@ -30,7 +27,7 @@ kept_twice before contexts later changed made p q = record {
       each = λ i lt. q.boxes.nodes.each i (within i lt) ∙ p.boxes.nodes.each i lt;
     };
     flags = either_count changed made ∙ p.boxes.flags;
-    kept = λ i lt same. (let both = neither (is_made changed i) (is_made made i) (sym (either_made changed made flags i) ∙ same) in
+    kept = λ i lt same. (let both = or_parts (is_made changed i) (is_made made i) (sym (either_made changed made flags i) ∙ same) in
         q.boxes.kept i (within i lt) both.1 ∙ p.boxes.kept i lt both.0);
   };
   shape = q.shape ∙ p.shape;

@@ -1,13 +1,13 @@
 -- The places of the cells that one depends on.
 use Rattle.std.proofs.Common.{◌≡◌, ◌<◌, ℕ, List, length, map, slice_get, Some, arith, ap, sym, ◌∙◌}
-use Rattle.std.proofs.lemmas.Option.{slice_get_within}
+use Rattle.std.proofs.lemmas.Option.{slice_get_within, same_Some}
 use Rattle.lay_cells.specs.Places.{IsNeedAt}
 use Rattle.lay_cells.specs.Reuses.{AreNeedsAt}
 use Rattle.lay_cells.specs.Rows.{entry_of}
 use Rattle.lay_cells.specs.Shapes.{IsShape}
 use Rattle.lay_cells.proofs.Answered.{one_by_key}
 use Rattle.lay_cells.proofs.ByPlace.{at_within}
-use Rattle.lay_cells.proofs.Lists.{one_at, some_inj}
+use Rattle.lay_cells.proofs.Lists.{one_at}
 use Rattle.lay_cell_work.specs.CellLaws.SoundCells.{CellRow}
 
 pub need_within : (rows : List CellRow) (place : ℕ) (places : List ℕ) → AreNeedsAt rows place places → (j need : ℕ) → slice_get places j ≡ Some need → need < length rows
@@ -23,5 +23,5 @@ need_listed rows shape place places are j need at =
     let count = are.count in
     let p = at_within places j (omega (arith, lt, count)) in
     let q = are.each j p.0 p.1 in
-    let one = one_by_key rows shape p.0 need q.0 at.2.0 q.1 at.2.1 (some_inj q.0.key at.2.0.key (sym q.2 ∙ key)) in
+    let one = one_by_key rows shape p.0 need q.0 at.2.0 q.1 at.2.1 (same_Some q.0.key at.2.0.key (sym q.2 ∙ key)) in
     p.1 ∙ ap Some one.0

@@ -1,12 +1,13 @@
 -- An unchanged cell is given what it was when all cells were clean, of which its kept pair is.
 use Rattle.std.proofs.Common.{◌≡◌, ◌<◌, ℕ, false, List, length, map, slice_get, Some, option_map, arith, ap, sym, subst, ◌∙◌}
+use Rattle.std.proofs.lemmas.Option.{same_Some}
 use Rattle.lay_doc.specs.Document.{Document}
 use Rattle.lay_face.specs.FaceValue.{FaceValue}
 use Rattle.lay_cells.specs.Places.{AtPlace}
 use Rattle.lay_cells.specs.Rows.{Solved, entry_of}
 use Rattle.lay_cells.specs.Shapes.{Entry, IsIn}
 use Rattle.lay_cells.specs.Steps.{HasKept}
-use Rattle.lay_cells.proofs.Lists.{map_at, one_at, some_inj}
+use Rattle.lay_cells.proofs.Lists.{map_at, one_at}
 use Rattle.lay_contexts.specs.Contexts.{Context}
 use Rattle.lay_doc.specs.declared.node.NodeId.{NodeId}
 use Rattle.lay_contexts.specs.FormattingContexts.{FormattingContext}
@@ -61,14 +62,14 @@ module _ (kept : InputsAreKept) (d : Document) (face : FaceValue) (contexts : Li
   -- a row is of the cell of the one that was there
   same_entry : (place : ℕ) (r q : CellRow) → slice_get s.rows place ≡ Some r → slice_get is.settled.rows place ≡ Some q → entry_of r ≡ entry_of q
   same_entry place r q at at_q =
-      some_inj (entry_of r) (entry_of q)
+      same_Some (entry_of r) (entry_of q)
       (sym (map_at entry_of s.rows place r at) ∙ ap (λ (es : List (Entry CellKey)). slice_get es place) entries ∙ map_at entry_of is.settled.rows place q at_q)
 
   row_key : (place : ℕ) (r : CellRow) (c : ContextPhase) → slice_get s.rows place ≡ Some r → slice_get (cells_of contexts) place ≡ Some c
       → r.key ≡ key_of contexts c.context c.phase
   row_key place r c at at_c =
       ap (λ (e : Entry CellKey). e.key)
-      (some_inj (entry_of r) (entry_of_cell contexts c)
+      (same_Some (entry_of r) (entry_of_cell contexts c)
       (sym (map_at entry_of s.rows place r at) ∙ ap (λ (es : List (Entry CellKey)). slice_get es place) cells.shaped
       ∙ map_at (entry_of_cell contexts) (cells_of contexts) place c at_c))
 

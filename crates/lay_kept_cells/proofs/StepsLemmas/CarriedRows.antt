@@ -1,12 +1,12 @@
 -- Rows after a new shape and after marks: each has its entry, and one that is clean, or has a claim that isn't stale, was there before.
 use Rattle.std.proofs.Common.{◌≡◌, ◌⊎◌, inl, inr, ◌+◌, ℕ, zero, suc, true, false, List, [], ◌∷◌, map, slice_get, Option, None, Some, option_map, refl, ap, sym, subst, ◌∙◌, arith}
+use Rattle.std.proofs.lemmas.Option.{same_Some}
 use Rattle.lay_cells.specs.Marks.{MarksWhere, Marks, Reached, marked}
 use Rattle.lay_cells.specs.Reshapes.{Carries, Rebuilds, RebuildsAll, made_row}
 use Rattle.lay_cells.specs.Rows.{Row, entry_of}
 use Rattle.lay_cells.specs.Shapes.{Entry, IsIn}
 use Rattle.lay_cells.specs.Steps.{IsStale}
 use Rattle.lay_cells.specs.declared.cell.Open.{Open}
-use Rattle.lay_cells.proofs.Lists.{some_inj}
 use Rattle.lay_cells.proofs.Marked.{beside, marked_entry}
 use Rattle.lay_cells.proofs.Reaching.{not_fresh_row}
 
@@ -57,7 +57,7 @@ module _ {K I V : Type 0} where
     pub rebuilt_rows : (n : ℕ) (es : List (Entry K)) (qs : List (Row K I V)) (m : ℕ) → RebuildsAll old F new n es qs m → (i : ℕ) (z : Row K I V) → slice_get qs i ≡ Some z → IsIdle z ⊎ IsIn old z
     rebuilt_rows n es [] m h i z at = absurd cc
     rebuilt_rows n [] (q ∷ qs) m h i z at = absurd h
-    rebuilt_rows n (e ∷ es) (q ∷ qs) m h zero z at = subst (λ (x : Row K I V). IsIdle x ⊎ IsIn old x) (some_inj q z at) (rebuilt_row n e q h.0 h.1)
+    rebuilt_rows n (e ∷ es) (q ∷ qs) m h zero z at = subst (λ (x : Row K I V). IsIdle x ⊎ IsIn old x) (same_Some q z at) (rebuilt_row n e q h.0 h.1)
     rebuilt_rows n (e ∷ es) (q ∷ qs) m h (suc i) z at = rebuilt_rows h.0 es qs m h.2 i z at
 
   pub marks_entries : (P : Row K I V → Type 0) (rows new : List (Row K I V)) → MarksWhere P rows new → map entry_of new ≡ map entry_of rows

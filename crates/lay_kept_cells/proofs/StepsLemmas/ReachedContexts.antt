@@ -2,6 +2,7 @@
 use Rattle.std.proofs.Common.{◌≡◌, ◌⊎◌, ⊎_elim, inl, inr, ◌<◌, ℕ, suc, Bool, true, false, not, ◌&&◌, List, [], ◌∷◌, length, slice_index, Option, None, Some, refl, ap, sym, subst, ◌∙◌, arith}
 use Rattle.std.specs.Prelude.{◌↔◌}
 use Rattle.std.proofs.lemmas.Bool.{cases_lt}
+use Rattle.std.proofs.lemmas.Option.{same_Some}
 use Rattle.lay_style.specs.declared.style.Style.{Style}
 use Rattle.lay_style.specs.declared.style_words.TableLayout.{TableLayout}
 use Rattle.lay_style.specs.declared.style_words.TableLayout.TheVariants.{Auto}
@@ -12,7 +13,6 @@ use Rattle.lay_doc.proofs.NodeColumns.{length-ids}
 use Rattle.lay_box_tree.specs.BoxColumns.{box_at}
 use Rattle.lay_box_tree.specs.declared.box_tree.BoxNode.{BoxNode}
 use Rattle.lay_boxgen.specs.Contexts.{IsContext, IsContextAt, IsContextThere, box_at as node_box_at, is_marked}
-use Rattle.lay_cells.proofs.Lists.{some_inj}
 use Rattle.lay_contexts.specs.Contexts.{AreContexts, Context, boxes_in, context_at}
 use Rattle.lay_contexts.specs.FormattingContexts.{AreFormattingContexts, FormattingContext, boxes_in as boxes_of, formatting_context_at}
 use Rattle.lay_contexts.specs.FormattingContextList.{first_number, number_of}
@@ -62,7 +62,7 @@ module _ (d : Document) (styles : List Style) (contexts : List Context) (all : L
 
   one_id : (i k : ℕ) → i < length contexts → k < length contexts → id_of d contexts i ≡ id_of d contexts k → i ≡ k
   one_id i k li lk e =
-      let same : place i ≡ place k = some_inj (place i) (place k) (sym (named i li) ∙ ap (λ (x : ℕ). place_of x (ids_of d.nodes)) e ∙ named k lk) in
+      let same : place i ≡ place k = same_Some (place i) (place k) (sym (named i li) ∙ ap (λ (x : ℕ). place_of x (ids_of d.nodes)) e ∙ named k lk) in
       ⊎_elim
       (λ low. absurd (let r = rises i k low lk in omega (arith, r, same)))
       (λ high. ⊎_elim (λ low. absurd (let r = rises k i low li in omega (arith, r, same))) (λ also. omega (arith, high, also)) (cases_lt k i))

@@ -1,6 +1,6 @@
 -- Claims, work that comes back, and claims that are given back keep the cells of a document.
-use Rattle.std.proofs.Common.{◌≡◌, ◌⊎◌, ⊎_elim, inl, inr, ◌<◌, ◌+◌, ℕ, Bool, true, false, List, length, slice_get, slice_set, Option, None, Some, IsNone, option_map, refl, ap, sym, subst, ◌∙◌}
-use Rattle.std.proofs.lemmas.Bool.{false≢true}
+use Rattle.std.proofs.Common.{◌≡◌, ⊎_elim, inl, inr, ◌<◌, ◌+◌, ℕ, Bool, true, false, List, length, slice_get, slice_set, Option, None, Some, IsNone, option_map, ap, sym, subst, ◌∙◌}
+use Rattle.std.proofs.lemmas.Bool.{false≢true, cases_Bool}
 use Rattle.lay_doc.specs.Document.{Document}
 use Rattle.lay_face.specs.FaceValue.{FaceValue}
 use Rattle.lay_cells.specs.Rows.{Solved, entry_of}
@@ -33,10 +33,6 @@ use Rattle.lay_kept_cells.proofs.StepsLemmas.RowsOfContexts.{same_context, same_
 none_fresh : (o : Option Open) (b : Bool) → o ≡ None → option_map (λ (c : Open). c.stale) o ≡ Some b → ⊥
 none_fresh None b is e = absurd cc
 none_fresh (Some c) b is e = absurd cc
-
-bool_cases : (b : Bool) → (b ≡ true) ⊎ (b ≡ false)
-bool_cases true = inl refl
-bool_cases false = inr refl
 
 some_open : (o : Option Open) (b : Bool) → IsNone o → option_map (λ (c : Open). c.stale) o ≡ Some b → ⊥
 some_open None b none e = absurd cc
@@ -105,7 +101,7 @@ module _ (kept : InputsAreKept) (d : Document) (face : FaceValue) (contexts : Li
     -- a cell with an open claim is dirty
     open_dirty : (b : Bool) → IsStale r b → r.dirty ≡ true
     open_dirty b is =
-        ⊎_elim (λ (e : r.dirty ≡ true). e) (λ (e : r.dirty ≡ false). absurd (some_open r.claim b ((cells.cells.sound.each r (i, at)).closed e) is)) (bool_cases r.dirty)
+        ⊎_elim (λ (e : r.dirty ≡ true). e) (λ (e : r.dirty ≡ false). absurd (some_open r.claim b ((cells.cells.sound.each r (i, at)).closed e) is)) (cases_Bool r.dirty)
 
     finished_row : (done : Solved CellKey CellInput CellValue) (answer : Finished) → Finishes r done answer q → (same : entry_of q ≡ entry_of r) × Present same
     finished_row done finished.Gone h = (ap entry_of h.1, unchanged h.1)

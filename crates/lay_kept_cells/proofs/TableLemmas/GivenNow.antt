@@ -1,5 +1,6 @@
 -- What the cell at a place is given now.
 use Rattle.std.proofs.Common.{◌≡◌, ◌<◌, ℕ, List, length, slice_get, Some, option_map, ap, sym, subst, ◌∙◌, arith}
+use Rattle.std.proofs.lemmas.Option.{slice_get_within}
 use Rattle.lay_cells.specs.Looks.{Looks}
 use Rattle.lay_cells.specs.Places.{AtPlace}
 use Rattle.lay_cells.specs.declared.answers.Look.TheVariants as look
@@ -14,7 +15,6 @@ use Rattle.lay_kept_cells.specs.Steps.ReadyCells.{ReadyToInput}
 use Rattle.lay_kept_cells.specs.Table.CellTables.{CellTable}
 use Rattle.lay_kept_cells.specs.Table.TableCells.{AreCellsOn, HaveNeeds, IsGivenNow, input_at}
 use Rattle.lay_kept_cells.proofs.TableLemmas.KeptReads.{key_there, rows_counted}
-use Rattle.lay_kept_cells.proofs.TableLemmas.PlaceSteps.{is_before}
 
 pub same_input : (medium : Medium) (t : CellTable) (rows : List CellRow) (cell : ContextPhase) (key : CellKey) (roots : List RootInput) → key ≡ key_of t.contexts cell
     → roots ≡ (input_now medium t.contexts t.formatting_contexts rows cell.context cell.phase).roots
@@ -24,7 +24,7 @@ same_input medium t rows cell key roots e f =
 
 module _ (medium : Medium) (t : CellTable) (s : CellState) (on : AreCellsOn medium t s) (place : ℕ) where
   pub place_there : (P : CellRow → Type 0) → AtPlace s.rows place P → place < length (cells_of t.contexts)
-  place_there P at = (let low = is_before s.rows place at.0 at.1 in let count = rows_counted s.rows t.contexts on.cells.shaped in omega (arith, low, count))
+  place_there P at = (let low = slice_get_within s.rows place at.0 at.1 in let count = rows_counted s.rows t.contexts on.cells.shaped in omega (arith, low, count))
 
   module _ (cell : ContextPhase) (is : slice_get (cells_of t.contexts) place ≡ Some cell) (within : cell.context < length t.contexts) where
     pub has_needs : ReadyToInput → AtPlace s.rows place (λ r. Looks s.rows r.key look.Ready) → HaveNeeds t s.rows cell

@@ -1,7 +1,7 @@
 -- What is read of the cell at a place is what is kept under its key.
 use Rattle.std.proofs.Common.{◌≡◌, ◌<◌, ℕ, zero, suc, Bool, true, false, List, [], ◌∷◌, length, map, slice_get, slice_index_or, None, Some, option_map, refl, ap, sym, ◌∙◌, arith}
 use Rattle.std.proofs.lemmas.List.{length-map}
-use Rattle.std.proofs.lemmas.Option.{same_Some, slice_get-map}
+use Rattle.std.proofs.lemmas.Option.{same_Some, slice_get-map, slice_get_within}
 use Rattle.lay_cells.specs.Rows.{entry_of}
 use Rattle.lay_cells.specs.Shapes.{Entry, IsShape}
 use Rattle.lay_context.specs.declared.task.Phase.{Phase}
@@ -14,7 +14,6 @@ use Rattle.lay_shape.specs.Shapes.{cells_of, entry_of as entry_of_cell, shape_of
 use Rattle.lay_cell_work.specs.KeptValues.{is_key, kept_value, value_or_none, value_under}
 use Rattle.lay_cell_work.specs.CellLaws.SoundCells.{CellRow}
 use Rattle.lay_cell_work.proofs.CellLawsLemmas.CleanCells.{is_same_key, key_is}
-use Rattle.lay_kept_cells.proofs.TableLemmas.PlaceSteps.{is_before}
 
 -- no two cells have one key
 abbrev pub AreApart : List CellRow → Type 0
@@ -44,7 +43,7 @@ module _ (rows : List CellRow) (contexts : List Context) (shaped : map entry_of 
   rows_counted = sym (length-map rows entry_of) ∙ ap length shaped ∙ length-map (cells_of contexts) (entry_of_cell contexts)
 
   pub place_within : (cell : ContextPhase) (place : ℕ) → slice_get (cells_of contexts) place ≡ Some cell → place < length rows
-  place_within cell place at = (let low = is_before (cells_of contexts) place cell at in let count = rows_counted in omega (arith, low, count))
+  place_within cell place at = (let low = slice_get_within (cells_of contexts) place cell at in let count = rows_counted in omega (arith, low, count))
 
   -- the cell at a place has the key of the context and the phase there
   pub key_there : (cell : ContextPhase) (place : ℕ) (r : CellRow) → slice_get (cells_of contexts) place ≡ Some cell → slice_get rows place ≡ Some r → r.key ≡ key_of contexts cell

@@ -1,8 +1,8 @@
 -- Where cells stand, with one more.
-use Rattle.std.proofs.Common.{◌≡◌, ◌≢◌, ℕ, zero, suc, ◌+◌, ◌<◌, List, [], ◌∷◌, length, slice_get, slice_set, Some, refl, ap, sym, subst, ◌∙◌, arith, inl, inr}
+use Rattle.std.proofs.Common.{◌≡◌, ◌≢◌, ℕ, suc, ◌+◌, ◌<◌, List, length, slice_get, slice_set, Some, refl, ap, sym, subst, ◌∙◌, arith, inl, inr}
 use Rattle.std.proofs.lemmas.Bool.{cases_lt}
 use Rattle.std.proofs.lemmas.Grind.{elements}
-use Rattle.std.proofs.lemmas.Option.{same_Some, none-some}
+use Rattle.std.proofs.lemmas.Option.{same_Some, slice_get_within}
 use Rattle.lay_context.specs.declared.task.Phase.{Phase}
 use Rattle.lay_context.specs.declared.task.Phase.TheVariants as phase
 use Rattle.lay_contexts.specs.Contexts.{AreContexts, Context}
@@ -12,11 +12,6 @@ use Rattle.lay_shape.specs.Laws.{CellsStandOnce}
 use Rattle.lay_shape.specs.Shapes.{cells_of}
 use Rattle.lay_kept_cells.specs.declared.table.cell_places.CellPlaces.{CellPlaces}
 use Rattle.lay_kept_cells.specs.Table.CellPlaces.{ArePlaces, ArePlacesTo, StandsThere, place_in, places_at, with_place}
-
-pub is_before : {X : Type 0} (xs : List X) (k : ℕ) (x : X) → slice_get xs k ≡ Some x → k < length xs
-is_before [] k x e = absurd (none-some x e)
-is_before (y ∷ xs) zero x e = omega arith
-is_before (y ∷ xs) (suc k) x e = (let low = is_before xs k x e in omega (arith, low))
 
 noted_here : (places : List CellPlaces) (i : ℕ) (p : CellPlaces) → i < length places → places_at (slice_set places i p) i ≡ p
 noted_here places i p lt = grind (arith, elements)
@@ -94,6 +89,6 @@ pub all_noted : (contexts : List Context) (places : List CellPlaces) (n : ℕ) �
 all_noted contexts places n once are all count noted = record {
   count = count;
   each = λ c p lt. (let s = once contexts c p are lt in
-      let low = is_before (cells_of contexts) s.place (in_phase p c) s.at in
+      let low = slice_get_within (cells_of contexts) s.place (in_phase p c) s.at in
       noted s.place (in_phase p c) (omega (arith, all, low)) s.at);
 }

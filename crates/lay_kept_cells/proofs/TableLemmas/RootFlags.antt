@@ -1,7 +1,7 @@
 -- Which roots of a context are anonymous, and that a context without such ones links none of its boxes.
 use Rattle.std.proofs.Common.{◌≡◌, ℕ, zero, suc, nat_lt, ◌+◌, ◌<◌, Bool, true, false, List, [], ◌∷◌, length, map, slice_index, Option, None, refl, ap, ◌∙◌, arith, inl, inr}
 use Rattle.std.specs.List.{list_any}
-use Rattle.std.proofs.lemmas.Bool.{cases_lt}
+use Rattle.std.proofs.lemmas.Bool.{cases_lt, false_from_ne_true}
 use Rattle.lay_contexts.specs.Contexts.{AreContexts, Context}
 use Rattle.lay_contexts.specs.FormattingContexts.{FormattingContext, IsInside, formatting_context_at}
 use Rattle.lay_contexts.specs.FormattingContextList.{AreFormattingContextsOf, first_number}
@@ -33,10 +33,6 @@ no_flow_link all first j own = by (is_absolute all j) refl
     by : (b : Bool) → is_absolute all j ≡ b → link_to all first (flow_number all j) ≡ None
     by true e = rw e refl
     by false e = rw e (no_link all first j own)
-
-not_true : (b : Bool) → (b ≡ true → ⊥) → b ≡ false
-not_true true never = absurd (never refl)
-not_true false never = refl
 
 module _ (contexts : List Context) (all : List FormattingContext) (are : AreContexts contexts) (of : AreFormattingContextsOf contexts all) (c : ℕ) (lt : c < length contexts) where
   abbrev First : ℕ
@@ -78,7 +74,7 @@ module _ (contexts : List Context) (all : List FormattingContext) (are : AreCont
       let there = first_there contexts all are of c lt in
       let inside : IsInside all First j = record { box = k; within = within; number = refl; some = some } in
       let behind = (in_order contexts all are of).behind First j there inside in
-      not_true (formatting_context_at all j).anonymous
+      false_from_ne_true (formatting_context_at all j).anonymous
       (λ yes. (let is = inner_is_of contexts all are of First k j there own_root within refl some yes in
       let until = is.until in
       omega (arith, behind, until, only)))

@@ -1,7 +1,7 @@
 use Rattle.std.proofs.Common.{◌≡◌, ◌++◌, sym, ap, ◌∙◌, arith}
 use Rattle.std.proofs.lemmas.Bool.Decides.{Decides-eqb}
 use Rattle.std.proofs.lemmas.Slice.Eq.{slice_eq-Decides}
-use Rattle.lay_history.proofs.Lists.{not_none, some_is}
+use Rattle.std.proofs.lemmas.Option.{same_Some, none-some}
 use Rattle.lay_report.specs.Report.{laid_line}
 use Rattle.lay_audit.specs.Lines.{behind_line, first_line}
 use Rattle.lay_audit.proofs.EndSteps.{laid_first}
@@ -12,7 +12,7 @@ use Rattle.lay_audit.proofs.ending.behind_laid.Goals.{else-contexts-laid-via-the
 
 pub returns-in_default-clause-none : goal.returns-in_default-clause-none
 returns-in_default-clause-none c = λ e rest is.
-    not_none is.laid (sym c.in_default.is ∙ c.laid_number.ensures is.laid is.within (c.split_line.ensures.first ∙ (ap first_line is.text_is ∙ laid_first is.laid rest)))
+    none-some is.laid (sym c.in_default.is ∙ c.laid_number.ensures is.laid is.within (c.split_line.ensures.first ∙ (ap first_line is.text_is ∙ laid_first is.laid rest)))
 
 pub returns-then-eq-clause-some : goal.returns-then-eq-clause-some
 returns-then-eq-clause-some c =
@@ -28,7 +28,7 @@ returns-then-eq-clause-some c =
 pub returns-clause-none : goal.returns-clause-none
 returns-clause-none c = λ e rest is.
     let line = c.split_line.ensures.first ∙ (ap first_line is.text_is ∙ laid_first is.laid rest) in
-    let number : c.in-Some.laid ≡ is.laid = some_is c.in-Some.laid is.laid (sym c.in-Some.is ∙ c.laid_number.ensures is.laid is.within line) in
+    let number : c.in-Some.laid ≡ is.laid = same_Some c.in-Some.laid is.laid (sym c.in-Some.is ∙ c.laid_number.ensures is.laid is.within line) in
     elim c.else-contexts-laid.branch [
       | else-contexts-laid-via-then-contexts-laid+else-eq w ↦
           not_both w.eq.result

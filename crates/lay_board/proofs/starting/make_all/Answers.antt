@@ -1,8 +1,9 @@
 use Rattle.std.proofs.Common.{◌≡◌, ap, arith, sym, subst, ◌∙◌, [], ◌∷◌, ◌++◌, length, sum}
 use Rattle.std.specs.Vec.Iter.{into_iter_items}
+use Rattle.std.proofs.lemmas.List.{nil_from_length}
 use Rattle.lay_board.specs.Rules.{maker_view}
 use Rattle.lay_board.proofs.Steps.{sum_cons}
-use Rattle.lay_board.proofs.Makings.{IsMaking, few_made, made_all, making_more, nothing_left}
+use Rattle.lay_board.proofs.Makings.{IsMaking, few_made, made_all, making_more}
 use Rattle.lay_board.proofs.starting.make_all.Goals as goal
 
 pub overflow_cast-number : goal.overflow_cast-number
@@ -53,11 +54,11 @@ loop-left-preserved c =
 pub returns-clause-maker : goal.returns-clause-maker
 returns-clause-maker c i e =
     let at = c.loop-left in
-    let none = nothing_left (into_iter_items at.left-iterator) (sym at.invariant.1 ∙ c.in-None.ensures.steps.0) in
+    let none = nil_from_length (into_iter_items at.left-iterator) (sym at.invariant.1 ∙ c.in-None.ensures.steps.0) in
     (made_all _ i _ _ _ _ _ none (at.invariant.4 i e)).me_is
 
 pub returns-clause-passes : goal.returns-clause-passes
 returns-clause-passes c i e =
     let at = c.loop-left in
-    let none = nothing_left (into_iter_items at.left-iterator) (sym at.invariant.1 ∙ c.in-None.ensures.steps.0) in
+    let none = nil_from_length (into_iter_items at.left-iterator) (sym at.invariant.1 ∙ c.in-None.ensures.steps.0) in
     (made_all c.args.table.now.shared.table_id i _ _ _ _ _ none (at.invariant.4 i e)).made

@@ -1,6 +1,7 @@
 use Rattle.std.proofs.Common.{◌≡◌, ◌++◌, ◌∷◌, [], None, arith, rules}
+use Rattle.std.proofs.lemmas.List.{length_push}
 use Rattle.lay_abspos.specs.Relative.FormerParents.{IsFormerParent}
-use Rattle.lay_abspos.proofs.RelativeLemmas.Ends.{each-longer, length-longer}
+use Rattle.lay_abspos.proofs.RelativeLemmas.Ends.{each-longer}
 use Rattle.lay_abspos.proofs.relative.former_parent.parents_of.Goals as goal
 
 pub loop-k-preserved : goal.loop-k-preserved
@@ -9,7 +10,7 @@ loop-k-preserved c =
     let ps = c.loop-k.parents.items in
     let parent = c.former_parent-parent.result in
     let longer : c.push.new.self.items ≡ ps ++ parent ∷ [] = search rules in
-    let n = length-longer ps parent in
+    let n = length_push ps parent in
     let count = c.loop-k.invariant.count in
     rw longer (record {
       count = omega (arith, n, count);

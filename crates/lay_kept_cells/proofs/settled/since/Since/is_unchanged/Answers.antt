@@ -1,5 +1,5 @@
 use Rattle.std.proofs.Common.{◌∙◌, ap, sym}
-use Rattle.lay_cells.proofs.Lists.{some_inj}
+use Rattle.std.proofs.lemmas.Option.{same_Some}
 use Rattle.lay_shape.specs.declared.context_phase.ContextPhase.{ContextPhase}
 use Rattle.lay_kept_cells.proofs.SettledLemmas.NeedPlaces.{need_listed, need_within}
 use Rattle.lay_kept_cells.proofs.settled.since.Since.is_unchanged.Goals as goal
@@ -11,7 +11,7 @@ pub returns-then-is_measure : goal.returns-then-is_measure
 returns-then-is_measure c = (
   λ t. absurd cc,
   λ un. absurd
-      (un.phase (ap (λ (x : ContextPhase). x.phase) (some_inj un.own.cell c.cell_at.result (sym un.own.cell_is ∙ c.cell_at.ensures.cell)) ∙ c.is_measure.ensures.0 c.if-is_measure.true)),
+      (un.phase (ap (λ (x : ContextPhase). x.phase) (same_Some un.own.cell c.cell_at.result (sym un.own.cell_is ∙ c.cell_at.ensures.cell)) ∙ c.is_measure.ensures.0 c.if-is_measure.true)),
 )
 
 pub returns-then-not-is_kept : goal.returns-then-not-is_kept
@@ -21,7 +21,7 @@ pub returns : goal.returns
 returns c = (
   λ t.
       let own = c.is_kept.ensures.0 c.if-not-is_kept.false in
-      let same = some_inj own.cell c.cell_at.result (sym own.cell_is ∙ c.cell_at.ensures.cell) in
+      let same = same_Some own.cell c.cell_at.result (sym own.cell_is ∙ c.cell_at.ensures.cell) in
       record {
         own = own;
         phase = λ e. (let yes = c.is_measure.ensures.1 (ap (λ (x : ContextPhase). x.phase) (sym same) ∙ e) in absurd cc);
