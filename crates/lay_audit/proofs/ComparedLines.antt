@@ -2,6 +2,7 @@
 use Rattle.std.proofs.Common.{◌≡◌, ℕ, ◌+◌, ◌<◌, ◌≤◌, ◌==◌, Bool, true, false, if◌then◌else◌, List, [], ◌∷◌, ◌++◌, length, Option, Some, None, IfSome, IsSomeAnd, MatchOption, refl, sym, ap, ◌∙◌, subst, arith, append_assoc, append-nil, length-append}
 use denote.Ref.{Bor}
 use Rattle.std.proofs.lemmas.List.{append_cancel_right}
+use Rattle.std.proofs.lemmas.Bool.{true≢false}
 use Rattle.lay_audit.specs.Lines.{behind_line, first_line}
 use Rattle.lay_audit.specs.NextLines.{BeginsWith}
 use Rattle.lay_audit.specs.Readings.{IsFrontOf, PartsFrom}
@@ -117,11 +118,8 @@ more_room wanted text left rest more lines is some e =
     let r : length rest ≡ length (first_line left) + length more = ap (λ x. length x) e ∙ length-append (first_line left) more in
     omega (arith, f, s, r)
 
-true_false : true ≡ false → ⊥
-true_false e = absurd cc
-
 pub not_empty : (xs : List ℕ) (b : Bool) → b ≡ (length xs == 0) → b ≡ false → xs ≡ [] → ⊥
-not_empty xs b is other e = true_false (sym (is ∙ ap (λ x. length x == 0) e) ∙ other)
+not_empty xs b is other e = true≢false (sym (is ∙ ap (λ x. length x == 0) e) ∙ other)
 
 -- a front that is cut off, or isn't there
 

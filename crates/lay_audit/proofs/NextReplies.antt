@@ -1,5 +1,5 @@
 -- Which entry's line stands next.
-use Rattle.std.proofs.Common.{◌≡◌, ℕ, suc, ◌+◌, ◌<◌, Bool, true, false, List, ◌++◌, length, Option, Some, None, Result, Ok, Err, IfOk, IfSome, refl, sym, ap, ◌∙◌, subst, arith, append_assoc, codes, inl, inr, slice_index_or}
+use Rattle.std.proofs.Common.{◌≡◌, ℕ, suc, ◌+◌, ◌<◌, List, ◌++◌, length, Option, Some, None, Result, Ok, Err, IfOk, IfSome, refl, sym, ap, ◌∙◌, subst, arith, append_assoc, codes, inl, inr, slice_index_or}
 use Rattle.std.proofs.lemmas.Bool.{cases_lt}
 use Rattle.std.proofs.lemmas.List.{append_cancel_left}
 use Rattle.std.proofs.lemmas.Option.{same_Some, none-some}
@@ -91,7 +91,3 @@ no_step scripts p rest no_publication none (step.Answer place r) e is begins =
 
 pub less_of : (k n : ℕ) → k < n + 1 → (k ≡ n → ⊥) → k < n
 less_of k n lt other = elim (cases_lt k n) [ inl low ↦ low | inr high ↦ absurd (other (omega (arith, lt, high))) ]
-
-pub not_both : (b : Bool) → b ≡ true → b ≡ false → ⊥
-not_both true a b = absurd cc
-not_both false a b = absurd cc

@@ -1,6 +1,6 @@
 -- The nearest block container of a box is the only one, and with these for parents boxes are a tree again.
-use Rattle.std.proofs.Common.{◌≡◌, ℕ, zero, suc, ◌+◌, ◌<◌, ◌≤◌, Bool, true, false, List, [], ◌∷◌, ◌++◌, length, get_or, refl, sym, subst, arith, inl, inr}
-use Rattle.std.proofs.lemmas.Bool.{cases_lt}
+use Rattle.std.proofs.Common.{◌≡◌, ℕ, zero, suc, ◌+◌, ◌<◌, ◌≤◌, true, false, List, [], ◌∷◌, ◌++◌, length, get_or, refl, sym, subst, arith, inl, inr}
+use Rattle.std.proofs.lemmas.Bool.{cases_lt, both_ways}
 use Rattle.std.proofs.lemmas.Grind.{elements}
 use Rattle.lay_doc.specs.Tree.{IsTree}
 use Rattle.lay_box_tree.specs.BoxColumns.{box_parents}
@@ -8,19 +8,15 @@ use Rattle.lay_box_tree.specs.Containers.{counts, box_parent, IsContainer, own, 
 use Rattle.lay_box_tree.specs.declared.box_tree.BoxNode.{BoxNode}
 use Rattle.lay_box_tree.proofs.BoxForests.{length-parents}
 
-never : (b : Bool) → b ≡ true → b ≡ false → ⊥
-never true h e = cc
-never false h e = cc
-
 pub one_container : OneContainer
 one_container boxes k b c own own = refl
 one_container boxes k b c own (parent j positive e) = absurd (omega (arith, positive))
 one_container boxes k b c own (further j d positive e up) = absurd (omega (arith, positive))
 one_container boxes k b c (parent j positive e) own = absurd (omega (arith, positive))
 one_container boxes k b c (parent j positive e) (parent i positive-2 e-2) = refl
-one_container boxes k b c (parent j positive e) (further i d positive-2 e-2 up) = absurd (never (counts boxes (box_parent boxes j)) e e-2)
+one_container boxes k b c (parent j positive e) (further i d positive-2 e-2 up) = absurd (both_ways (counts boxes (box_parent boxes j)) e-2 e)
 one_container boxes k b c (further j d positive e up) own = absurd (omega (arith, positive))
-one_container boxes k b c (further j d positive e up) (parent i positive-2 e-2) = absurd (never (counts boxes (box_parent boxes j)) e-2 e)
+one_container boxes k b c (further j d positive e up) (parent i positive-2 e-2) = absurd (both_ways (counts boxes (box_parent boxes j)) e e-2)
 one_container boxes k b c (further j d positive e up) (further i d-2 positive-2 e-2 up-2) = one_container boxes (box_parent boxes j) d d-2 up up-2
 
 -- the nearest block containers of the boxes before n
@@ -55,7 +51,7 @@ pub own_counts : (boxes : List BoxNode) → IsTree (box_parents boxes) → count
 own_counts boxes tree = let r : box_parent boxes 0 ≡ 0 = tree.root in rw r refl
 
 pub parent_before : (boxes : List BoxNode) → IsTree (box_parents boxes) → (n : ℕ) → n < length boxes → counts boxes (box_parent boxes n) ≡ false → (0 < n) × (box_parent boxes n < n)
-parent_before boxes tree zero within e = absurd (never (counts boxes (box_parent boxes 0)) (own_counts boxes tree) e)
+parent_before boxes tree zero within e = absurd (both_ways (counts boxes (box_parent boxes 0)) e (own_counts boxes tree))
 parent_before boxes tree (suc n) within e = (omega arith, tree.before (suc n) (omega arith) (omega (arith, length-parents boxes)))
 
 -- The tree of containers.
@@ -102,7 +98,7 @@ module _ (boxes : List BoxNode) (tree : IsTree (box_parents boxes)) where
       let less = tree.before i above (omega (arith, length-parents boxes)) in
       elim (cases_lt c (box_parent boxes i)) [
         | inl over ↦ inside k c within is (box_parent boxes i) b up over (omega arith)
-        | inr same ↦ absurd (let q : box_parent boxes i ≡ c = omega arith in never (counts boxes c) (it_counts k c is) (subst (λ (p : ℕ). counts boxes p ≡ false) q e))
+        | inr same ↦ absurd (let q : box_parent boxes i ≡ c = omega arith in both_ways (counts boxes c) (subst (λ (p : ℕ). counts boxes p ≡ false) q e) (it_counts k c is))
       ]
 
 pub containers_are_a_tree : ContainersAreATree

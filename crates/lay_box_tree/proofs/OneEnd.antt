@@ -1,7 +1,7 @@
 -- Each inline box has one first and one last part.
 use Rattle.std.proofs.Common.{◌≡◌, inl, inr, ℕ, zero, suc, ◌+◌, ◌<◌, Bool, true, false, ◌&&◌, ◌||◌, not, List, [], ◌∷◌, length, take, drop, refl, subst, arith}
 use Rattle.std.specs.List.{list_any}
-use Rattle.std.proofs.lemmas.Bool.{cases_lt}
+use Rattle.std.proofs.lemmas.Bool.{cases_lt, both_ways}
 use Rattle.lay_box_tree.specs.declared.box_tree.BoxNode.{BoxNode}
 use Rattle.lay_box_tree.specs.InlineParts.{id_at, is_first_part, is_inline_at, is_last_part, is_part_at, is_part_of}
 use Rattle.lay_box_tree.specs.PartLaws.{EndsAreOne, HasOne}
@@ -72,10 +72,6 @@ both true true h = cc
 both true false h = (refl, refl)
 both false b h = cc
 
-never : (b : Bool) → b ≡ true → b ≡ false → ⊥
-never true e f = cc
-never false e f = cc
-
 one-first : (xs : List BoxNode) (id p : ℕ) → IsFront xs id p → HasOne is_first_part xs id
 one-first xs id p f = record { at = p; within = f.0; of = of; is = is; only = only }
   where
@@ -91,9 +87,9 @@ one-first xs id p f = record { at = p; within = f.0; of = of; is = is; only = on
         let part : is_part_at xs id k ≡ true = subst (λ (i : ℕ). is_part_at xs i k ≡ true) e flags.0 in
         let none : list_any (is_part_of id) (take k xs) ≡ false = subst (λ (i : ℕ). list_any (is_part_of i) (take k xs) ≡ false) e flags.1 in
         elim (cases_lt k p) [
-          | inl low ↦ absurd (never (is_part_at xs id k) part (f.2 k low))
+          | inl low ↦ absurd (both_ways (is_part_at xs id k) (f.2 k low) part)
           | inr high ↦ elim (cases_lt p k) [
-            | inl under ↦ absurd (never (list_any (is_part_of id) (take k xs)) (some-before xs id k p under f.1) none)
+            | inl under ↦ absurd (both_ways (list_any (is_part_of id) (take k xs)) none (some-before xs id k p under f.1))
             | inr over ↦ omega (arith, high, over)
           ]
         ]
@@ -113,9 +109,9 @@ one-last xs id p f = record { at = p; within = f.0; of = of; is = is; only = onl
         let part : is_part_at xs id k ≡ true = subst (λ (i : ℕ). is_part_at xs i k ≡ true) e flags.0 in
         let none : list_any (is_part_of id) (drop (k + 1) xs) ≡ false = subst (λ (i : ℕ). list_any (is_part_of i) (drop (k + 1) xs) ≡ false) e flags.1 in
         elim (cases_lt p k) [
-          | inl under ↦ absurd (never (is_part_at xs id k) part (f.2 k under within))
+          | inl under ↦ absurd (both_ways (is_part_at xs id k) (f.2 k under within) part)
           | inr high ↦ elim (cases_lt k p) [
-            | inl low ↦ absurd (never (list_any (is_part_of id) (drop (k + 1) xs)) (some-behind xs id (k + 1) p (omega (arith, low)) f.1) none)
+            | inl low ↦ absurd (both_ways (list_any (is_part_of id) (drop (k + 1) xs)) none (some-behind xs id (k + 1) p (omega (arith, low)) f.1))
             | inr over ↦ omega (arith, high, over)
           ]
         ]

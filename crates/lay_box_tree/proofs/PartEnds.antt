@@ -2,7 +2,7 @@
 use Rattle.std.proofs.Common.{◌≡◌, ◌≢◌, inl, inr, ℕ, zero, suc, ◌+◌, ◌<◌, ◌≤◌, ◌==◌, Bool, true, false, ◌&&◌, ◌||◌, not, List, [], ◌∷◌, length, take, drop, refl, ap, sym, ◌∙◌, subst, arith, Option, None, Some}
 use Rattle.std.specs.List.{list_any}
 use Rattle.std.specs.Option.{is_some}
-use Rattle.std.proofs.lemmas.Bool.{cases_lt, cases_eq}
+use Rattle.std.proofs.lemmas.Bool.{cases_lt, cases_eq, or_right, and_parts, eqb-true}
 use Rattle.lay_box_tree.specs.Kinds.{is_inline}
 use Rattle.lay_box_tree.specs.declared.box_tree.BoxNode.{BoxNode}
 use Rattle.lay_box_tree.specs.InlineParts.{id_at, is_first_part, is_inline_at, is_last_part, is_part_at, is_part_of}
@@ -13,16 +13,12 @@ none-before xs id zero h = refl
 none-before [] id (suc n) h = refl
 none-before (x ∷ xs) id (suc n) h = simp (h 0 (omega arith)) (none-before xs id n (λ j lt. h (suc j) (omega (arith, lt))))
 
-or-true : (b : Bool) → (b || true) ≡ true
-or-true true = refl
-or-true false = refl
-
 pub some-before : (xs : List BoxNode) (id n j : ℕ) → j < n → is_part_at xs id j ≡ true → list_any (is_part_of id) (take n xs) ≡ true
 some-before xs id zero j lt h = absurd (omega (arith, lt))
 some-before [] id (suc n) j lt h = cc
 some-before (x ∷ xs) id (suc n) zero lt h = simp h refl
 some-before (x ∷ xs) id (suc n) (suc j) lt h =
-    ap (λ b. is_part_of id x || b) (some-before xs id n j (omega (arith, lt)) h) ∙ or-true (is_part_of id x)
+    ap (λ b. is_part_of id x || b) (some-before xs id n j (omega (arith, lt)) h) ∙ or_right (is_part_of id x) true refl
 
 pub none-behind : (xs : List BoxNode) (id n : ℕ) → ((j : ℕ) → n ≤ j → j < length xs → is_part_at xs id j ≡ false) → list_any (is_part_of id) (drop n xs) ≡ false
 none-behind [] id zero h = refl
@@ -35,7 +31,7 @@ some-behind [] id zero j le h = cc
 some-behind [] id (suc n) j le h = cc
 some-behind (x ∷ xs) id zero zero le h = simp h refl
 some-behind (x ∷ xs) id zero (suc j) le h =
-    ap (λ b. is_part_of id x || b) (some-behind xs id zero j (omega arith) h) ∙ or-true (is_part_of id x)
+    ap (λ b. is_part_of id x || b) (some-behind xs id zero j (omega arith) h) ∙ or_right (is_part_of id x) true refl
 some-behind (x ∷ xs) id (suc n) zero le h = absurd (omega (arith, le))
 some-behind (x ∷ xs) id (suc n) (suc j) le h = some-behind xs id n j (omega (arith, le)) h
 
@@ -53,17 +49,9 @@ no-part [] id k h = refl
 no-part (x ∷ xs) id zero h = by-kind (is_inline x.kind) (x.node.0 == x.node.0) (x.node.0 == id) (same x.node.0) h
 no-part (x ∷ xs) id (suc k) h = no-part xs id k h
 
--- a part is one of the element that it names
-of-element : (a b : Bool) → (a && b) ≡ true → b ≡ true
-of-element true b h = h
-of-element false b h = cc
-
-equal : (a b : ℕ) → (a == b) ≡ true → a ≡ b
-equal a b h = grind (arith, h)
-
 pub named : (xs : List BoxNode) (id k : ℕ) → is_part_at xs id k ≡ true → id_at xs k ≡ id
 named [] id k h = cc
-named (x ∷ xs) id zero h = equal x.node.0 id (of-element (is_inline x.kind) (x.node.0 == id) h)
+named (x ∷ xs) id zero h = eqb-true x.node.0 id (and_parts (is_inline x.kind) (x.node.0 == id) h).1
 named (x ∷ xs) id (suc k) h = named xs id k h
 
 pub other-part : (xs : List BoxNode) (id k : ℕ) → (id_at xs k ≡ id → ⊥) → is_part_at xs id k ≡ false

@@ -1,7 +1,7 @@
 -- Rules that change nothing.
-use Rattle.std.proofs.Common.{rules, ◌≡◌, Bool, true, false, ◌||◌, not, List, [], ◌∷◌, ◌++◌, refl, ap, sym, ◌∙◌, IsTrue, Option, None, Some}
+use Rattle.std.proofs.Common.{rules, ◌≡◌, Bool, true, false, not, List, [], ◌∷◌, ◌++◌, refl, ap, sym, ◌∙◌, IsTrue, Option, None, Some}
 use Rattle.std.specs.List.{list_any}
-use Rattle.std.proofs.lemmas.Bool.{and_right}
+use Rattle.std.proofs.lemmas.Bool.{and_right, or_parts}
 use Rattle.lay_boxgen.specs.Boxes.{Tree, tree, trees_of, facts_of, in_box, remade, all_remade}
 use Rattle.lay_boxgen.specs.Forms.{is_tabular_container, is_in_flow}
 use Rattle.lay_boxgen.specs.Irrelevant.{kept_from, kept_gap, is_table_part_box, is_table_part_there, without_white_space}
@@ -9,15 +9,6 @@ use Rattle.lay_boxgen.specs.Runs.{gathered, is_faulty_box, is_white_box}
 use Rattle.lay_boxgen.specs.declared.facts.Facts.{Facts}
 use Rattle.lay_boxgen.specs.declared.facts.Form.{Form}
 use Rattle.lay_boxgen.proofs.Replaced.{stays, assoc, no_more}
-
-pub first : (a b : Bool) → (a || b) ≡ false → a ≡ false
-first true b h = h
-first false b h = refl
-
-pub second : (a b : Bool) → (a || b) ≡ false → b ≡ false
-second true true h = h
-second true false h = refl
-second false b h = h
 
 pub isnt : (a : Bool) → IsTrue (not a) → a ≡ false
 isnt true h = cc
@@ -27,8 +18,8 @@ isnt false h = refl
 pub none_gathered : (fault : Facts → Bool) (close : List Tree → List Tree) (ts : List Tree) → list_any (is_faulty_box fault) ts ≡ false → gathered fault close ts ≡ ts
 none_gathered fault close [] h = refl
 none_gathered fault close (t ∷ ts) h =
-    stays fault close t ts (first (is_faulty_box fault t) (list_any (is_faulty_box fault) ts) h)
-    ∙ ap (λ r. t ∷ r) (none_gathered fault close ts (second (is_faulty_box fault t) (list_any (is_faulty_box fault) ts) h))
+    stays fault close t ts (or_parts (is_faulty_box fault t) (list_any (is_faulty_box fault) ts) h).0
+    ∙ ap (λ r. t ∷ r) (none_gathered fault close ts (or_parts (is_faulty_box fault t) (list_any (is_faulty_box fault) ts) h).1)
 
 -- a gap without white space is kept
 nothing_kept : (parent : Form) (before after : Option Facts) → kept_gap parent before [] after ≡ []
@@ -38,11 +29,11 @@ nothing_kept parent before after = search rules
 seen_kept : (parent : Form) (before : Option Facts) (ts : List Tree) → list_any is_white_box ts ≡ false → kept_from parent before [] ts ≡ ts
 seen_kept parent before [] h = nothing_kept parent before None
 seen_kept parent before (t ∷ ts) h =
-    let w = first (is_white_box t) (list_any is_white_box ts) h in
+    let w = (or_parts (is_white_box t) (list_any is_white_box ts) h).0 in
     let step : kept_from parent before [] (t ∷ ts) ≡ (kept_gap parent before [] (Some (facts_of t)) ++ t ∷ []) ++ kept_from parent (Some (facts_of t)) [] ts = simp w refl in
     step
     ∙ (ap (λ r. (r ++ t ∷ []) ++ kept_from parent (Some (facts_of t)) [] ts) (nothing_kept parent before (Some (facts_of t)))
-    ∙ ap (λ r. t ∷ r) (seen_kept parent (Some (facts_of t)) ts (second (is_white_box t) (list_any is_white_box ts) h)))
+    ∙ ap (λ r. t ∷ r) (seen_kept parent (Some (facts_of t)) ts (or_parts (is_white_box t) (list_any is_white_box ts) h).1))
 
 pub no_white_kept : (parent : Form) (ts : List Tree) → list_any is_white_box ts ≡ false → without_white_space parent ts ≡ ts
 no_white_kept parent ts h = seen_kept parent None ts h
@@ -70,8 +61,8 @@ module _ (parent : Form) (c : is_tabular_container parent ≡ false) where
   all_kept : (ts : List Tree) → list_any is_table_part_box ts ≡ false → (before : Option Facts) (gap : List Tree) → is_table_part_there before ≡ false → kept_from parent before gap ts ≡ gap ++ ts
   all_kept [] h before gap b = gap_kept parent before None gap c b ∙ sym (no_more gap)
   all_kept (t ∷ ts) h before gap b =
-      one_more before gap t ts (all_kept ts (second (is_table_part_box t) (list_any is_table_part_box ts) h)) (is_white_box t) refl b
-      (first (is_table_part_box t) (list_any is_table_part_box ts) h)
+      one_more before gap t ts (all_kept ts (or_parts (is_table_part_box t) (list_any is_table_part_box ts) h).1) (is_white_box t) refl b
+      (or_parts (is_table_part_box t) (list_any is_table_part_box ts) h).0
 
 pub no_part_kept : (parent : Form) (ts : List Tree) → is_tabular_container parent ≡ false → list_any is_table_part_box ts ≡ false → without_white_space parent ts ≡ ts
 no_part_kept parent ts c h = all_kept parent c ts h None [] refl

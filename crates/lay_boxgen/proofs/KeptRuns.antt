@@ -2,6 +2,7 @@
 use Rattle.std.proofs.Common.{◌≡◌, Bool, true, false, ◌||◌, ◌&&◌, not, List, [], ◌∷◌, ◌++◌, refl, ap, sym, ◌∙◌, filter, true≢false}
 use Rattle.std.proofs.Math.Bool.{and-false}
 use Rattle.std.specs.List.{list_any}
+use Rattle.std.proofs.lemmas.Bool.{or_parts}
 use Rattle.lay_boxgen.specs.Boxes.{Tree, facts_of}
 use Rattle.lay_boxgen.specs.BrokenInlines.{is_block_box, is_no_text_box, is_unseen}
 use Rattle.lay_boxgen.specs.Forms.{is_in_flow, is_inline_level, is_text, is_white}
@@ -10,7 +11,6 @@ use Rattle.lay_boxgen.specs.Runs.{gathered, gathered_from, is_some, is_white_box
 use Rattle.lay_boxgen.specs.declared.facts.Facts.{Facts}
 use Rattle.lay_boxgen.specs.declared.facts.Form.{Form}
 use Rattle.lay_boxgen.specs.declared.facts.Form.TheVariants.{Text}
-use Rattle.lay_boxgen.proofs.Kept.{first, second}
 use Rattle.lay_boxgen.proofs.Replaced.{assoc, no_more}
 
 -- a float or an anchor
@@ -77,7 +77,7 @@ module _ (f : Facts) where
   from : (ts : List Tree) → list_any is_loose_box ts ≡ false → (run : List Tree) → AreFree run → gathered_from is_no_block (block_round f) run [] ts ≡ run ++ ts
   from [] l run h = over run h ∙ sym (no_more run)
   from (t ∷ ts) l run h =
-      one_more t ts (from ts (second (is_loose_box t) (list_any is_loose_box ts) l)) run h (is_block_box t) refl (first (is_loose_box t) (list_any is_loose_box ts) l)
+      one_more t ts (from ts (or_parts (is_loose_box t) (list_any is_loose_box ts) l).1) run h (is_block_box t) refl (or_parts (is_loose_box t) (list_any is_loose_box ts) l).0
 
 pub none_loose : (f : Facts) (ts : List Tree) → list_any is_loose_box ts ≡ false → gathered is_no_block (block_round f) ts ≡ ts
 none_loose f ts l = from f ts l [] tt

@@ -5,7 +5,7 @@ use Rattle.std.specs.List.{list_any}
 use Rattle.std.specs.Map.{update}
 use Rattle.std.specs.Str.{bytes_eq}
 use Rattle.std.specs.Cmp.Lexicographic.{nat_list_eq_equiv}
-use Rattle.std.proofs.lemmas.Bool.{cases_Bool, cases_lt}
+use Rattle.std.proofs.lemmas.Bool.{cases_Bool, cases_lt, or_right}
 use Rattle.std.proofs.lemmas.Grind.{common_steps}
 use Rattle.std.proofs.lemmas.List.{take_more, length-append, get_or_append_left, get_or_push, get_or_default}
 use Rattle.std.proofs.lemmas.List.Folds.{list_any-append}
@@ -22,10 +22,6 @@ or_end : (a : Bool) → (a || false) ≡ a
 or_end true = refl
 or_end false = refl
 
-or_true : (a : Bool) → (a || true) ≡ true
-or_true true = refl
-or_true false = refl
-
 -- a set with one more class
 pub one_more : (q class : List ℕ) (before : List (List ℕ)) (old new : Option ℕ) (place : ℕ) → new ≡ update bytes_eq (λ ds. old) class (Some place) q → is_some old ≡ list_any (λ c. bytes_eq q c) before →
     is_some new ≡ list_any (λ c. bytes_eq q c) (before ++ class ∷ [])
@@ -38,7 +34,7 @@ one_more q class before old new place is was = of_cases (cases_Bool (bytes_eq cl
     of_cases (inl t) =
         let n : new ≡ Some place = rw t at is in
         let e : list_any (λ c. bytes_eq q c) (class ∷ []) ≡ true = ap (λ z. z || false) (same ∙ t) in
-        ap is_some n ∙ sym (ap (λ z. list_any (λ c. bytes_eq q c) before || z) e ∙ or_true (list_any (λ c. bytes_eq q c) before))
+        ap is_some n ∙ sym (ap (λ z. list_any (λ c. bytes_eq q c) before || z) e ∙ or_right (list_any (λ c. bytes_eq q c) before) true refl)
     of_cases (inr f) =
         let n : new ≡ old = rw f at is in
         let e : list_any (λ c. bytes_eq q c) (class ∷ []) ≡ false = ap (λ z. z || false) (same ∙ f) in

@@ -1,7 +1,7 @@
 -- Preferred widths that don't count change no tree: workings that have all of them meet the equations with those alone that count.
 use Rattle.std.proofs.Common.{◌≡◌, ◌<◌, ◌≤◌, ℕ, zero, suc, ◌+◌, Bool, true, false, if◌then◌else◌, List, [], ◌∷◌, length, slice_index, refl, sym, ◌∙◌, subst, arith}
 use Rattle.std.specs.Prelude.{Option, Some, None}
-use Rattle.std.proofs.lemmas.Bool.{false_from_ne_true}
+use Rattle.std.proofs.lemmas.Bool.{false_from_ne_true, both_ways}
 use Rattle.lay_box_tree.specs.declared.box_tree.BoxNode.{BoxNode}
 use Rattle.lay_box_tree.specs.declared.box_tree.Flow.{Flow}
 use Rattle.lay_box_tree.specs.declared.box_tree.Flow.TheVariants.{Absolute as absolute, Floating as floating, InFlow as in_flow}
@@ -40,10 +40,6 @@ use Rattle.lay_context.proofs.OneValue.{OneAnswer}
 use Rattle.lay_context.proofs.ShrinkSteps.{shrinks_here}
 use Rattle.lay_context.proofs.TaskInputs.{widths_same}
 use Rattle.lay_context.proofs.TaskOrder.{flow_inside}
-
-never : (b : Bool) → b ≡ true → b ≡ false → ⊥
-never true h e = cc
-never false h e = cc
 
 -- what is absolutely positioned shrinks to fit, and so is measured
 absolute_shrinks : (boxes : List BoxNode) → is_own_absolute boxes ≡ true → shrinks_to_fit boxes ≡ true
@@ -111,8 +107,8 @@ module _ (one : OneAnswer) (count : WidthsCountWhereShrunk) (medium : Medium) (c
       subst (λ (x : MeasuredContext). HasSizes (record { boxes = boxes_in contexts i; measured = x; setting = setting_of medium.viewport contexts w i }) (sizes_in w.sizes i)) (sym same)
       (b.done (record { context = i; phase = Size }) lt).1
   sized_by i lt false is =
-      let shrunk : shrinks_to_fit (boxes_in contexts i) ≡ false = false_from_ne_true (shrinks_to_fit (boxes_in contexts i)) (λ e. never (is_measured contexts i) (shrinks_here i contexts i e) is) in
-      let flow : is_absolute contexts i ≡ false = false_from_ne_true (is_absolute contexts i) (λ e. never (shrinks_to_fit (boxes_in contexts i)) (absolute_shrinks (boxes_in contexts i) e) shrunk) in
+      let shrunk : shrinks_to_fit (boxes_in contexts i) ≡ false = false_from_ne_true (shrinks_to_fit (boxes_in contexts i)) (λ e. both_ways (is_measured contexts i) is (shrinks_here i contexts i e)) in
+      let flow : is_absolute contexts i ≡ false = false_from_ne_true (is_absolute contexts i) (λ e. both_ways (shrinks_to_fit (boxes_in contexts i)) shrunk (absolute_shrinks (boxes_in contexts i) e)) in
       let setting = not_absolute (is_absolute contexts i) (Absolute (absolute_setting medium.viewport contexts (laid w) i)) (flow_setting medium.viewport contexts w.sizes i) flow (in_flow_setting medium.viewport contexts w.sizes i) in
       count (size_input medium contexts w i) (widths_in v.widths i) (sizes_in w.sizes i) shrunk setting (b.done (record { context = i; phase = Size }) lt).1
 

@@ -1,14 +1,11 @@
 -- A formatting context is measured just where something shrinks to fit from it outward, and so what is inside it is, too.
 use Rattle.std.proofs.Common.{◌≡◌, ◌<◌, ◌≤◌, ℕ, zero, suc, Bool, true, false, ◌||◌, List, length, refl, ap, sym, ◌∙◌, arith}
+use Rattle.std.proofs.lemmas.Bool.{or_right}
 use Rattle.lay_contexts.specs.FormattingContexts.{AreFormattingContexts, FormattingContext, boxes_in, formatting_context_at}
 use Rattle.lay_context_sizes.specs.ShrinkToFit.{shrinks_to_fit}
 use Rattle.lay_context.specs.Laws.{MeasuredGoesInward, MeasuredWhereShrunk}
 use Rattle.lay_context.specs.Measured.{ShrinksOutward, around, is_measured, own, shrinks_within}
 use Rattle.lay_context.proofs.ShrinkSteps.{shrinks_here}
-
-or_true : (b : Bool) → (b || true) ≡ true
-or_true true = refl
-or_true false = refl
 
 module _ (contexts : List FormattingContext) (are : AreFormattingContexts contexts) where
   -- further ones than those around it change nothing
@@ -29,7 +26,7 @@ module _ (contexts : List FormattingContext) (are : AreFormattingContexts contex
   measured_by i (suc j) behind within outside is =
       let here : shrinks_within j contexts i ≡ true = enough j j i (omega arith) (omega (arith, behind)) (omega (arith, behind, within)) ∙ is in
       let out : shrinks_within j contexts (formatting_context_at contexts (suc j)).outer ≡ true = ap (shrinks_within j contexts) outside ∙ here in
-      ap (λ (b : Bool). shrinks_to_fit (boxes_in contexts (suc j)) || b) out ∙ or_true (shrinks_to_fit (boxes_in contexts (suc j)))
+      ap (λ (b : Bool). shrinks_to_fit (boxes_in contexts (suc j)) || b) out ∙ or_right (shrinks_to_fit (boxes_in contexts (suc j))) true refl
 
   -- of the own box or the ones around it one shrinks to fit
   outward_by : (most i : ℕ) → i ≤ most → i < length contexts → (b : Bool) → shrinks_to_fit (boxes_in contexts i) ≡ b → is_measured contexts i ≡ true → ShrinksOutward contexts i

@@ -1,7 +1,7 @@
 -- The boxes at home in a root, and their places in its list.
-use Rattle.std.proofs.Common.{◌≡◌, ℕ, zero, suc, ◌+◌, ◌-◌, ◌<◌, ◌≤◌, ◌==◌, Bool, true, false, List, [], ◌∷◌, ◌++◌, add-one, append-nil, length, length-append, slice_index, refl, ap, sym, subst, ◌∙◌, arith, inl, inr}
+use Rattle.std.proofs.Common.{◌≡◌, ℕ, zero, suc, ◌+◌, ◌-◌, ◌<◌, ◌≤◌, Bool, true, false, List, [], ◌∷◌, ◌++◌, add-one, append-nil, length, length-append, slice_index, refl, ap, sym, subst, ◌∙◌, arith, inl, inr}
 use Rattle.std.specs.List.{filter, range_with_len}
-use Rattle.std.proofs.lemmas.Bool.{cases_lt}
+use Rattle.std.proofs.lemmas.Bool.{cases_lt, eq-eqb, eqb-true}
 use Rattle.std.proofs.lemmas.Grind.{elements}
 use Rattle.std.proofs.lemmas.List.Elements.{filter-append}
 use Rattle.std.proofs.lemmas.List.{map-id}
@@ -14,20 +14,14 @@ front hs gs k lt = grind (arith, elements)
 read_last : (hs : List ℕ) (h k : ℕ) → k ≡ length hs → slice_index (hs ++ h ∷ []) k ≡ h
 read_last hs h k e = grind (arith, elements)
 
-equal_is : (a b : ℕ) → a ≡ b → (a == b) ≡ true
-equal_is a b e = grind (arith, e)
-
-is_equal : (a b : ℕ) → (a == b) ≡ true → a ≡ b
-is_equal a b e = grind (arith, e)
-
 -- what is at home in r
 pub home_is : (homes : List ℕ) (r k : ℕ) → is_at_home homes r k ≡ true → (0 < k) × (slice_index homes k ≡ r)
 home_is homes r zero e = absurd cc
-home_is homes r (suc k) e = (omega arith, is_equal (slice_index homes (suc k)) r e)
+home_is homes r (suc k) e = (omega arith, eqb-true (slice_index homes (suc k)) r e)
 
 pub is_home : (homes : List ℕ) (r k : ℕ) → 0 < k → slice_index homes k ≡ r → is_at_home homes r k ≡ true
 is_home homes r zero positive e = absurd (omega (arith, positive))
-is_home homes r (suc k) positive e = equal_is (slice_index homes (suc k)) r e
+is_home homes r (suc k) positive e = eq-eqb (slice_index homes (suc k)) r e
 
 counting_more : (n : ℕ) → range_with_len 0 (n + 1) ≡ range_with_len 0 n ++ n ∷ []
 counting_more n =

@@ -1,6 +1,6 @@
 -- The home of a box is the nearest root above it, and the only one.
-use Rattle.std.proofs.Common.{◌≡◌, ℕ, zero, suc, ◌+◌, ◌<◌, Bool, true, false, List, [], ◌∷◌, ◌++◌, length, slice_index, refl, sym, arith, inl, inr}
-use Rattle.std.proofs.lemmas.Bool.{cases_lt}
+use Rattle.std.proofs.Common.{◌≡◌, ℕ, zero, suc, ◌+◌, ◌<◌, true, false, List, [], ◌∷◌, ◌++◌, length, slice_index, refl, sym, arith, inl, inr}
+use Rattle.std.proofs.lemmas.Bool.{cases_lt, both_ways}
 use Rattle.std.proofs.lemmas.Grind.{elements}
 use Rattle.lay_doc.specs.Tree.{IsTree}
 use Rattle.lay_box_tree.specs.BoxColumns.{box_parents}
@@ -9,19 +9,15 @@ use Rattle.lay_box_tree.specs.declared.box_tree.BoxNode.{BoxNode}
 use Rattle.lay_box_tree.proofs.BoxForests.{length-parents}
 use Rattle.lay_contexts.specs.Homes.{IsHome, OneHome, further, is_root, own, parent}
 
-pub never : (b : Bool) → b ≡ true → b ≡ false → ⊥
-never true h e = cc
-never false h e = cc
-
 pub one_home_lem : OneHome
 one_home_lem boxes k g h own own = refl
 one_home_lem boxes k g h own (parent j positive e) = absurd (omega (arith, positive))
 one_home_lem boxes k g h own (further j d positive e up) = absurd (omega (arith, positive))
 one_home_lem boxes k g h (parent j positive e) own = absurd (omega (arith, positive))
 one_home_lem boxes k g h (parent j positive e) (parent i positive-2 e-2) = refl
-one_home_lem boxes k g h (parent j positive e) (further i d positive-2 e-2 up) = absurd (never (is_root boxes (box_parent boxes j)) e e-2)
+one_home_lem boxes k g h (parent j positive e) (further i d positive-2 e-2 up) = absurd (both_ways (is_root boxes (box_parent boxes j)) e-2 e)
 one_home_lem boxes k g h (further j d positive e up) own = absurd (omega (arith, positive))
-one_home_lem boxes k g h (further j d positive e up) (parent i positive-2 e-2) = absurd (never (is_root boxes (box_parent boxes j)) e-2 e)
+one_home_lem boxes k g h (further j d positive e up) (parent i positive-2 e-2) = absurd (both_ways (is_root boxes (box_parent boxes j)) e e-2)
 one_home_lem boxes k g h (further j d positive e up) (further i d-2 positive-2 e-2 up-2) = one_home_lem boxes (box_parent boxes j) d d-2 up up-2
 
 -- the homes of the boxes before n
@@ -53,7 +49,7 @@ own_is_root : (boxes : List BoxNode) → IsTree (box_parents boxes) → is_root 
 own_is_root boxes tree = let r : box_parent boxes 0 ≡ 0 = tree.root in rw r refl
 
 pub parent_before : (boxes : List BoxNode) → IsTree (box_parents boxes) → (n : ℕ) → n < length boxes → is_root boxes (box_parent boxes n) ≡ false → (0 < n) × (box_parent boxes n < n)
-parent_before boxes tree zero within e = absurd (never (is_root boxes (box_parent boxes 0)) (own_is_root boxes tree) e)
+parent_before boxes tree zero within e = absurd (both_ways (is_root boxes (box_parent boxes 0)) e (own_is_root boxes tree))
 parent_before boxes tree (suc n) within e = (omega arith, tree.before (suc n) (omega arith) (omega (arith, length-parents boxes)))
 
 -- a home is a root

@@ -1,7 +1,7 @@
 -- A box that is generated holds boxes of one level.
 use Rattle.std.proofs.Common.{◌≡◌, Bool, true, false, ◌&&◌, ◌||◌, not, List, [], ◌∷◌, ◌++◌, filter, refl, sym, ap, ◌∙◌, if◌then◌else◌, Option, None, Some}
 use Rattle.std.specs.List.{list_any}
-use Rattle.std.proofs.lemmas.Bool.{or_from}
+use Rattle.std.proofs.lemmas.Bool.{or_from, or_parts}
 use Rattle.lay_box_tree.specs.declared.box_tree.Flow.TheVariants as flow
 use Rattle.lay_boxgen.specs.Boxes.{Tree, Trees, tree, no_trees, also, trees_of, facts_of, remade, all_remade, in_box}
 use Rattle.lay_boxgen.specs.BrokenInlines.{broken, is_block_box, is_no_text_box, is_unseen, part_over, parts_from}
@@ -20,14 +20,6 @@ use Rattle.lay_boxgen.specs.NodeTrees.{tree_at}
 use Rattle.lay_boxgen.specs.Parts.{all_put, generated_of, is_closed, nothing, own_tree, put, put_list, whole}
 use Rattle.lay_contexts.specs.LevelLaws.{BoxesHoldOneLevel, EachBox, EachIn, EachOf, HoldsOneLevel, any_in, is_in_line}
 
-or_first : (a b : Bool) → (a || b) ≡ false → a ≡ false
-or_first true b e = absurd cc
-or_first false b e = refl
-
-or_second : (a b : Bool) → (a || b) ≡ false → b ≡ false
-or_second true b e = absurd cc
-or_second false b e = e
-
 -- Kinds of boxes.
 module _ (p : Facts → Bool) where
   abbrev any : List Tree → Bool
@@ -40,7 +32,7 @@ module _ (p : Facts → Bool) where
   none_append : (xs ys : List Tree) → any xs ≡ false → any ys ≡ false → any (xs ++ ys) ≡ false
   none_append [] ys e f = f
   none_append (x ∷ xs) ys e f =
-      or_from (p (facts_of x)) (any (xs ++ ys)) (or_first (p (facts_of x)) (any xs) e) (none_append xs ys (or_second (p (facts_of x)) (any xs) e) f)
+      or_from (p (facts_of x)) (any (xs ++ ys)) (or_parts (p (facts_of x)) (any xs) e).0 (none_append xs ys (or_parts (p (facts_of x)) (any xs) e).1 f)
 
   -- a rule that leaves a box leaves its kind
   any_remade : (change : Facts → List Tree → List Tree) (us : Trees) → any (all_remade (in_box change) us) ≡ any_in p us
@@ -138,7 +130,7 @@ out_by true false is_text level f e n = absurd cc
 unseen_left : (run : List Tree) → list_any is_seen_box run ≡ false → any is_in_line (filter is_no_text_box run) ≡ false
 unseen_left [] e = refl
 unseen_left (t ∷ ts) e =
-    by (is_no_text_box t) refl (or_first (is_seen_box t) (list_any is_seen_box ts) e) (unseen_left ts (or_second (is_seen_box t) (list_any is_seen_box ts) e))
+    by (is_no_text_box t) refl (or_parts (is_seen_box t) (list_any is_seen_box ts) e).0 (unseen_left ts (or_parts (is_seen_box t) (list_any is_seen_box ts) e).1)
   where
     by : (b : Bool) → is_no_text_box t ≡ b → is_seen_box t ≡ false → any is_in_line (filter is_no_text_box ts) ≡ false → any is_in_line (if b then t ∷ filter is_no_text_box ts else filter is_no_text_box ts) ≡ false
     by true n seen rest =

@@ -1,6 +1,6 @@
 -- Each context but the first stands once, in the nearest context above it.
 use Rattle.std.proofs.Common.{◌≡◌, ℕ, suc, ◌+◌, ◌<◌, ◌≤◌, Bool, true, false, ◌⊎◌, List, [], ◌∷◌, length, refl, ap, sym, subst, ◌∙◌, arith, inl, inr, IsTrue, Option, None, Some, option_map, slice_get, slice_index}
-use Rattle.std.proofs.lemmas.Bool.{cases_lt, cases_Bool}
+use Rattle.std.proofs.lemmas.Bool.{cases_lt, cases_Bool, both_ways}
 use Rattle.std.proofs.lemmas.Option.{slice_get_within}
 use Rattle.lay_style.specs.declared.style.Style.{Style}
 use Rattle.lay_style.specs.ComputedStyle.{style_at}
@@ -19,10 +19,6 @@ use Rattle.lay_contexts.proofs.Apart.{Below, IsBelow, child, cut-below, deeper, 
 use Rattle.lay_contexts.proofs.Counted.{IsThere, count, find, least, most, named-once, two}
 use Rattle.lay_contexts.proofs.Members.{forest, node-at, tree-is}
 use Rattle.lay_contexts.proofs.Reached.{generated-inside, reached}
-
-never : (b : Bool) → b ≡ true → b ≡ false → ⊥
-never true e h = cc
-never false e h = cc
 
 pub marked-true : (b : Bool) → IsTrue b → b ≡ true
 marked-true true t = refl
@@ -55,7 +51,7 @@ module _ (nodes : List Node) (styles : List Style) where
 
   -- the root isn't without a mark
   behind-root : (k : ℕ) → GeneratesBox nodes styles k → is_marked (box_at nodes styles k) ≡ false → 0 < k
-  behind-root k (root h) e = absurd (never (is_marked (box_at nodes styles 0)) (root-of (slice_get nodes 0) (style_at styles 0) h) e)
+  behind-root k (root h) e = absurd (both_ways (is_marked (box_at nodes styles 0)) e (root-of (slice_get nodes 0) (style_at styles 0) h))
   behind-root k (below j positive kept made) e = positive
 
   up : (k : ℕ) → GeneratesBox nodes styles k → 0 < k → HasAround k
@@ -75,8 +71,8 @@ module _ (nodes : List Node) (styles : List Style) where
 
   pub one-around : (k a b : ℕ) → IsAround nodes styles k a → IsAround nodes styles k b → a ≡ b
   one-around k a b (parent j p e) (parent i q f) = refl
-  one-around k a b (parent j p e) (further i d q f h) = absurd (never (is_marked (box_at nodes styles (parent_of nodes j))) e f)
-  one-around k a b (further j c p e g) (parent i q f) = absurd (never (is_marked (box_at nodes styles (parent_of nodes j))) f e)
+  one-around k a b (parent j p e) (further i d q f h) = absurd (both_ways (is_marked (box_at nodes styles (parent_of nodes j))) f e)
+  one-around k a b (further j c p e g) (parent i q f) = absurd (both_ways (is_marked (box_at nodes styles (parent_of nodes j))) e f)
   one-around k a b (further j c p e g) (further i d q f h) = one-around (parent_of nodes j) c d g h
 
   below-around : (a k : ℕ) → IsBelow nodes styles a k → is_marked (box_at nodes styles a) ≡ true → IsAround nodes styles k a

@@ -1,18 +1,10 @@
 -- Whether cells are clean.
-use Rattle.std.proofs.Common.{◌≡◌, ◌&&◌, ◌↔◌, zero, suc, not, Bool, true, false, List, [], ◌∷◌, refl, sym, ap, subst, rules}
+use Rattle.std.proofs.Common.{◌≡◌, ◌↔◌, zero, suc, not, Bool, true, false, List, [], ◌∷◌, refl, sym, ap, subst}
 use Rattle.std.proofs.lemmas.Option.{same_Some, none-some}
-use Rattle.std.proofs.lemmas.Bool.{and_from, not-true}
+use Rattle.std.proofs.lemmas.Bool.{and_from, not-true, and_parts}
 use Rattle.lay_cells.specs.Reads.{AllClean}
 use Rattle.lay_cell_work.specs.CellLaws.SoundCells.{CellRow}
 use Rattle.lay_core.specs.State.{are_clean}
-
-left_true : (a b : Bool) → (a && b) ≡ true → a ≡ true
-left_true true b e = refl
-left_true false b e = e
-
-right_true : (a b : Bool) → (a && b) ≡ true → b ≡ true
-right_true true b e = e
-right_true false b e = absurd (search rules)
 
 pub clean_told : (rows : List CellRow) → AllClean rows → are_clean rows ≡ true
 clean_told [] clean = refl
@@ -21,8 +13,8 @@ clean_told (r ∷ rows) clean =
 
 pub told_clean : (rows : List CellRow) → are_clean rows ≡ true → AllClean rows
 told_clean [] e q is = absurd (none-some q is.1)
-told_clean (r ∷ rows) e q (zero, at) = subst (λ (x : CellRow). x.dirty ≡ false) (same_Some r q at) (not-true r.dirty (left_true (not r.dirty) (are_clean rows) e))
-told_clean (r ∷ rows) e q (suc k, at) = told_clean rows (right_true (not r.dirty) (are_clean rows) e) q (k, at)
+told_clean (r ∷ rows) e q (zero, at) = subst (λ (x : CellRow). x.dirty ≡ false) (same_Some r q at) (not-true r.dirty (and_parts (not r.dirty) (are_clean rows) e).0)
+told_clean (r ∷ rows) e q (suc k, at) = told_clean rows (and_parts (not r.dirty) (are_clean rows) e).1 q (k, at)
 
 same_by : (a b : Bool) → (a ≡ true → b ≡ true) → (b ≡ true → a ≡ true) → a ≡ b
 same_by true b to from = sym (to refl)

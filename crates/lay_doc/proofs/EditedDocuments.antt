@@ -1,7 +1,7 @@
 -- An edit without a fault leaves a document.
 use Rattle.std.proofs.Common.{◌≡◌, ℕ, zero, suc, ◌+◌, ◌<◌, ◌≤◌, Bool, true, false, not, ◌||◌, ◌==◌, List, [], ◌∷◌, length, get_or, refl, sym, arith, subst, Option, None, Some, if◌then◌else◌, nat_lt, nat_le, is_some}
 use Rattle.std.specs.List.{remove_range}
-use Rattle.std.proofs.lemmas.Bool.{leb-false, ltb-false, not-false}
+use Rattle.std.proofs.lemmas.Bool.{leb-false, ltb-false, not-false, or_parts}
 use Rattle.std.proofs.lemmas.List.Sums.{sum_by-cons}
 use Rattle.lay_units.specs.Limits.{longest_text, most_depth, most_nodes, most_text}
 use Rattle.lay_style.specs.Places.{place_of}
@@ -50,14 +50,6 @@ passed : (b : Bool) (f : EditFault) (rest : Option EditFault) → (if b then Som
 passed true f rest h = absurd cc
 passed false f rest h = record { no = refl; after = h }
 
-left : (a b : Bool) → (a || b) ≡ false → a ≡ false
-left true b h = absurd cc
-left false b h = refl
-
-right : (a b : Bool) → (a || b) ≡ false → b ≡ false
-right true b h = absurd cc
-right false b h = h
-
 none_there : (o : Option ℕ) → is_some o ≡ false → o ≡ None
 none_there None h = refl
 none_there (Some k) h = absurd cc
@@ -77,14 +69,14 @@ inserted_at d p index new is has form none =
       has_parent = has;
       slot = subst (λ (i : ℕ). IsSlot parents p i (slot_of parents p index)) (sym slot.index_is) slot;
       of_element = not-false (is_element_at d.nodes p) a.no;
-      fresh = none_there (place_of new.id.0 (ids_of d.nodes)) (right (new.id.0 == 0) (is_some (place_of new.id.0 (ids_of d.nodes))) b.no);
-      has_name = named new.id.0 (left (new.id.0 == 0) (is_some (place_of new.id.0 (ids_of d.nodes))) b.no);
+      fresh = none_there (place_of new.id.0 (ids_of d.nodes)) (or_parts (new.id.0 == 0) (is_some (place_of new.id.0 (ids_of d.nodes))) b.no).1;
+      has_name = named new.id.0 (or_parts (new.id.0 == 0) (is_some (place_of new.id.0 (ids_of d.nodes))) b.no).0;
       room = leb-false most_nodes (length d.nodes) e.no;
       deeper = refl;
       not_deep = leb-false most_depth (get_or (depths_of d.nodes) p 0) g.no;
-      not_long = ltb-false longest_text (length new.text) (left (nat_lt longest_text (length new.text)) (nat_lt most_text (text_size d.nodes + length new.text)) t.no);
+      not_long = ltb-false longest_text (length new.text) (or_parts (nat_lt longest_text (length new.text)) (nat_lt most_text (text_size d.nodes + length new.text)) t.no).0;
       form = form;
-      texts_fit = ltb-false most_text (text_size d.nodes + length new.text) (right (nat_lt longest_text (length new.text)) (nat_lt most_text (text_size d.nodes + length new.text)) t.no);
+      texts_fit = ltb-false most_text (text_size d.nodes + length new.text) (or_parts (nat_lt longest_text (length new.text)) (nat_lt most_text (text_size d.nodes + length new.text)) t.no).1;
     })
   where
     named : (n : ℕ) → (n == 0) ≡ false → 0 < n

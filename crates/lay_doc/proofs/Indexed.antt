@@ -4,7 +4,7 @@ use Rattle.std.specs.List.{insert}
 use Rattle.std.proofs.lemmas.Bool.{cases_eq, cases_lt, eq-eqb, ne_eqb}
 use Rattle.std.proofs.lemmas.Bool.Decides.{nat_tests}
 use Rattle.std.proofs.lemmas.Grind.{elements}
-use Rattle.std.proofs.lemmas.List.{get_or-map, length-append}
+use Rattle.std.proofs.lemmas.List.{get_or-map, length-append, length-map}
 use Rattle.std.proofs.lemmas.List.Edits.{length-insert}
 use Rattle.lay_style.specs.Places.{place_of}
 use Rattle.lay_style.proofs.Places.{map_none, place_here, place_later}
@@ -12,7 +12,6 @@ use Rattle.lay_doc.specs.declared.index.IdIndex.{IdIndex}
 use Rattle.lay_doc.specs.Tree.{shifted}
 use Rattle.lay_doc.specs.Index.{is_up_to, number_in, IsIndexOf}
 use Rattle.lay_doc.proofs.PutTrees.{shifted_low, shifted_high}
-use Rattle.lay_doc.proofs.NodeColumns.{length-column}
 
 shifted_suc : (at k : ℕ) → suc (shifted at k) ≡ shifted (suc at) (suc k)
 shifted_suc at k = elim (cases_lt k at) [
@@ -66,17 +65,17 @@ number_old : (a b : IdIndex) (id at x : ℕ) → Adds a b id at → (x ≡ id �
 number_old a b id at x adds other = let t = ne_eqb x id other in adds.numbers_are x ∙ rw t refl
 
 length_places : (a b : IdIndex) (id at : ℕ) → Adds a b id at → length b.places.items ≡ length a.places.items + 1
-length_places a b id at adds = ap length adds.places_are ∙ length-append (map (shifted at) a.places.items) (at ∷ []) ∙ ap (λ (m : ℕ). m + 1) (length-column (shifted at) a.places.items)
+length_places a b id at adds = ap length adds.places_are ∙ length-append (map (shifted at) a.places.items) (at ∷ []) ∙ ap (λ (m : ℕ). m + 1) (length-map a.places.items (shifted at))
 
 read_old : (a b : IdIndex) (id at n : ℕ) → Adds a b id at → n < length a.places.items → get_or b.places.items n 0 ≡ shifted at (get_or a.places.items n 0)
 read_old a b id at n adds lt =
-    let len = length-column (shifted at) a.places.items in
+    let len = length-map a.places.items (shifted at) in
     let front : get_or (map (shifted at) a.places.items ++ at ∷ []) n 0 ≡ get_or (map (shifted at) a.places.items) n 0 = grind (arith, elements) in
     ap (λ (xs : List ℕ). get_or xs n 0) adds.places_are ∙ front ∙ get_or-map (shifted at) a.places.items n 0 0 lt
 
 read_new : (a b : IdIndex) (id at n : ℕ) → Adds a b id at → n ≡ length a.places.items → get_or b.places.items n 0 ≡ at
 read_new a b id at n adds is =
-    let len = length-column (shifted at) a.places.items in
+    let len = length-map a.places.items (shifted at) in
     let last : get_or (map (shifted at) a.places.items ++ at ∷ []) n 0 ≡ at = grind (arith, elements) in
     ap (λ (xs : List ℕ). get_or xs n 0) adds.places_are ∙ last
 

@@ -3,7 +3,7 @@ use Rattle.std.proofs.Common.{set, ◌≡◌, ℕ, ◌+◌, ◌-◌, ◌<◌, �
 use Rattle.std.specs.List.{All, insert}
 use Rattle.std.specs.Prelude.{sum}
 use Rattle.std.proofs.lemmas.Bool.{cases_lt}
-use Rattle.std.proofs.lemmas.List.{get_or_default, get_or-map, map-append, take-map, drop-map}
+use Rattle.std.proofs.lemmas.List.{get_or_default, get_or-map, map-append, take-map, drop-map, length-map}
 use Rattle.std.proofs.lemmas.List.Elements.{All-append, All-cons, All-take, All-drop, All-map}
 use Rattle.std.proofs.lemmas.List.Edits.{map_over_more, length-insert, get_or-insert_below, get_or-insert_at, get_or-insert_above}
 use Rattle.std.proofs.lemmas.List.Sums.{sum-map, sum_by-insert}
@@ -16,7 +16,7 @@ use Rattle.lay_doc.specs.NewNodes.{is_element}
 use Rattle.lay_doc.specs.Tree.{IsSlot, IsTree, children_before, shifted}
 use Rattle.lay_doc.specs.Document.{Document, IsDocument, IsNode, parents_of, ids_of, depths_of, text_lengths_of, text_size, is_element_at, moved, inserted}
 use Rattle.lay_doc.proofs.PutTrees.{Puts, puts_tree, shifted_low, shifted_high}
-use Rattle.lay_doc.proofs.NodeColumns.{length-column, length-parents, length-ids, length-depths, length-texts, length-elements, elements_of, element_column}
+use Rattle.lay_doc.proofs.NodeColumns.{length-parents, length-ids, length-depths, length-texts, length-elements, elements_of, element_column}
 
 map-insert : {X Y : Type 0} (f : X → Y) (xs : List X) (i : ℕ) (x : X) → map f (insert xs i x) ≡ insert (map f xs) i (f x)
 map-insert f xs i x = map-append f (take i xs) (x ∷ drop i xs) ∙ rw (take-map f i xs, drop-map f i xs) refl
@@ -56,7 +56,7 @@ text_size_inserted nodes at node =
 
 -- a loop that moves each node's parent's place: what is ahead is as it was
 pub ahead : {X : Type 0} (f : X → X) (xs ys : List X) (i : ℕ) (x : X) → i < length xs → ys ≡ map f (take i xs) ++ drop i xs → get_or ys i x ≡ get_or xs i x
-ahead f xs ys i x within is = rw is (grind (arith, common_steps, length-column f (take i xs)))
+ahead f xs ys i x within is = rw is (grind (arith, common_steps, length-map (take i xs) f))
 
 above_read : {X : Type 0} (xs : List X) (at : ℕ) (x d : X) (k : ℕ) → at < k → at ≤ length xs → get_or (insert xs at x) k d ≡ get_or xs (k - 1) d
 above_read xs at x d k over within =
@@ -118,7 +118,7 @@ puts_nodes nodes at node within up =
     let len' : length (insert (parents_of nodes) at node.parent) ≡ length nodes + 1 = length-insert (parents_of nodes) at node.parent (omega (arith, len)) ∙ omega (arith, len) in
     let read = λ (k : ℕ) (lt : k < length nodes + 1). get_or-map (shifted at) (insert (parents_of nodes) at node.parent) k 0 0 (omega (arith, len')) in
     rw (parents_inserted nodes at node) (record {
-      length_is = length-column (shifted at) (insert (parents_of nodes) at node.parent) ∙ omega (arith, len', len);
+      length_is = length-map (insert (parents_of nodes) at node.parent) (shifted at) ∙ omega (arith, len', len);
       below = λ k low. read k (omega arith) ∙ ap (shifted at) (get_or-insert_below (parents_of nodes) at node.parent 0 k low (omega (arith, len)));
       here = read at (omega arith) ∙ ap (shifted at) (get_or-insert_at (parents_of nodes) at node.parent 0 (omega (arith, len))) ∙ shifted_low at node.parent up;
       above = λ k over short. read k (omega (arith, len)) ∙ ap (shifted at) (above_read (parents_of nodes) at node.parent 0 k over (omega (arith, len)));
@@ -200,7 +200,7 @@ put_document d is at node fits =
     let slot = fits.slot in
     let within : at ≤ length d.nodes = omega (arith, slot.within) in
     let nodes : List Node = inserted d.nodes at node in
-    let count : length nodes ≡ length d.nodes + 1 = length-column (moved at) (insert d.nodes at node) ∙ length-insert d.nodes at node within in
+    let count : length nodes ≡ length d.nodes + 1 = length-map (insert d.nodes at node) (moved at) ∙ length-insert d.nodes at node within in
     let puts = puts_nodes d.nodes at node within slot.after in
     record {
       wide = is.wide;
@@ -252,7 +252,7 @@ parents_within parents tree k lt = elim (cases_lt 0 k) [
 
 -- the loop over the nodes from a new one on: what is ahead is as it was, and what it leaves
 pub length_ahead : {X : Type 0} (f : X → X) (xs ys : List X) (k : ℕ) → k ≤ length xs → ys ≡ map f (take k xs) ++ drop k xs → length ys ≡ length xs
-length_ahead f xs ys k lt is = rw is (grind (arith, common_steps, length-column f (take k xs)))
+length_ahead f xs ys k lt is = rw is (grind (arith, common_steps, length-map (take k xs) f))
 
 pub parent_ahead : (f : Node → Node) (xs ys : List Node) (k : ℕ) → k < length xs → ys ≡ map f (take k xs) ++ drop k xs → get_or (parents_of ys) k 0 ≡ get_or (parents_of xs) k 0
 parent_ahead f [] ys k lt is = absurd (omega arith)

@@ -1,32 +1,29 @@
 -- The columns of a list of nodes.
-use Rattle.std.proofs.Common.{◌≡◌, ℕ, zero, suc, ◌<◌, ◌≤◌, List, [], ◌∷◌, length, get_or, refl, ap, arith, Bool, false, map}
+use Rattle.std.proofs.Common.{◌≡◌, ℕ, zero, suc, ◌<◌, ◌≤◌, List, [], ◌∷◌, length, get_or, refl, arith, Bool, false, map}
 use Rattle.std.proofs.lemmas.List.Sums.{sum_by-cons}
+use Rattle.std.proofs.lemmas.List.{length-map}
 use Rattle.lay_doc.specs.declared.node.Node.{Node}
 use Rattle.lay_doc.specs.NewNodes.{is_element, is_text}
 use Rattle.lay_doc.specs.Document.{parents_of, ids_of, depths_of, text_lengths_of, text_size, is_element_at, is_text_at}
 
-pub length-column : {X Y : Type 0} (f : X → Y) (xs : List X) → length (map f xs) ≡ length xs
-length-column f [] = refl
-length-column f (x ∷ xs) = ap suc (length-column f xs)
-
 pub length-parents : (nodes : List Node) → length (parents_of nodes) ≡ length nodes
-length-parents nodes = length-column (λ n. n.parent) nodes
+length-parents nodes = length-map nodes (λ n. n.parent)
 
 pub length-ids : (nodes : List Node) → length (ids_of nodes) ≡ length nodes
-length-ids nodes = length-column (λ n. n.id.0) nodes
+length-ids nodes = length-map nodes (λ n. n.id.0)
 
 pub length-depths : (nodes : List Node) → length (depths_of nodes) ≡ length nodes
-length-depths nodes = length-column (λ n. n.depth) nodes
+length-depths nodes = length-map nodes (λ n. n.depth)
 
 pub length-texts : (nodes : List Node) → length (text_lengths_of nodes) ≡ length nodes
-length-texts nodes = length-column (λ n. length n.text) nodes
+length-texts nodes = length-map nodes (λ n. length n.text)
 
 -- which nodes are elements, as a column
 abbrev pub elements_of : List Node → List Bool
 elements_of nodes = map (λ n. is_element n.kind) nodes
 
 pub length-elements : (nodes : List Node) → length (elements_of nodes) ≡ length nodes
-length-elements nodes = length-column (λ n. is_element n.kind) nodes
+length-elements nodes = length-map nodes (λ n. is_element n.kind)
 
 pub element_column : (nodes : List Node) (k : ℕ) → is_element_at nodes k ≡ get_or (elements_of nodes) k false
 element_column [] k = refl

@@ -3,7 +3,7 @@ use Rattle.std.proofs.Common.{◌≡◌, ℕ, zero, suc, ◌+◌, ◌-◌, ◌<�
 use Rattle.std.specs.Prelude.{sum}
 use Rattle.std.specs.List.{remove_range}
 use Rattle.std.proofs.lemmas.Bool.{cases_lt, lt-ltb, le-ltb}
-use Rattle.std.proofs.lemmas.List.{get_or-map}
+use Rattle.std.proofs.lemmas.List.{get_or-map, length-map}
 use Rattle.std.proofs.lemmas.List.Elements.{All-append, All-take, All-drop, All-map}
 use Rattle.std.proofs.lemmas.List.Sums.{sum-map, sum_by-append, sum_by-drop_more}
 use Rattle.lay_units.specs.Limits.{longest_text, most_depth, most_text}
@@ -12,7 +12,7 @@ use Rattle.lay_doc.specs.NewNodes.{is_element}
 use Rattle.lay_doc.specs.Tree.{IsTree, IsSlot, child_count}
 use Rattle.lay_doc.specs.Document.{Document, IsDocument, IsNode, parents_of, ids_of, depths_of, text_lengths_of, text_size}
 use Rattle.lay_doc.specs.Removal.{closed_up, moved_back, removed_between}
-use Rattle.lay_doc.proofs.NodeColumns.{length-column, length-parents, length-ids, length-depths, length-texts, length-elements, elements_of, element_column}
+use Rattle.lay_doc.proofs.NodeColumns.{length-parents, length-ids, length-depths, length-texts, length-elements, elements_of, element_column}
 use Rattle.lay_doc.proofs.Inserted.{map-map}
 use Rattle.lay_doc.proofs.Subtrees.{parent_outside}
 use Rattle.lay_doc.proofs.Cut.{length-cut, map-cut, old_place, old_low, old_high, cut_read, old_less, old_inside, old_more, old_outside, old_less_back, old_le_back, distinct_cut}
@@ -83,7 +83,7 @@ closes_nodes : (nodes : List Node) (p e : ℕ) → p ≤ e → e ≤ length node
 closes_nodes nodes p e le within =
     let len = length-parents nodes in
     let cut = length-cut (parents_of nodes) p e le (omega arith) in
-    let len' = length-column (closed_up p e) (remove_range (parents_of nodes) p e) in
+    let len' = length-map (remove_range (parents_of nodes) p e) (closed_up p e) in
     rw (parents_removed nodes p e) (record {
       length_is = omega arith;
       read = λ k lt. get_or-map (closed_up p e) (remove_range (parents_of nodes) p e) k 0 0 (omega arith) ∙ ap (closed_up p e) (cut_read (parents_of nodes) p e k 0 le (omega arith));
@@ -135,7 +135,7 @@ removed_document d p e is cuts small =
     let len_t = length-texts d.nodes in
     let len_e = length-elements d.nodes in
     let within : e ≤ length d.nodes = omega (arith, cuts.slot.within) in
-    let count : length nodes + (e - p) ≡ length d.nodes = ap (λ (m : ℕ). m + (e - p)) (length-column (moved_back p e) (remove_range d.nodes p e)) ∙ length-cut d.nodes p e le within in
+    let count : length nodes + (e - p) ≡ length d.nodes = ap (λ (m : ℕ). m + (e - p)) (length-map (remove_range d.nodes p e) (moved_back p e)) ∙ length-cut d.nodes p e le within in
     let closes = closes_nodes d.nodes p e le within in
     let len_n = length-parents nodes in
     let same = λ (k : ℕ) (lt : k < length nodes). same_parent (parents_of d.nodes) (parents_of nodes) p e cuts closes k (omega arith) in

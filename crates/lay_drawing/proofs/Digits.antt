@@ -2,10 +2,9 @@
 use Rattle.std.proofs.Common.{◌≡◌, ℕ, zero, suc, ◌+◌, ◌*◌, ◌/◌, ◌%◌, ◌^◌, ◌<◌, ◌==◌, ◌&&◌, Bool, true, false, List, [], ◌∷◌, ◌++◌, length, refl, sym, ap, ◌∙◌, arith, append_assoc, append-nil, inl, inr}
 use Rattle.std.specs.Fmt.{decimal}
 use Rattle.std.specs.Str.Parse.{digits_value}
-use Rattle.std.proofs.lemmas.Bool.{ne_eqb, eqb-true, cases_lt}
+use Rattle.std.proofs.lemmas.Bool.{ne_eqb, eqb-true, cases_lt, and_parts}
 use Rattle.std.proofs.lemmas.Fmt.{decimal_digit}
 use Rattle.lay_drawing.specs.Pixels.{fraction_digits, FractionsAreExact}
-use Rattle.lay_drawing.proofs.Numerals.{both}
 
 pub none_left : (most : ℕ) → fraction_digits most 0 ≡ []
 unfolding fraction_digits
@@ -45,8 +44,8 @@ below : (n : ℕ) → all_exact n ≡ true → (rest : ℕ) → rest < n → exa
 unfolding all_exact
 below zero e rest low = absurd (omega arith)
 below (suc n) e rest low = elim (cases_lt rest n) [
-  | inl less ↦ below n (both (exact n) (all_exact n) e).1 rest less
-  | inr high ↦ (let q : rest ≡ n = omega arith in ap exact q ∙ (both (exact n) (all_exact n) e).0)
+  | inl less ↦ below n (and_parts (exact n) (all_exact n) e).1 rest less
+  | inr high ↦ (let q : rest ≡ n = omega arith in ap exact q ∙ (and_parts (exact n) (all_exact n) e).0)
 ]
 
 sixty_four : all_exact 64 ≡ true

@@ -3,6 +3,7 @@ use Rattle.std.proofs.Common.{◌≡◌, ℕ, suc, ℤ, ◌≤ℤ◌, ◌-ℤ◌
 use Rattle.std.specs.List.{All, Any}
 use Rattle.std.proofs.lemmas.Int.{ints}
 use Rattle.std.proofs.lemmas.List.Elements.{All-nil, All-push}
+use Rattle.std.proofs.lemmas.Bool.{and_parts}
 use Rattle.lay_drawing.specs.declared.frame.Frame.{Frame}
 use Rattle.lay_drawing.specs.declared.frame.Span.{Span}
 use Rattle.lay_drawing.specs.declared.label.Label.{Label}
@@ -10,13 +11,13 @@ use Rattle.lay_drawing.specs.declared.mark.Marked.{Marked}
 use Rattle.lay_drawing.specs.Changes.{is_box}
 use Rattle.lay_drawing.specs.Frames.{edges, IsWithin}
 use Rattle.lay_drawing.specs.Labels.{label_width, label_height, meets, is_in_way, behind, begin_at, is_told, is_free, span_up_to, place_in, label_at, label_in, label_for, with_label, IsOf, LabelsAreInBoxes}
-use Rattle.lay_drawing.proofs.Numerals.{by_bool, both}
+use Rattle.lay_drawing.proofs.Numerals.{by_bool}
 
 behind_low : (top width left : ℤ) (l : Label) → left ≤ℤ behind top width left l
 behind_low top width left l =
     by_bool (is_in_way left top width l)
-    (λ e. let way = (both (meets left width l.frame.across) (meets top label_height l.frame.down) e).0 in
-    let low = (both (int_lt left l.frame.across.high) (not (int_le width (l.frame.across.low -ℤ left))) way).0 in
+    (λ e. let way = (and_parts (meets left width l.frame.across) (meets top label_height l.frame.down) e).0 in
+    let low = (and_parts (int_lt left l.frame.across.high) (not (int_le width (l.frame.across.low -ℤ left))) way).0 in
     rw e (omega (arith, ints, low)))
     (λ e. rw e (omega (arith, ints)))
 

@@ -4,7 +4,7 @@ use Rattle.std.proofs.lemmas.Int.{ints}
 use Rattle.std.specs.List.{join_with_byte}
 use Rattle.std.specs.Str.Parse.{AllDigits}
 use Rattle.std.specs.Fmt.{decimal, signed_decimal}
-use Rattle.std.proofs.lemmas.Bool.{ltb-true, lt-ltb, le-leb, leb-true, ne_eqb, eqb-true}
+use Rattle.std.proofs.lemmas.Bool.{ltb-true, lt-ltb, le-leb, leb-true, ne_eqb, eqb-true, and_parts}
 use Rattle.std.proofs.lemmas.Option.{option_and_then_some}
 use Rattle.std.proofs.lemmas.Slice.Eq.{bytes_eq-Decides}
 use Rattle.std.proofs.lemmas.List.Splits.{join_with_byte-slice_split}
@@ -24,7 +24,7 @@ use Rattle.lay_drawing.specs.declared.line.Line.{Line}
 use Rattle.lay_drawing.specs.declared.line.Line.TheVariants.{Edit, Publish, Latest, Sync, Final, Laid, Piece}
 use Rattle.lay_drawing.specs.Lines.{line_fields, line_body, reply_fields, place_fields, shown_field, IsLine, IsPlace, IsReply, IsVersion, IsPiece}
 use Rattle.lay_drawing.specs.Reading.{number_of, small_of, negative_of, positive_of, position_of, counted_of, shown_of, read_of, fault_of, place_of, refused_of, reply_of, edit_of, kind_of, rect_of, piece_of, line_of, fields_in, line_in, is_word}
-use Rattle.lay_drawing.proofs.Numerals.{by_bool, both, number_complete, number_sound}
+use Rattle.lay_drawing.proofs.Numerals.{by_bool, number_complete, number_sound}
 use Rattle.lay_drawing.proofs.Splitting.{Lacks, AllLack, decimal_lacks, lacks_more, fields_back, joined_lack}
 
 -- numbers
@@ -225,7 +225,7 @@ negative_sound t v e = option_and_then_some _ (number_of t) v e (λ m read rest.
     (λ less.
     let f = rw less at rest in
     let q : record { 0 = neg_ℤ (pos m) } ≡ v = cc in
-    let parts = both (nat_lt 0 m) (nat_lt m (2 ^ 62)) less in
+    let parts = and_parts (nat_lt 0 m) (nat_lt m (2 ^ 62)) less in
     let k = negated m (ltb-true 0 m parts.0) (ltb-true m (2 ^ 62) parts.1) in
     (ap (λ (ds : List ℕ). 45 ∷ ds) s.0 ∙ k.0 ∙ ap (λ (u : Length). signed_decimal u.0) q, subst (λ (u : Length). IsPosition u.0) q k.1))
     (λ more. let f = rw more at rest in absurd cc))
@@ -305,7 +305,7 @@ shown_sound (x ∷ xs) o e = by_bool (is_word (codes "nomemory") x && (length xs
     (λ both_are.
     let f = rw both_are at e in
     let q : None ≡ o = cc in
-    let parts = both (is_word (codes "nomemory") x) (length xs == 0) both_are in
+    let parts = and_parts (is_word (codes "nomemory") x) (length xs == 0) both_are in
     let g1 = word_sound (codes "nomemory") x parts.0 in
     let g2 = is_nil xs parts.1 in
     subst (λ (u : Option ℕ). (x ∷ xs ≡ shown_field u ∷ []) × IsVersion u) q (let same : x ∷ xs ≡ codes "nomemory" ∷ [] = cc in same, tt))
@@ -348,8 +348,8 @@ fault_sound (x ∷ xs) k e =
     (λ all.
     let f = rw all at e1 in
     let q : m ≡ k = cc in
-    let p1 = both (x == 69 && nat_le 1 m) (nat_le m 11) all in
-    let p2 = both (x == 69) (nat_le 1 m) p1.0 in
+    let p1 = and_parts (x == 69 && nat_le 1 m) (nat_le m 11) all in
+    let p2 = and_parts (x == 69) (nat_le 1 m) p1.0 in
     let letter : x ≡ 69 = eqb-true x 69 p2.0 in
     let s = number_sound xs m a in
     let same : x ∷ xs ≡ 69 ∷ decimal m = (let g = s.0 in cc) in
@@ -399,7 +399,7 @@ reply_sound (word ∷ rest) r e = by_bool (is_word (codes "accepted") word)
     (λ nb. let g = rw nb at f in by_bool (is_word (codes "nomemory") word && (length rest == 0))
     (λ a. let h = rw a at g in
     let q : NoMemory ≡ r = cc in
-    let parts = both (is_word (codes "nomemory") word) (length rest == 0) a in
+    let parts = and_parts (is_word (codes "nomemory") word) (length rest == 0) a in
     let w = word_sound (codes "nomemory") word parts.0 in
     let z = is_nil rest parts.1 in
     let same : word ∷ rest ≡ codes "nomemory" ∷ [] = cc in

@@ -8,7 +8,7 @@ use Rattle.std.specs.Fmt.{decimal}
 use Rattle.std.proofs.lemmas.Str.{IsUtf8-from_ascii}
 use Rattle.std.proofs.lemmas.Str.Parse.{IsNumeralModel, numerals_by_value, parse_digits}
 use Rattle.std.proofs.lemmas.Fmt.{decimal-digits_value, IsAscii-from_digits, digits_decimal, digits_value-decimal, decimal_nonempty, first_decimal, decimal_digit}
-use Rattle.std.proofs.lemmas.Bool.{ltb-true, lt-ltb, ne_eqb}
+use Rattle.std.proofs.lemmas.Bool.{ltb-true, lt-ltb, ne_eqb, and_parts}
 use Rattle.lay_drawing.specs.Reading.{is_numeral, number_of}
 
 abbrev Digits : List ℕ → Type 0
@@ -21,10 +21,6 @@ pub by_bool : {P : Type 0} (b : Bool) → (b ≡ true → P) → (b ≡ false �
 by_bool true when other = when refl
 by_bool false when other = other refl
 
-pub both : (a b : Bool) → a && b ≡ true → (a ≡ true) × (b ≡ true)
-both true b e = (refl, e)
-both false b e = absurd cc
-
 lead : (first : ℕ) (rest : List ℕ) → (length rest == 0) || not (first == 48) ≡ true → first ≡ 48 → length (first ∷ rest) ≡ 1
 lead first [] e is = refl
 lead first (x ∷ xs) e is = let q : (first == 48) ≡ true = rw is refl in let none : (suc (length xs) == 0) ≡ false = ne_eqb (suc (length xs)) 0 (λ z. omega arith) in let z = rw (none, q) at e in absurd cc
@@ -33,7 +29,7 @@ lead first (x ∷ xs) e is = let q : (first == 48) ≡ true = rw is refl in let 
 pub numeral_is : (text : List ℕ) → is_numeral text ≡ true → Digits text × (0 < length text) × (get_or text 0 0 ≡ 48 → length text ≡ 1)
 numeral_is [] e = absurd cc
 numeral_is (x ∷ xs) e =
-    let parts = both (list_all is_ascii_digit (x ∷ xs)) ((length xs == 0) || not (x == 48)) e in
+    let parts = and_parts (list_all is_ascii_digit (x ∷ xs)) ((length xs == 0) || not (x == 48)) e in
     (parts.0, omega arith, lead x xs parts.1)
 
 pub numeral_utf8 : (text : List ℕ) → is_numeral text ≡ true → IsUtf8 text

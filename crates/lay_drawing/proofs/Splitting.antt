@@ -1,9 +1,9 @@
 -- Fields of a line: parted by spaces, and without any in them.
-use Rattle.std.proofs.Common.{◌≡◌, ℕ, ◌^◌, ◌<◌, ◌≤◌, ◌==◌, ◌||◌, Bool, true, false, List, [], ◌∷◌, ◌++◌, length, refl, ap, ◌∙◌, arith, cond}
+use Rattle.std.proofs.Common.{◌≡◌, ℕ, ◌^◌, ◌<◌, ◌≤◌, ◌==◌, Bool, false, List, [], ◌∷◌, ◌++◌, length, refl, ap, ◌∙◌, arith, cond}
 use Rattle.std.specs.List.{list_any, join_with_byte, onto_first}
 use Rattle.std.specs.Str.Parse.{AllDigits}
 use Rattle.std.specs.Fmt.{decimal}
-use Rattle.std.proofs.lemmas.Bool.{ne_eqb, eqb-false}
+use Rattle.std.proofs.lemmas.Bool.{ne_eqb, eqb-false, or_parts}
 use Rattle.std.proofs.lemmas.Str.Parse.{digit_from_value}
 use Rattle.std.proofs.lemmas.Fmt.{decimal_is_IsNumeral}
 use Rattle.lay_drawing.specs.Reading.{fields_in}
@@ -16,12 +16,8 @@ abbrev pub AllLack : ℕ → List (List ℕ) → Type 0
 AllLack c [] = Unit {0}
 AllLack c (field ∷ fields) = Lacks c field × AllLack c fields
 
-neither : (a b : Bool) → a || b ≡ false → (a ≡ false) × (b ≡ false)
-neither true b e = absurd cc
-neither false b e = (refl, e)
-
 pub lacks_parts : (c b : ℕ) (bs : List ℕ) → Lacks c (b ∷ bs) → ((b == c) ≡ false) × Lacks c bs
-lacks_parts c b bs lacks = neither (b == c) (list_any (λ x. x == c) bs) lacks
+lacks_parts c b bs lacks = or_parts (b == c) (list_any (λ x. x == c) bs) lacks
 
 pub lacks_more : (c b : ℕ) (bs : List ℕ) → (b == c) ≡ false → Lacks c bs → Lacks c (b ∷ bs)
 lacks_more c b bs first rest = rw (first, rest) refl

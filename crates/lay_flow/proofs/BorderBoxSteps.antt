@@ -4,6 +4,7 @@ use Rattle.std.proofs.lemmas.List.Elements.{All-append, All-cons, All-head, All-
 use Rattle.std.proofs.lemmas.Bool.{cases_lt}
 use Rattle.std.proofs.lemmas.Grind.{elements}
 use Rattle.std.proofs.lemmas.Int.{ints}
+use Rattle.std.proofs.lemmas.List.{length-map}
 use Rattle.lay_floats.specs.declared.requests.Place.{Place}
 use Rattle.lay_flow.specs.declared.blocks.flow_box.FlowBox.{FlowBox}
 use Rattle.lay_flow.specs.declared.blocks.flow_places.BoxPlace.{BoxPlace}
@@ -24,7 +25,6 @@ use Rattle.lay_flow.specs.Pass.Bounds.{AreBoxHeights, AreNear, reach}
 use Rattle.lay_flow.specs.Pass.Known.{IsFinished}
 use Rattle.lay_flow.specs.Pass.Placed.{IsPlaceNear}
 use Rattle.lay_flow.proofs.PlaceSteps.{lines_wider}
-use Rattle.lay_flow.proofs.PlacedOn.{map_length}
 
 read_before : (ps : List BoxPlace) (p : BoxPlace) (k : ℕ) → k < length ps → box_place_at (ps ++ p ∷ []) k ≡ box_place_at ps k
 read_before ps p k lt = grind (arith, elements)
@@ -126,7 +126,7 @@ module _ (boxes : List FlowBox) (flow : Pass) (out : FlowColumns) (corners : Lis
       record {
         tops_length = rw tops mine;
         heights_length = rw heights high;
-        places_length = rw places (sym (ap length is.are.places_are) ∙ map_length (λ (p : Spot). p.place) is.places ∙ counted boxes flow corners is put);
+        places_length = rw places (sym (ap length is.are.places_are) ∙ length-map is.places (λ (p : Spot). p.place) ∙ counted boxes flow corners is put);
         corners_length = rw corner put.length_is;
         top = λ k lt. rw tops (near k (omega (arith, lt, mine)));
         height = λ k lt flow. rw heights (sized k (omega (arith, lt, high)) flow);

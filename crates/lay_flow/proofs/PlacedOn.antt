@@ -1,7 +1,7 @@
 -- The columns of the code beside the spots that they are of.
-use Rattle.std.proofs.Common.{◌≡◌, suc, ℕ, ◌+◌, false, ◌<◌, ◌≤◌, ℤ, List, [], ◌∷◌, ◌++◌, length, map, true, arith, refl, sym, ap, ◌∙◌, subst}
+use Rattle.std.proofs.Common.{◌≡◌, suc, ℕ, ◌+◌, false, ◌<◌, ◌≤◌, ℤ, List, [], ◌∷◌, ◌++◌, length, true, arith, sym, ap, ◌∙◌, subst}
 use Rattle.std.proofs.lemmas.Int.{ints}
-use Rattle.std.proofs.lemmas.List.{length_push, map_push}
+use Rattle.std.proofs.lemmas.List.{length_push, map_push, length-map}
 use Rattle.lay_doc.specs.Tree.{IsTree}
 use Rattle.lay_units.specs.declared.length.Unit.{Unit as Length}
 use Rattle.lay_flow.specs.declared.blocks.flow_box.FlowBox.{FlowBox}
@@ -26,16 +26,12 @@ use Rattle.lay_flow.specs.Pass.Known.{ArePlaced, ArePlacedOn, AreSpots, GoesOn, 
 use Rattle.lay_flow.proofs.PassSteps.{placed_kept}
 use Rattle.lay_flow.proofs.PlaceSteps.{old_place}
 
-pub map_length : {A B : Type 0} (f : A → B) (xs : List A) → length (map f xs) ≡ length xs
-map_length f [] = refl
-map_length f (x ∷ xs) = ap suc (map_length f xs)
-
 -- one more entry
 pub counted : {A : Type 0} (old new : List A) (x : A) (k : ℕ) → length old ≡ k → new ≡ old ++ x ∷ [] → length new ≡ k + 1
 counted old new x k e pushed = ap length pushed ∙ length_push old x ∙ ap (λ (n : ℕ). n + 1) e
 
 pub places_count : (now : PlacingState) (places : List Spot) → AreSpots now places → length places ≡ length now.places.items
-places_count now places are = sym (map_length (λ (p : Spot). p.place) places) ∙ ap length are.places_are
+places_count now places are = sym (length-map places (λ (p : Spot). p.place)) ∙ ap length are.places_are
 
 pub placed_count : (boxes : List FlowBox) (marks : List Length) (now : PlacingState) (n : ℕ) → ArePlaced boxes marks now n → length now.places.items ≡ n
 placed_count boxes marks now n is = sym (places_count now is.places is.are) ∙ is.to.places_length

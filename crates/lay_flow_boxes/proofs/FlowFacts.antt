@@ -1,6 +1,6 @@
 -- The boxes of one context are as block flow takes them.
-use Rattle.std.proofs.Common.{◌≡◌, ℕ, zero, suc, ◌<◌, ◌≤◌, ◌==◌, ◌&&◌, ◌||◌, not, nat_lt, pos, Bool, true, false, List, length, slice_index, refl, sym, ap, ◌∙◌, arith, subst, inl, inr, Option, Some, None, if◌then◌else◌}
-use Rattle.std.proofs.lemmas.Bool.{cases_lt, eq-eqb, not-true, and_right}
+use Rattle.std.proofs.Common.{◌≡◌, ℕ, zero, suc, ◌<◌, ◌≤◌, ◌==◌, ◌&&◌, not, nat_lt, pos, Bool, true, false, List, length, slice_index, refl, sym, ap, ◌∙◌, arith, subst, inl, inr, Option, Some, None, if◌then◌else◌}
+use Rattle.std.proofs.lemmas.Bool.{cases_lt, eq-eqb, not-true, and_right, and_parts, or_parts}
 use Rattle.std.proofs.lemmas.Bool.Decides.{nat_tests}
 use Rattle.std.proofs.lemmas.Int.{ints}
 use Rattle.lay_units.specs.Units.{IsUsedSize, IsBoxSize}
@@ -43,26 +43,6 @@ use Rattle.lay_flow_boxes.specs.InlineContainers.{holds, is_beside_lines, is_blo
 use Rattle.lay_flow_boxes.specs.NearLefts.{AreNearLefts, IsNearLeft}
 use Rattle.lay_flow_boxes.specs.PlaceInputs.{HeightRuleFits}
 use Rattle.lay_box_tree.proofs.ContainerSteps.{container_before, container_within, containers_are_nearest_lem}
-
-never : (b : Bool) → b ≡ true → b ≡ false → ⊥
-never true h e = cc
-never false h e = cc
-
-and_first : (a b : Bool) → (a && b) ≡ true → a ≡ true
-and_first true b h = refl
-and_first false b h = absurd cc
-
-and_second : (a b : Bool) → (a && b) ≡ true → b ≡ true
-and_second true b h = h
-and_second false b h = absurd cc
-
-pub or_first : (a b : Bool) → (a || b) ≡ false → a ≡ false
-or_first true b h = absurd cc
-or_first false b h = refl
-
-pub or_second : (a b : Bool) → (a || b) ≡ false → b ≡ false
-or_second true b h = absurd cc
-or_second false b h = h
 
 -- a height that is given is a used size
 given_fits : (height : Len) → IsUsedSizeOrAuto height → IsUsedSize (given_or_auto height (pos 0))
@@ -162,8 +142,8 @@ container_own boxes are k c within (at_further j d positive e up) =
 pub not_held : (boxes : List BoxNode) (c n k : ℕ) → holds block_level boxes c n ≡ false → k < n → stands_in block_level boxes c k ≡ false
 not_held boxes c zero k none lt = absurd (omega arith)
 not_held boxes c (suc n) k none lt = elim (cases_lt k n) [
-  | inl low ↦ not_held boxes c n k (or_first (holds block_level boxes c n) (stands_in block_level boxes c n) none) low
-  | inr high ↦ (let q : k ≡ n = omega arith in rw q (or_second (holds block_level boxes c n) (stands_in block_level boxes c n) none))
+  | inl low ↦ not_held boxes c n k (or_parts (holds block_level boxes c n) (stands_in block_level boxes c n) none).0 low
+  | inr high ↦ (let q : k ≡ n = omega arith in rw q (or_parts (holds block_level boxes c n) (stands_in block_level boxes c n) none).1)
 ]
 
 pub beside_by : (positive same of : Bool) → (positive && same && of) ≡ false → positive ≡ true → same ≡ true → of ≡ false
@@ -181,7 +161,7 @@ same_eq k = eq-eqb k k refl
 pub in_line_container : (boxes : List BoxNode) (k : ℕ) → 0 < k → k < length boxes → is_inline_container boxes (container_of boxes k) ≡ true → is_of block_level boxes k ≡ false
 in_line_container boxes k positive within is =
     let c : ℕ = container_of boxes k in
-    let none = not-true (holds block_level boxes c (length boxes)) (and_second (is_block_box (role_at boxes c) && _) (not (holds block_level boxes c (length boxes))) is) in
+    let none = not-true (holds block_level boxes c (length boxes)) (and_parts (is_block_box (role_at boxes c) && _) (not (holds block_level boxes c (length boxes))) is).1 in
     beside_by (nat_lt 0 k) (c == c) (is_of block_level boxes k) (not_held boxes c (length boxes) k none within) (positive_lt k positive) (same_eq c)
 
 not_block : (r : Role) → is_beside_lines r ≡ false → is_block_box r ≡ false
@@ -203,9 +183,9 @@ no_lines_by false b c d e = refl
 -- so it holds no lines itself
 no_lines_in_lines : (m : BoxMeasuresValue) (lefts : List Length) (k : ℕ) → 0 < k → k < length m.boxes → holds_lines m lefts (container_of m.boxes k) ≡ true → holds_lines m lefts k ≡ false
 no_lines_in_lines m lefts k positive within is =
-    let inline = and_first (is_inline_container m.boxes (container_of m.boxes k)) _ is in
+    let inline = (and_parts (is_inline_container m.boxes (container_of m.boxes k)) _ is).0 in
     let of = in_line_container m.boxes k positive within inline in
-    let beside = or_first (is_beside_lines (role_at m.boxes k)) (is_own_container m.boxes k) of in
+    let beside = (or_parts (is_beside_lines (role_at m.boxes k)) (is_own_container m.boxes k) of).0 in
     no_lines_by (is_block_box (role_at m.boxes k)) _ _ _ (not_block (role_at m.boxes k) beside)
 
 line_kind : (side : Option Side) (clear : Cleared) (o : OwnBox) → is_line_kind (kind_in_lines side clear o) ≡ true
@@ -255,9 +235,9 @@ lines_around : (m : BoxMeasuresValue) (lefts : List Length) (c : ℕ) (held : Bo
     → holds_lines m lefts (container_of m.boxes c) ≡ held → is_in_lines m lefts c ≡ false
 lines_around m lefts c false positive within counted outer is = and_right (nat_lt 0 c) (holds_lines m lefts (container_of m.boxes c)) is
 lines_around m lefts c true positive within counted outer is =
-    let inline = and_first (is_inline_container m.boxes (container_of m.boxes c)) _ is in
+    let inline = (and_parts (is_inline_container m.boxes (container_of m.boxes c)) _ is).0 in
     let of = in_line_container m.boxes c positive within inline in
-    absurd (own_by (counts m.boxes c) (is_inner m.boxes c) counted outer (or_second (is_beside_lines (role_at m.boxes c)) (is_own_container m.boxes c) of))
+    absurd (own_by (counts m.boxes c) (is_inner m.boxes c) counted outer (or_parts (is_beside_lines (role_at m.boxes c)) (is_own_container m.boxes c) of).1)
 
 -- a container is in no lines
 container_out : (m : BoxMeasuresValue) (lefts : List Length) (c : ℕ) → c < length m.boxes → counts m.boxes c ≡ true → is_inner m.boxes c ≡ false → is_in_lines m lefts c ≡ false

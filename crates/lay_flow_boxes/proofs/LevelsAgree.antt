@@ -1,7 +1,7 @@
 -- A block box has an inline-level child where it holds inline-level boxes alone.
 use Rattle.std.proofs.Common.{◌≡◌, ℕ, zero, suc, ◌+◌, ◌<◌, ◌≤◌, ◌==◌, ◌&&◌, ◌||◌, not, nat_lt, Bool, true, false, List, [], ◌∷◌, ◌++◌, length, drop, refl, sym, ap, subst, ◌∙◌, arith, inl, inr, if◌then◌else◌}
 use Rattle.std.specs.List.{list_any}
-use Rattle.std.proofs.lemmas.Bool.{cases_eq, cases_lt, eq-eqb, eqb-true, ltb-true, or_right, or_left}
+use Rattle.std.proofs.lemmas.Bool.{cases_eq, cases_lt, eq-eqb, eqb-true, ltb-true, or_right, or_left, or_parts}
 use Rattle.lay_box_tree.specs.Containers.{IsContainer, box_parent, counts, further as at_further, parent as at_parent}
 use Rattle.lay_box_tree.specs.Roles.{is_inline_level, role_at, role_of}
 use Rattle.lay_box_tree.specs.declared.box_role.Role.{Role}
@@ -21,7 +21,7 @@ use Rattle.lay_flow_boxes.specs.declared.inline_containers.Level.TheVariants.{Bl
 use Rattle.lay_flow_boxes.specs.InlineContainers.{holds, is_beside_lines, is_block_box, is_of, is_own_container, stands_in}
 use Rattle.lay_flow_boxes.specs.LineItems.{AreHeldByOthers, IsIn, holds_nothing}
 use Rattle.lay_flow_boxes.specs.OneLevel.{WidthsAgreeOnLines}
-use Rattle.lay_flow_boxes.proofs.FlowFacts.{beside_by, not_held, or_first, positive_lt}
+use Rattle.lay_flow_boxes.proofs.FlowFacts.{beside_by, not_held, positive_lt}
 use Rattle.lay_flow_boxes.proofs.ItemSorts.{behind, parent_is, role_is, some_behind}
 use Rattle.lay_flow_boxes.proofs.LinesAreItems.{block_counts, not_first, within}
 
@@ -173,8 +173,7 @@ module _ (boxes : List BoxNode) (are : AreContextBoxes boxes) (c : ℕ) where
   not_beside : holds block_level boxes c (length boxes) ≡ false → (k : ℕ) → IsIn boxes c k → is_beside_lines (role_at boxes k) ≡ false
   not_beside none k is =
       let same : (container_of boxes k == c) ≡ true = eq-eqb (container_of boxes k) c is.container in
-      or_first (is_beside_lines (role_at boxes k)) (is_own_container boxes k)
-      (beside_by (nat_lt 0 k) (container_of boxes k == c) (is_of block_level boxes k) (not_held boxes c (length boxes) k none is.within) (positive_lt k is.behind) same)
+      (or_parts (is_beside_lines (role_at boxes k)) (is_own_container boxes k) (beside_by (nat_lt 0 k) (container_of boxes k == c) (is_of block_level boxes k) (not_held boxes c (length boxes) k none is.within) (positive_lt k is.behind) same)).0
 
   outermost : AreHeldByOthers boxes → holds block_level boxes c (length boxes) ≡ false → (turns k : ℕ) → k < turns → IsIn boxes c k → is_inline_level (role_at boxes k) ≡ true
       → HasInlineChild boxes c (c + 1)

@@ -1,6 +1,6 @@
 -- The boxes that stand in the lines of a block container are the items of these lines, each once.
 use Rattle.std.proofs.Common.{◌≡◌, ℕ, zero, suc, ◌+◌, ◌<◌, ◌==◌, ◌&&◌, not, Bool, true, false, List, [], ◌∷◌, ◌++◌, length, drop, slice_index_or, All, refl, sym, ap, subst, ◌∙◌, arith, inl, inr, if◌then◌else◌}
-use Rattle.std.proofs.lemmas.Bool.{cases_lt, eqb-true}
+use Rattle.std.proofs.lemmas.Bool.{cases_lt, eqb-true, or_parts, both_ways}
 use Rattle.std.proofs.lemmas.List.{drop_all}
 use Rattle.std.proofs.lemmas.List.Elements.{All-append, All-cons, All-nil}
 use Rattle.lay_box_tree.specs.Containers.{IsContainer, box_containers, box_parent, counts, further as at_further, parent as at_parent}
@@ -28,7 +28,7 @@ use Rattle.lay_box_tree.proofs.ContainerSteps.{containers_are_nearest_lem}
 use Rattle.lay_flow_boxes.specs.declared.inline_containers.Level.TheVariants.{Block as block_level, Inline as inline_level}
 use Rattle.lay_flow_boxes.specs.InlineContainers.{holds, is_beside_lines, is_block_box, is_inline_container, is_own_container}
 use Rattle.lay_flow_boxes.specs.LineItems.{AreHeldByOthers, BoxesInLinesAreItems, IsIn, IsInLinesAs, ItemsAreBoxesInLines, Sort, as_anchor, as_atomic, as_inline, as_left_float, as_right_float, as_text, end, holds_nothing, named, sorts_of, start}
-use Rattle.lay_flow_boxes.proofs.FlowFacts.{container_counts, in_line_container, or_first}
+use Rattle.lay_flow_boxes.proofs.FlowFacts.{container_counts, in_line_container}
 use Rattle.lay_flow_boxes.proofs.ItemSorts.{behind, below, follows, own_sorts, parent_is, role_is, some_behind, spread}
 
 -- what stands in lines is of these roles
@@ -57,10 +57,6 @@ no_more : (os : List Sort) → os ++ [] ≡ os
 no_more [] = refl
 no_more (o ∷ os) = ap (λ r. o ∷ r) (no_more os)
 
-never : (b : Bool) → b ≡ true → b ≡ false → ⊥
-never true h e = cc
-never false h e = cc
-
 pub not_first : (boxes : List BoxNode) (p : ℕ) → counts boxes p ≡ false → 0 < p
 not_first boxes zero e = absurd cc
 not_first boxes (suc p) e = omega arith
@@ -71,7 +67,7 @@ module _ (boxes : List BoxNode) (c : ℕ) (are : AreContextBoxes boxes) (lines :
   role_in_lines : (k : ℕ) → IsIn boxes c k → IsInLinesAs (role_at boxes k) (own_sorts (role_at boxes k))
   role_in_lines k is =
       let here : is_inline_container boxes (container_of boxes k) ≡ true = rw is.container lines in
-      in_lines (role_at boxes k) (or_first (is_beside_lines (role_at boxes k)) (is_own_container boxes k) (in_line_container boxes k is.behind is.within here))
+      in_lines (role_at boxes k) (or_parts (is_beside_lines (role_at boxes k)) (is_own_container boxes k) (in_line_container boxes k is.behind is.within here)).0
 
   counted : (k : ℕ) → IsIn boxes c k → counts boxes c ≡ true
   counted k is = container_counts boxes k c (subst (IsContainer boxes k) is.container (containers_are_nearest_lem boxes k are is.within))
@@ -94,7 +90,7 @@ module _ (boxes : List BoxNode) (c : ℕ) (are : AreContextBoxes boxes) (lines :
           let up = one_container boxes k (container_of boxes p) c (at_further k (container_of boxes p) is.behind e nearest) container in
           let there : IsIn boxes c p = record { behind = not_first boxes p e; within = omega (arith, before, is.within); container = up } in
           let opened = open_sorts (role_at boxes p) (own_sorts (role_at boxes p)) (role_in_lines p there) (held k is.behind is.within) in
-          follows boxes are.tree k is.behind is.within c (c + 1) (drop (c + 1) boxes) refl (λ same. never (counts boxes c) (counted k is) (subst (λ (p : ℕ). counts boxes p ≡ false) same e))
+          follows boxes are.tree k is.behind is.within c (c + 1) (drop (c + 1) boxes) refl (λ same. both_ways (counts boxes c) (subst (λ (p : ℕ). counts boxes p ≡ false) same e) (counted k is))
           ∙ ap (spread (own_sorts (role_at boxes k))) (earlier p (omega (arith, before, lt)) there ∙ opened)
           ∙ no_more (own_sorts (role_at boxes k))
 

@@ -3,7 +3,7 @@
 use Rattle.std.proofs.Common.{◌≡◌, ℕ, zero, suc, ◌+◌, ◌-◌, ◌==◌, ◌||◌, ◌<◌, ◌≤◌, true, false, not, List, [], ◌∷◌, take, drop, length, get_or, is_some, nat_lt, nat_le, refl, sym, ap, ◌∙◌, arith, Option, Some, None, inl, inr}
 use Rattle.std.specs.List.{All, insert}
 use Rattle.std.proofs.lemmas.Bool.{cases_eq, cases_lt, le-ltb, lt-leb, ne_eqb, not_from_true}
-use Rattle.std.proofs.lemmas.List.{length-drop}
+use Rattle.std.proofs.lemmas.List.{length-drop, length-map}
 use Rattle.std.proofs.lemmas.List.Elements.{All-append, All-cons, All-drop, All-get_or, All-head, All-map, All-tail, All-take, All-weaker}
 use Rattle.std.proofs.lemmas.List.Edits.{length-insert, get_or-insert_below, get_or-insert_at, get_or-insert_above}
 use Rattle.lay_units.specs.Limits.{longest_text, most_depth, most_nodes, most_text}
@@ -19,7 +19,7 @@ use Rattle.lay_doc.specs.Document.{Document, becomes, depths_of, ids_of, inserte
 use Rattle.lay_doc.specs.Changes.{style_fault}
 use Rattle.lay_doc.specs.Edits.{insert_fault, last_index}
 use Rattle.lay_doc.proofs.Inserted.{ids_inserted, text_size_inserted}
-use Rattle.lay_doc.proofs.NodeColumns.{length-column, length-ids, length-parents}
+use Rattle.lay_doc.proofs.NodeColumns.{length-ids, length-parents}
 use Rattle.lay_generator.specs.Generated.{with_node}
 use Rattle.lay_generator.proofs.Steps.{by_bool}
 
@@ -157,7 +157,7 @@ fits_more d m b t parent r new fits p above =
     let id : p.node.id.0 ≡ new.id.0 = ap (λ (i : NodeId). i.0) p.id in
     let text : length p.node.text ≡ length new.text = ap (λ (x : List ℕ). length x) p.text in
     let low = All-weaker (λ n. n.id.0 ≤ b) (λ n. n.id.0 ≤ new.id.0) (λ n small. omega (arith, small, above)) d.nodes fits.low in
-    let count : length (inserted d.nodes p.at p.node) ≡ length d.nodes + 1 = length-column (moved p.at) (insert d.nodes p.at p.node) ∙ length-insert d.nodes p.at p.node p.within in
+    let count : length (inserted d.nodes p.at p.node) ≡ length d.nodes + 1 = length-map (insert d.nodes p.at p.node) (moved p.at) ∙ length-insert d.nodes p.at p.node p.within in
     record {
       count = rw p.nodes (count ∙ ap (λ (k : ℕ). k + 1) fits.count);
       low = rw p.nodes (all_inserted (λ n. n.id.0 ≤ new.id.0) d.nodes p.at p.node (λ n small. small) low (omega (arith, id)));
@@ -182,7 +182,7 @@ pub parent_stays : (d : Document) (parent r id low : ℕ) (new : NewNodeValue) �
 parent_stays d parent r id low new is p other =
     let same : p.node.id.0 ≡ new.id.0 = ap (λ (i : NodeId). i.0) p.id in
     let len = length-ids d.nodes in
-    let count : length (inserted d.nodes p.at p.node) ≡ length d.nodes + 1 = length-column (moved p.at) (insert d.nodes p.at p.node) ∙ length-insert d.nodes p.at p.node p.within in
+    let count : length (inserted d.nodes p.at p.node) ≡ length d.nodes + 1 = length-map (insert d.nodes p.at p.node) (moved p.at) ∙ length-insert d.nodes p.at p.node p.within in
     let m = moved_to (ids_of d.nodes) p.at p.node.id.0 is.place (omega (arith, p.within, len)) (omega (arith, is.within, len)) in
     rw p.nodes (record {
       place = m.place;
@@ -197,7 +197,7 @@ pub parent_more : (d : Document) (m b t parent r : ℕ) (new : NewNodeValue) →
 parent_more d m b t parent r new fits p above element =
     let same : p.node.id.0 ≡ new.id.0 = ap (λ (i : NodeId). i.0) p.id in
     let len = length-ids d.nodes in
-    let count : length (inserted d.nodes p.at p.node) ≡ length d.nodes + 1 = length-column (moved p.at) (insert d.nodes p.at p.node) ∙ length-insert d.nodes p.at p.node p.within in
+    let count : length (inserted d.nodes p.at p.node) ≡ length d.nodes + 1 = length-map (insert d.nodes p.at p.node) (moved p.at) ∙ length-insert d.nodes p.at p.node p.within in
     let others = All-weaker (λ n. n.id.0 ≤ b) (AsParent new.id.0 (r + 1)) (λ n low. λ e. absurd (omega (arith, low, e, above))) d.nodes fits.low in
     rw p.nodes (record {
       place = p.at;

@@ -1,5 +1,5 @@
 -- Styles that are known up to a place.
-use Rattle.std.proofs.Common.{◌≡◌, ℕ, zero, suc, ◌+◌, ◌<◌, ◌≤◌, List, [], ◌∷◌, ◌++◌, length, get_or, map, refl, sym, ap, ◌∙◌, arith, inl, inr}
+use Rattle.std.proofs.Common.{◌≡◌, ℕ, zero, suc, ◌+◌, ◌<◌, ◌≤◌, List, [], ◌∷◌, ◌++◌, length, get_or, refl, sym, ap, ◌∙◌, arith, inl, inr}
 use Rattle.std.proofs.lemmas.Bool.{cases_lt}
 use Rattle.std.proofs.lemmas.Grind.{elements}
 use Rattle.lay_style.specs.Values.{Declaration}
@@ -7,10 +7,6 @@ use Rattle.lay_style.specs.declared.style.Style.{Style}
 use Rattle.lay_style.specs.ComputedStyle.{HasStyles, style_at, computed_style, parent_style, declarations_at}
 use Rattle.lay_doc.specs.Tree.{IsTree}
 use Rattle.lay_inherit.specs.StylesTo.{StylesTo}
-
-pub length-column : {X Y : Type 0} (f : X → Y) (xs : List X) → length (map f xs) ≡ length xs
-length-column f [] = refl
-length-column f (x ∷ xs) = ap suc (length-column f xs)
 
 read_before : {X : Type 0} (d : X) (xs : List X) (x : X) (k : ℕ) → k < length xs → get_or (xs ++ x ∷ []) k d ≡ get_or xs k d
 read_before d xs x k lt = grind (arith, elements)

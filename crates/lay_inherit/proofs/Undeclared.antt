@@ -1,6 +1,6 @@
 -- Properties that are not declared.
-use Rattle.std.proofs.Common.{◌≡◌, ℕ, Bool, true, false, ◌||◌, ◌==◌, ◌≤◌, nat_le, List, [], ◌∷◌, None, refl, sym, ◌∙◌, arith, true≢false}
-use Rattle.std.proofs.lemmas.Bool.{eqb-true, le-leb}
+use Rattle.std.proofs.Common.{◌≡◌, ℕ, Bool, true, false, ◌==◌, ◌≤◌, nat_le, List, [], ◌∷◌, None, refl, sym, ◌∙◌, arith, true≢false}
+use Rattle.std.proofs.lemmas.Bool.{eqb-true, le-leb, or_parts}
 use Rattle.std.specs.List.{list_any}
 use Rattle.lay_units.specs.declared.length.Unit.{Unit as Length}
 use Rattle.lay_style.specs.declared.property.Property.{Property}
@@ -18,14 +18,6 @@ use Rattle.lay_style.specs.Values.{Declaration}
 use Rattle.lay_style.specs.ComputedStyle.{border_styles, border_widths, margins, offsets, paddings, sizing, table_style, text_style}
 use Rattle.lay_inherit.specs.Within.{is_within, widths_of_styles}
 
-first_not : (a b : Bool) → (a || b) ≡ false → a ≡ false
-first_not true b h = absurd (true≢false h)
-first_not false b h = refl
-
-second_not : (a b : Bool) → (a || b) ≡ false → b ≡ false
-second_not true b h = absurd (true≢false h)
-second_not false b h = h
-
 -- a declaration that is not within is of none of the properties within
 apart : (first last n : ℕ) (d : Declaration) → first ≤ n → n ≤ last → is_within first last d ≡ false → (b : Bool) → (n == number_of d.property) ≡ b → b ≡ false
 apart first last n d low high out false e = refl
@@ -40,9 +32,9 @@ pub undeclared : (first last : ℕ) (ds : List Declaration) → list_any (is_wit
 undeclared first last [] none p low high = refl
 undeclared first last (d ∷ ds) none p low high =
     let other : is_same_property p d.property ≡ false =
-    apart first last (number_of p) d low high (first_not (is_within first last d) (list_any (is_within first last) ds) none) (is_same_property p d.property) refl in
+    apart first last (number_of p) d low high (or_parts (is_within first last d) (list_any (is_within first last) ds) none).0 (is_same_property p d.property) refl in
     let step : declared_value p (d ∷ ds) ≡ declared_value p ds = simp other refl in
-    step ∙ undeclared first last ds (second_not (is_within first last d) (list_any (is_within first last) ds) none) p low high
+    step ∙ undeclared first last ds (or_parts (is_within first last d) (list_any (is_within first last) ds) none).1 p low high
 
 module _ (font : Length) (ds : List Declaration) where
   pub no_offsets : (parent initial : Edges LengthPercentageOrAuto) → list_any (is_within 4 7) ds ≡ false → offsets font parent initial ds ≡ initial

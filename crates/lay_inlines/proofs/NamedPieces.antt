@@ -1,7 +1,7 @@
 -- Each inline box of a line has one piece, and each text that stays on it.
 use Rattle.std.proofs.Common.{◌≡◌, ◌∙◌, ◌⊎◌, inl, inr, ℕ, zero, suc, ◌<◌, ◌==◌, ◌&&◌, ◌||◌, ℤ, Bool, true, false, if◌then◌else◌, IsTrue, IsFalse, List, [], ◌∷◌, ◌++◌, length, drop, map, slice_get, Some, refl, sym, ap, subst, arith}
 use Rattle.std.specs.List.{list_any}
-use Rattle.std.proofs.lemmas.Bool.{cases_Bool, eq-eqb, eqb-true}
+use Rattle.std.proofs.lemmas.Bool.{cases_Bool, eq-eqb, eqb-true, or_right}
 use Rattle.std.proofs.lemmas.List.Folds.{list_any-append}
 use Rattle.lay_units.specs.declared.length.Unit.{Unit}
 use Rattle.lay_lines.specs.declared.content.content.InlineArea.{InlineArea}
@@ -113,10 +113,6 @@ or_none : (b : Bool) → (b || false) ≡ b
 or_none true = refl
 or_none false = refl
 
-or_sure : (b : Bool) → (b || true) ≡ true
-or_sure true = refl
-or_sure false = refl
-
 or_twice : (b c : Bool) → (b || (b || c)) ≡ (b || c)
 or_twice true c = refl
 or_twice false c = refl
@@ -173,13 +169,13 @@ started_if false p q e f = e
 
 started_is : (fr : Frame) (p : Pen) (x : Part) → (over fr p x).started ≡ (p.started || is_content x)
 started_is fr p (Space w) = started_if p.started p _ refl refl
-started_is fr p (PreservedSpace w) = sym (or_sure p.started)
-started_is fr p (Tab t) = sym (or_sure p.started)
+started_is fr p (PreservedSpace w) = sym (or_right p.started true refl)
+started_is fr p (Tab t) = sym (or_right p.started true refl)
 started_is fr p Linefeed = sym (or_none p.started)
-started_is fr p (Text w) = sym (or_sure p.started)
+started_is fr p (Text w) = sym (or_right p.started true refl)
 started_is fr p (Start b) = sym (or_none p.started)
 started_is fr p (End b) = sym (or_none p.started)
-started_is fr p (Atomic b) = sym (or_sure p.started)
+started_is fr p (Atomic b) = sym (or_right p.started true refl)
 
 among_spans : (q : ℕ) (areas : List InlineArea) (end : ℤ) (fr : Frame) (p : Pen) (r : RaisesValue) (xs : List Part)
     → is_among q (texts (spans_of areas end (strokes fr p r xs))) ≡ is_among q (staying_texts p.started xs)

@@ -2,6 +2,7 @@
 use Rattle.std.proofs.Common.{◌≡◌, ◌+◌, ◌==◌, ℕ, List, length, refl, sym, ap, ◌∙◌, arith, Bool, true, false, Option, Some, None, Result, Ok, Err, if◌then◌else◌}
 use Rattle.std.specs.List.{insert}
 use Rattle.std.proofs.lemmas.Grind.{common_steps}
+use Rattle.std.proofs.lemmas.List.{length-map}
 use Rattle.lay_style.specs.Places.{place_of}
 use Rattle.lay_doc.specs.declared.node.NodeId.{NodeId}
 use Rattle.lay_doc.specs.declared.node.Node.{Node}
@@ -10,7 +11,6 @@ use Rattle.lay_doc.specs.declared.edit.EditFault.TheVariants.{NoNode}
 use Rattle.lay_doc.specs.NewNodes.{NewNodeValue}
 use Rattle.lay_doc.specs.Document.{Document, ids_of, moved, inserted, root_document}
 use Rattle.lay_doc.specs.Edits.{insert_fault, after_insert, last_index, root_fault}
-use Rattle.lay_doc.proofs.NodeColumns.{length-column}
 use Rattle.lay_json.specs.declared.fault.InputFault.{InputFault}
 use Rattle.lay_json.specs.declared.fault.InputFault.TheVariants.{BadNode}
 use Rattle.lay_json.specs.Fields.{then_read}
@@ -25,7 +25,7 @@ length_insert : {X : Type 0} (xs : List X) (at : ℕ) (x : X) → length (insert
 length_insert xs at x = grind (arith, common_steps)
 
 longer : (nodes : List Node) (at : ℕ) (node : Node) → length (inserted nodes at node) ≡ length nodes + 1
-longer nodes at node = length-column (moved at) (insert nodes at node) ∙ length_insert nodes at node
+longer nodes at node = length-map (insert nodes at node) (moved at) ∙ length_insert nodes at node
 
 inserts : (d : Document) (parent index : ℕ) (new : NewNodeValue) (o : Option ℕ) → place_of parent (ids_of d.nodes) ≡ o
     → insert_fault d parent index new ≡ None → length (after_insert d parent index new).nodes ≡ length d.nodes + 1

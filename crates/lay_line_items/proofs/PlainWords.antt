@@ -1,6 +1,6 @@
 -- The words and spaces of a text of ASCII.
 use Rattle.std.proofs.Common.{◌≡◌, ◌≢◌, ◌∙◌, ℕ, ◌+◌, ◌*◌, ◌^◌, ◌<◌, ◌≤◌, ◌==◌, nat_lt, not, ◌&&◌, ◌||◌, subst, pos, negsuc, neg_ℤ, ◌≤ℤ◌, Bool, true, false, if◌then◌else◌, List, [], ◌∷◌, ◌++◌, length, drop, append-nil, append_assoc, slice_index, ◌+ℤ◌, Option, None, Some, option_to_list, refl, sym, ap, arith, ℤ}
-use Rattle.std.proofs.lemmas.Bool.{and_parts, eq-eqb, lt-ltb, ltb-false, ltb-true, ne_eqb, not-true as isnt, or_parts}
+use Rattle.std.proofs.lemmas.Bool.{and_parts, eq-eqb, lt-ltb, ltb-false, ltb-true, ne_eqb, not-true as isnt, or_parts, both_ways}
 use Rattle.std.proofs.lemmas.Int.{ints}
 use Rattle.std.proofs.lemmas.List.{at_drop_more, drop_all, length-drop}
 use Rattle.lay_units.specs.declared.records.ClusterWidth.{ClusterWidth}
@@ -101,12 +101,8 @@ all_gathered face s text out k plain end is =
     sym (append-nil out) ∙ ap (λ bs. out ++ gathered_after text None (plain_widths face s k bs)) (sym (drop_all k text (omega (arith, end)))) ∙ is
     ∙ ap (gathered text) (plain_widths_are face s text plain)
 
-clash : (t : Bool) → t ≡ true → t ≡ false → ⊥
-clash true is isnt = absurd cc
-clash false is isnt = absurd cc
-
 differs : (a b : ℕ) → (a == b) ≡ false → a ≢ b
-differs a b other same = clash (a == b) (eq-eqb a b same) other
+differs a b other same = both_ways (a == b) other (eq-eqb a b same)
 
 -- a character of a word
 pub in_word : (b : ℕ) → is_in_word b ≡ true → (b < 128) × (parts_words b ≡ false) × (b ≢ 13)

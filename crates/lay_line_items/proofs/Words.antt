@@ -2,7 +2,7 @@
 use Rattle.std.proofs.Common.{◌≡◌, ◌≢◌, ◌∙◌, ℕ, zero, suc, ◌+◌, ◌<◌, ◌≤◌, ◌==◌, ◌||◌, ◌&&◌, Bool, true, false, if◌then◌else◌, List, [], ◌∷◌, ◌++◌, length, map, slice_index, refl, sym, ap, subst, arith, append_assoc, append-nil, length-append, encode_utf8_all, chars}
 use Rattle.std.specs.Str.{IsCharBoundary, IsUtf8}
 use Rattle.std.specs.List.{concat}
-use Rattle.std.proofs.lemmas.Bool.{and_parts, eq-eqb, eqb-true, false_from_ne_true}
+use Rattle.std.proofs.lemmas.Bool.{and_parts, eq-eqb, eqb-true, false_from_ne_true, both_ways}
 use Rattle.std.proofs.lemmas.Str.{IsCharBoundary-at_seam, IsUtf8-past_char}
 use Rattle.unicode_segmentation.specs.Grapheme.{graphemes, is_grapheme_break}
 use Rattle.unicode_segmentation.specs.Segments.{cut, segments}
@@ -41,10 +41,6 @@ is_word text from to some alone =
     let all = none_of (is_byte text from to 32) (is_linefeed text from to) (is_byte text from to 9) (is_zero_width_space text from to) alone in
     record { some = some; space = all.0; feed = all.1; tab = all.2; zero_width = all.3 }
 
-clash : (b : Bool) → b ≡ true → b ≡ false → ⊥
-clash true is other = absurd cc
-clash false is other = absurd cc
-
 either : (x y : Bool) → (x || y) ≡ true → (x ≡ false → y ≡ true)
 either true y e other = absurd cc
 either false y e other = e
@@ -79,7 +75,7 @@ joined_words text from mid to a b seam = record {
         let at : mid ≡ from + 1 = omega (arith, far, a.some, b.some) in
         let near : (to == mid + 1) ≡ true = eq-eqb to (mid + 1) (omega (arith, far, at)) in
         let here : (slice_index text mid == 10) ≡ true = ap (λ k. slice_index text k == 10) at ∙ outer.1 in
-        clash (is_linefeed text mid to) (rw (near, here) refl) b.feed
+        both_ways (is_linefeed text mid to) b.feed (rw (near, here) refl)
 
     inner_byte : (k byte : ℕ) → slice_index text k ≡ byte → 128 ≤ byte → byte ≤ 191 → mid ≡ k → ⊥
     inner_byte k byte e low high at =

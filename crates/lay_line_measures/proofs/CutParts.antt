@@ -1,6 +1,6 @@
 -- The clusters of a text that is cut out of another are the same parts of a line as they were there.
 use Rattle.std.proofs.Common.{◌≡◌, ◌∙◌, ℕ, ◌+◌, ◌-◌, ◌<◌, ◌≤◌, ◌==◌, nat_lt, Bool, true, false, not, ◌&&◌, ◌||◌, ◌⊎◌, inl, inr, if◌then◌else◌, List, [], ◌∷◌, ◌++◌, length, drop, slice_index, slice_range, slice_get, refl, sym, ap, arith, append_assoc, append-nil, length-append, length-drop}
-use Rattle.std.proofs.lemmas.Bool.{and_parts, or_cases, eq-eqb, eqb-true, ltb-true, ltb-false, ne_eqb}
+use Rattle.std.proofs.lemmas.Bool.{and_parts, or_cases, eq-eqb, eqb-true, ltb-true, ltb-false, ne_eqb, both_ways}
 use Rattle.std.proofs.lemmas.List.{get_or-append-add, get_or_append_left, get_or-take, get_or-drop, length-take-le}
 use Rattle.lay_units.specs.declared.records.ClusterWidth.{ClusterWidth}
 use Rattle.lay_space.specs.declared.item.Item.{Item}
@@ -26,18 +26,14 @@ kinds : (m : Mode) (s s' f f' t t' z z' : Bool) → s ≡ s' → f ≡ f' → t 
 kinds m s s' f f' t t' z z' es ef et ez =
     ap (λ b. kind_by m b f t z) es ∙ ap (λ b. kind_by m s' b t z) ef ∙ ap (λ b. kind_by m s' f' b z) et ∙ ap (λ b. kind_by m s' f' t' b) ez
 
-clash : (t : Bool) → t ≡ true → t ≡ false → ⊥
-clash true is isnt = absurd cc
-clash false is isnt = absurd cc
-
 same_length : (a b l n : ℕ) → (a + l == a + n) ≡ (b + l == b + n)
 same_length a b l n = by (l == n) refl
   where
     by : (t : Bool) → (l == n) ≡ t → (a + l == a + n) ≡ (b + l == b + n)
     by true e = let same = eqb-true l n e in eq-eqb (a + l) (a + n) (omega (arith, same)) ∙ sym (eq-eqb (b + l) (b + n) (omega (arith, same)))
     by false e =
-        ne_eqb (a + l) (a + n) (λ same. clash (l == n) (eq-eqb l n (omega (arith, same))) e)
-        ∙ sym (ne_eqb (b + l) (b + n) (λ same. clash (l == n) (eq-eqb l n (omega (arith, same))) e))
+        ne_eqb (a + l) (a + n) (λ same. both_ways (l == n) e (eq-eqb l n (omega (arith, same))))
+        ∙ sym (ne_eqb (b + l) (b + n) (λ same. both_ways (l == n) e (eq-eqb l n (omega (arith, same)))))
 
 one_if : (t x y : Bool) → (t ≡ true → x ≡ y) → (t && x) ≡ (t && y)
 one_if true x y same = same refl

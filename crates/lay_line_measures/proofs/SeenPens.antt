@@ -1,6 +1,7 @@
 -- The pen has seen what its parts say.
 use Rattle.std.proofs.Common.{◌≡◌, ℕ, zero, suc, ℤ, Bool, true, false, ◌||◌, if◌then◌else◌, List, [], ◌∷◌, take, refl, sym, ap, ◌∙◌, Option, Some, None}
 use Rattle.std.specs.List.{list_any, slice_get}
+use Rattle.std.proofs.lemmas.Bool.{or_right}
 use Rattle.lay_lines.specs.declared.content.content.Part.{Part}
 use Rattle.lay_lines.specs.declared.content.content.Part.TheVariants as part
 use Rattle.lay_lines.specs.declared.content.content.Stretch.{Stretch}
@@ -8,7 +9,7 @@ use Rattle.lay_lines.specs.declared.content.frame.Frame.{Frame}
 use Rattle.lay_lines.specs.declared.content.pen.Pen.{Pen}
 use Rattle.lay_lines.specs.Content.Pens.{spaced, over, over_all, past_at, pen_to}
 use Rattle.lay_line_measures.specs.SeenLines.{is_seen, has_seen_line}
-use Rattle.lay_line_measures.proofs.Disjunctions.{or_false, or_true, or_assoc}
+use Rattle.lay_line_measures.proofs.Disjunctions.{or_false, or_assoc}
 
 abbrev pub seen_at : Option Stretch → Bool
 seen_at None = false
@@ -23,13 +24,13 @@ spaced_seen p w = picked p.started _ p refl
 
 over_seen : (fr : Frame) (p : Pen) (x : Part) → (over fr p x).seen ≡ (p.seen || is_seen x)
 over_seen fr p (part.Space a) = spaced_seen p a.width.0 ∙ sym (or_false p.seen)
-over_seen fr p (part.PreservedSpace a) = sym (or_true p.seen)
-over_seen fr p (part.Tab t) = sym (or_true p.seen)
-over_seen fr p part.Linefeed = sym (or_true p.seen)
-over_seen fr p (part.Text a) = sym (or_true p.seen)
+over_seen fr p (part.PreservedSpace a) = sym (or_right p.seen true refl)
+over_seen fr p (part.Tab t) = sym (or_right p.seen true refl)
+over_seen fr p part.Linefeed = sym (or_right p.seen true refl)
+over_seen fr p (part.Text a) = sym (or_right p.seen true refl)
 over_seen fr p (part.Start b) = refl
 over_seen fr p (part.End b) = refl
-over_seen fr p (part.Atomic a) = sym (or_true p.seen)
+over_seen fr p (part.Atomic a) = sym (or_right p.seen true refl)
 
 over_all_seen : (fr : Frame) (p : Pen) (xs : List Part) → (over_all fr p xs).seen ≡ (p.seen || list_any is_seen xs)
 over_all_seen fr p [] = sym (or_false p.seen)

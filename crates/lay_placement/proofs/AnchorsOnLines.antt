@@ -1,6 +1,7 @@
 -- An anchor in a box that holds lines is on one of them.
-use Rattle.std.proofs.Common.{◌≡◌, ℕ, zero, suc, ◌<◌, ◌&&◌, Bool, true, false, List, [], ◌∷◌, length, slice_index_or, Some, refl, sym, ap, ◌∙◌, arith}
+use Rattle.std.proofs.Common.{◌≡◌, ℕ, zero, suc, ◌<◌, Bool, true, List, [], ◌∷◌, length, slice_index_or, Some, refl, sym, ap, ◌∙◌, arith}
 use Rattle.std.proofs.Math.ListN.{get_or-map}
+use Rattle.std.proofs.lemmas.Bool.{and_parts}
 use Rattle.lay_box_tree.specs.declared.box_role.Role.{Role}
 use Rattle.lay_box_tree.specs.declared.box_tree.BoxNode.{BoxNode}
 use Rattle.lay_box_tree.specs.Roles.{role_at}
@@ -30,10 +31,6 @@ use Rattle.lay_placement.specs.ContextPlaces.{ContextPlaces, HasPlaces, measures
 use Rattle.lay_placement.specs.Laws.{AnchorsAreOnLines}
 use Rattle.lay_placement.proofs.AnchorSegments.{anchor_in_segments, sort_is_there}
 use Rattle.lay_placement.proofs.AnchoredRows.{all_taken, left_over, top_there}
-
-and_first : (a b : Bool) → (a && b) ≡ true → a ≡ true
-and_first true b h = refl
-and_first false b h = absurd cc
 
 no_own : (boxes : List BoxNode) (k : ℕ) → is_anchor (role_at boxes k) ≡ true → 0 < k
 no_own boxes zero e = absurd cc
@@ -83,7 +80,7 @@ module _ (i : PlaceInput) (p : ContextPlaces) (has : HasPlaces i p) (c : ℕ) (w
 pub anchors_are_on_lines_lem : AnchorsAreOnLines
 anchors_are_on_lines_lem i p k are others has lt is lines =
     let c : ℕ = container_of i.boxes k in
-    let inline = and_first (is_inline_container i.boxes c) _ lines in
+    let inline = (and_parts (is_inline_container i.boxes c) _ lines).0 in
     let positive = no_own i.boxes k is in
     let sorts = boxes_in_lines_lem i.boxes c k are others inline (record { behind = positive; within = lt; container = refl }) in
     let there = sort_is_there k (items_of i.boxes c) [] (anchor_sorts (role_at i.boxes k) (sorts_of k (items_of i.boxes c)) sorts is) in

@@ -1,8 +1,8 @@
 -- The corners of boxes, with more and more pieces on lines.
-use Rattle.std.proofs.Common.{◌≡◌, ◌≢◌, ℕ, ◌<◌, ◌==◌, ◌&&◌, ◌||◌, nat_lt, Bool, true, false, cond, List, [], ◌∷◌, ◌++◌, length, reverse, take, ◌+◌, slice_index_or, slice_set, Option, Some, None, refl, sym, ap, ◌∙◌, arith, inl, inr}
+use Rattle.std.proofs.Common.{◌≡◌, ◌≢◌, ℕ, ◌<◌, ◌==◌, ◌&&◌, nat_lt, Bool, true, false, cond, List, [], ◌∷◌, ◌++◌, length, reverse, take, ◌+◌, slice_index_or, slice_set, Option, Some, None, refl, sym, ap, ◌∙◌, arith, inl, inr}
 use Rattle.std.specs.List.{find}
 use Rattle.std.specs.Option.{option_map, option_or, unwrap_or}
-use Rattle.std.proofs.lemmas.Bool.{cases_eq, eq-eqb, ne_eqb, and_right}
+use Rattle.std.proofs.lemmas.Bool.{cases_eq, eq-eqb, ne_eqb, and_right, or_parts}
 use Rattle.std.proofs.lemmas.Bool.Decides.{nat_tests}
 use Rattle.std.proofs.lemmas.Grind.{elements}
 use Rattle.std.proofs.lemmas.List.{reverse-append, take_more}
@@ -75,21 +75,13 @@ set_near cs i c near is within k lt = elim (cases_eq i k) [
   | inr other ↦ (let kept = set_other cs i k c other in let counted = set_count cs i c in rw kept (near k (omega (arith, lt, counted))))
 ]
 
-first_false : (a b : Bool) → (a || b) ≡ false → a ≡ false
-first_false true b none = none
-first_false false b none = refl
-
-second_false : (a b : Bool) → (a || b) ≡ false → b ≡ false
-second_false true b none = absurd cc
-second_false false b none = none
-
 -- no piece moves a box where none is that of an atomic box
 pub none_among : (pieces : List LinePiece) (k : ℕ) (c : Corner) → has_atomic pieces ≡ false → corner_among pieces k c ≡ c
 none_among [] k c none = refl
 none_among (p ∷ ps) k c none =
-    let first : is_atomic p.kind ≡ false = first_false (is_atomic p.kind) (has_atomic ps) none in
+    let first : is_atomic p.kind ≡ false = (or_parts (is_atomic p.kind) (has_atomic ps) none).0 in
     let is : is_atomic_of k p ≡ false = rw first refl in
-    among_more (p ∷ []) ps k c ∙ ap (corner_among ps k) (sym (other_piece p k c is)) ∙ none_among ps k c (second_false (is_atomic p.kind) (has_atomic ps) none)
+    among_more (p ∷ []) ps k c ∙ ap (corner_among ps k) (sym (other_piece p k c is)) ∙ none_among ps k c (or_parts (is_atomic p.kind) (has_atomic ps) none).1
 
 pub none_more : (pieces : List LinePiece) (i : ℕ) (d : LinePiece) → i < length pieces → has_atomic (take i pieces) ≡ false → is_atomic (slice_index_or pieces i d).kind ≡ false → has_atomic (take (i + 1) pieces) ≡ false
 none_more pieces i d lt none here = rw (list_any_more (λ p. is_atomic p.kind) pieces i d lt, none) here

@@ -1,8 +1,8 @@
 -- The first baseline, of lines and of boxes.
-use Rattle.std.proofs.Common.{◌≡◌, ℕ, zero, suc, ◌<◌, ◌||◌, Bool, true, false, cond, List, [], ◌∷◌, ◌++◌, Option, Some, None, refl, sym, ap, ◌∙◌, arith, inl, inr}
+use Rattle.std.proofs.Common.{◌≡◌, ℕ, zero, suc, ◌<◌, true, false, cond, List, [], ◌∷◌, ◌++◌, Option, Some, None, refl, sym, ap, ◌∙◌, arith, inl, inr}
 use Rattle.std.specs.List.{find}
 use Rattle.std.specs.Option.{is_some, option_map, option_or}
-use Rattle.std.proofs.lemmas.Bool.{cases_lt}
+use Rattle.std.proofs.lemmas.Bool.{cases_lt, or_parts}
 use Rattle.lay_units.specs.declared.length.Unit.{Unit as Length}
 use Rattle.lay_lines.specs.declared.row.Ended.{Ended}
 use Rattle.lay_inlines.specs.LinePieces.{baseline_of}
@@ -11,18 +11,10 @@ use Rattle.lay_flow_boxes.specs.PlaceInputs.{PlaceInput}
 use Rattle.lay_placement.specs.Baselines.{baseline_in, first_baseline_to}
 use Rattle.lay_placement.specs.Laws.{FirstBoxGivesBaseline, FirstSeenLineGivesBaseline, any_seen}
 
-or_first : (a b : Bool) → (a || b) ≡ false → a ≡ false
-or_first true b h = absurd cc
-or_first false b h = refl
-
-or_second : (a b : Bool) → (a || b) ≡ false → b ≡ false
-or_second true b h = absurd cc
-or_second false b h = h
-
 first_found : (before after : List Ended) (row : Ended) → row.seen ≡ true → any_seen before ≡ false → find (λ (r : Ended). r.seen) (before ++ row ∷ after) ≡ Some row
 first_found [] after row seen none = ap (λ b. cond b (Some row) (find (λ (r : Ended). r.seen) after)) seen
 first_found (x ∷ xs) after row seen none =
-    ap (λ b. cond b (Some x) (find (λ (r : Ended). r.seen) (xs ++ row ∷ after))) (or_first x.seen (any_seen xs) none) ∙ first_found xs after row seen (or_second x.seen (any_seen xs) none)
+    ap (λ b. cond b (Some x) (find (λ (r : Ended). r.seen) (xs ++ row ∷ after))) (or_parts x.seen (any_seen xs) none).0 ∙ first_found xs after row seen (or_parts x.seen (any_seen xs) none).1
 
 pub first_seen_line_lem : FirstSeenLineGivesBaseline
 first_seen_line_lem before after row seen none =

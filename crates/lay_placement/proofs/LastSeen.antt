@@ -1,10 +1,11 @@
 -- The baseline of the last line that is seen, of more and more lines.
-use Rattle.std.proofs.Common.{◌≡◌, ◌||◌, Bool, true, false, cond, List, [], ◌∷◌, ◌++◌, reverse, Option, Some, None, refl, sym, ap, ◌∙◌, if◌then◌else◌}
+use Rattle.std.proofs.Common.{◌≡◌, Bool, true, false, cond, List, [], ◌∷◌, ◌++◌, reverse, Option, Some, None, refl, sym, ap, ◌∙◌, if◌then◌else◌}
 use Rattle.std.specs.List.{find, flat_map}
 use Rattle.std.specs.Option.{option_map, option_or}
 use Rattle.std.proofs.lemmas.List.{append-nil, reverse-append}
 use Rattle.std.proofs.lemmas.List.Concat.{flat_map-append}
 use Rattle.std.proofs.lemmas.List.Folds.{find-append}
+use Rattle.std.proofs.lemmas.Bool.{or_parts}
 use Rattle.lay_units.specs.declared.length.Unit.{Unit as Length}
 use Rattle.lay_lines.specs.declared.row.Ended.{Ended}
 use Rattle.lay_inlines.specs.LinePieces.{baseline_of}
@@ -50,14 +51,6 @@ with_lines last next rows more so_far is = is ∙ ap (option_or (last_baseline m
 pub one_box_more : (lines : List (List Ended)) (rows : List Ended) → flat_map (λ (r : List Ended). r) (lines ++ rows ∷ []) ≡ flat_map (λ (r : List Ended). r) lines ++ rows
 one_box_more lines rows = flat_map-append (λ (r : List Ended). r) lines (rows ∷ []) ∙ ap (λ (more : List Ended). flat_map (λ (r : List Ended). r) lines ++ more) (append-nil rows)
 
-or_first : (a b : Bool) → (a || b) ≡ false → a ≡ false
-or_first true b h = absurd cc
-or_first false b h = refl
-
-or_second : (a b : Bool) → (a || b) ≡ false → b ≡ false
-or_second true b h = absurd cc
-or_second false b h = h
-
 one_unseen : (row : Ended) → row.seen ≡ false → last_seen (row ∷ []) ≡ None
 one_unseen row is = ap (λ b. cond b (Some row) None) is
 
@@ -67,8 +60,8 @@ one_seen row is = ap (λ b. cond b (Some row) None) is
 none_seen : (rows : List Ended) → any_seen rows ≡ false → last_seen rows ≡ None
 none_seen [] none = refl
 none_seen (row ∷ rows) none =
-    let here = or_first row.seen (any_seen rows) none in
-    let behind = or_second row.seen (any_seen rows) none in
+    let here = (or_parts row.seen (any_seen rows) none).0 in
+    let behind = (or_parts row.seen (any_seen rows) none).1 in
     last_more (row ∷ []) rows ∙ ap (λ (o : Option Ended). option_or o (last_seen (row ∷ []))) (none_seen rows behind) ∙ one_unseen row here
 
 pub unseen_lines_lem : UnseenLinesGiveNone

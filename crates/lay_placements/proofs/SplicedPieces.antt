@@ -1,6 +1,7 @@
 -- The pieces of an anonymous formatting context where its box stands, by their numbers.
-use Rattle.std.proofs.Common.{◌≡◌, ℕ, zero, suc, ◌<◌, ◌+ℤ◌, List, [], ◌∷◌, length, map, refl, ap, ◌∙◌, arith, Some, option_map, slice_get}
+use Rattle.std.proofs.Common.{◌≡◌, ℕ, zero, suc, ◌<◌, ◌+ℤ◌, List, [], ◌∷◌, length, refl, ap, ◌∙◌, arith, Some, option_map, slice_get}
 use Rattle.std.proofs.lemmas.Option.{slice_get-map}
+use Rattle.std.proofs.lemmas.List.{length-map}
 use Rattle.lay_units.specs.declared.length.Unit.{Unit as Length}
 use Rattle.lay_frag.specs.declared.frag.Frag.{Frag}
 use Rattle.lay_frag.specs.Pieces.{moved, stretched}
@@ -16,10 +17,6 @@ inner_spliced width s [] k f positive is = absurd cc
 inner_spliced width s (g ∷ gs) zero f positive is = absurd (omega arith)
 inner_spliced width s (g ∷ gs) (suc k) f positive is = slice_get-map (moved s.corner.x.0 (s.corner.y.0 +ℤ s.shift.0)) gs k ∙ ap (option_map (moved s.corner.x.0 (s.corner.y.0 +ℤ s.shift.0))) is
 
-length-map' : {X Y : Type 0} (f : X → Y) (xs : List X) → length (map f xs) ≡ length xs
-length-map' f [] = refl
-length-map' f (x ∷ xs) = let e = length-map' f xs in omega (arith, e)
-
 pub length-spliced : (width : Length) (s : Standing) (fs : List Frag) → length (spliced width s fs) ≡ length fs
 length-spliced width s [] = refl
-length-spliced width s (g ∷ gs) = let e = length-map' (moved s.corner.x.0 (s.corner.y.0 +ℤ s.shift.0)) gs in omega (arith, e)
+length-spliced width s (g ∷ gs) = let e = length-map gs (moved s.corner.x.0 (s.corner.y.0 +ℤ s.shift.0)) in omega (arith, e)

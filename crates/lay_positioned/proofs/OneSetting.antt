@@ -1,6 +1,7 @@
 -- An absolutely positioned box has one containing block, which comes of what is on the way to it.
 use Rattle.std.proofs.Common.{◌≡◌, ◌<◌, ℕ, zero, suc, Bool, true, false, List, refl, sym, ap, ◌∙◌, subst, arith}
 use Rattle.std.specs.Prelude.{Option, Some, None, if◌then◌else◌}
+use Rattle.std.proofs.lemmas.Bool.{both_ways}
 use Rattle.lay_units.specs.declared.records.Rect.{Rect}
 use Rattle.lay_box_tree.specs.declared.box_tree.BoxNode.{BoxNode}
 use Rattle.lay_box_tree.specs.Containers.{box_parent}
@@ -18,19 +19,15 @@ use Rattle.lay_positioned.specs.PaddingBoxes.{padding_box}
 use Rattle.lay_positioned.specs.Settings.{setting_beside}
 use Rattle.lay_positioned.specs.Ways.{AreAlikeAt, IsOnWayFrom, here, further as outward}
 
-never : (b : Bool) → b ≡ true → b ≡ false → ⊥
-never true h e = cc
-never false h e = cc
-
 one_nearest : (boxes : List BoxNode) (k : ℕ) (b c : Option ℕ) → IsNearestHolder boxes k b → IsNearestHolder boxes k c → b ≡ c
 one_nearest boxes k b c none none = refl
 one_nearest boxes k b c none (parent j positive e) = absurd (omega (arith, positive))
 one_nearest boxes k b c none (further j d positive e up) = absurd (omega (arith, positive))
 one_nearest boxes k b c (parent j positive e) none = absurd (omega (arith, positive))
 one_nearest boxes k b c (parent j positive e) (parent i positive-2 e-2) = refl
-one_nearest boxes k b c (parent j positive e) (further i d positive-2 e-2 up) = absurd (never (is_holder_at boxes (box_parent boxes j)) e e-2)
+one_nearest boxes k b c (parent j positive e) (further i d positive-2 e-2 up) = absurd (both_ways (is_holder_at boxes (box_parent boxes j)) e-2 e)
 one_nearest boxes k b c (further j d positive e up) none = absurd (omega (arith, positive))
-one_nearest boxes k b c (further j d positive e up) (parent i positive-2 e-2) = absurd (never (is_holder_at boxes (box_parent boxes j)) e-2 e)
+one_nearest boxes k b c (further j d positive e up) (parent i positive-2 e-2) = absurd (both_ways (is_holder_at boxes (box_parent boxes j)) e e-2)
 one_nearest boxes k b c (further j d positive e up) (further i d-2 positive-2 e-2 up-2) = one_nearest boxes (box_parent boxes j) d d-2 up up-2
 
 pub one_holder_for : (fixed : Bool) (boxes : List BoxNode) (k : ℕ) (b c : Option ℕ) → IsHolderFor fixed boxes k b → IsHolderFor fixed boxes k c → b ≡ c

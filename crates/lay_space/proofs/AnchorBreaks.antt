@@ -1,5 +1,6 @@
 -- Breaks stand where they stand without anchors.
 use Rattle.std.proofs.Common.{◌≡◌, ℕ, ◌++◌, Bool, true, false, if◌then◌else◌, ◌&&◌, ◌||◌, not, List, [], ◌∷◌, Option, Some, None, refl, ap, ◌∙◌, append-nil}
+use Rattle.std.proofs.lemmas.Bool.{true≢false}
 use Rattle.lay_space.specs.declared.tokens.ClusterKind.{ClusterKind}
 use Rattle.lay_space.specs.declared.tokens.ClusterKind.TheVariants.{CollapsibleSpace, PreservedSpace, Linefeed, Tab, ZeroWidthSpace, Other}
 use Rattle.lay_space.specs.declared.tokens.Cluster.{Cluster}
@@ -48,9 +49,6 @@ TextsEnd inside (token.End n ∷ xs) = (inside ≡ false) × TextsEnd false xs
 TextsEnd inside (token.Float n ∷ xs) = (inside ≡ false) × TextsEnd false xs
 TextsEnd inside (token.Anchor n ∷ xs) = (inside ≡ false) × TextsEnd false xs
 
-pub not_open : true ≡ false → ⊥
-not_open e = absurd cc
-
 kept_append : (f : ℕ → ℕ) (a b : List Entry) → kept_entries f (a ++ b) ≡ kept_entries f a ++ kept_entries f b
 kept_append f [] b = refl
 kept_append f (Break g ∷ a) b = ap (λ es. Break g ∷ es) (kept_append f a b)
@@ -81,7 +79,7 @@ space_kept f (token.Atomic n m ∷ xs) is = refl
 space_kept f (token.Start n takes ∷ xs) is = refl
 space_kept f (token.End n ∷ xs) is = refl
 space_kept f (token.Float n ∷ xs) is = refl
-space_kept f (token.Anchor n ∷ xs) is = absurd (not_open is.0)
+space_kept f (token.Anchor n ∷ xs) is = absurd (true≢false is.0)
 
 after_kept : (f : ℕ → ℕ) (k : ClusterKind) (w : Bool) (xs : List Token) → TextsEnd true xs → break_after_cluster k w xs ≡ break_after_cluster k w (kept f xs)
 after_kept f CollapsibleSpace w xs is = refl

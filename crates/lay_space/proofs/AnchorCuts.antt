@@ -2,6 +2,7 @@
 use Rattle.std.proofs.Common.{◌≡◌, ℕ, ◌+◌, ◌++◌, Bool, true, false, cond, List, [], ◌∷◌, map, length, refl, sym, ap, ◌∙◌, append-nil, arith, not, ◌||◌}
 use Rattle.std.specs.List.{filter}
 use Rattle.std.proofs.lemmas.List.Elements.{filter-append}
+use Rattle.std.proofs.lemmas.Bool.{true≢false}
 use Rattle.lay_space.specs.declared.item.Item.{Item}
 use Rattle.lay_space.specs.declared.item.Item.TheVariants as item
 use Rattle.lay_space.specs.declared.tokens.Cluster.{Cluster}
@@ -13,7 +14,7 @@ use Rattle.lay_space.specs.Tokens.{tokens_of, without_leading_spaces}
 use Rattle.lay_space.specs.Breaks.{entries_of}
 use Rattle.lay_space.specs.Segments.{part_of, cluster_bytes, joined, placed, text_of, last_segment, cut}
 use Rattle.lay_space.specs.AnchorLaws.{is_anchor, without_anchors, segment_without_anchors, has_any, AnchorsMoveNoBreak}
-use Rattle.lay_space.proofs.AnchorBreaks.{moved, kept, kept_entries, not_open, entries_kept}
+use Rattle.lay_space.proofs.AnchorBreaks.{moved, kept, kept_entries, entries_kept}
 use Rattle.lay_space.proofs.AnchorTokens.{place, bytes_kept, tokens_kept, leading_kept, leading_ends, tokens_end}
 use Rattle.lay_space.proofs.AnchorEntries.{Closed, Full, entries_closed, entries_full}
 
@@ -117,13 +118,13 @@ cut_kept items [] current cs inside solid closed full empty holds =
     ap last_segment (sym (current_kept items current cs)) ∙ last_kept (current ++ text_of items cs)
 cut_kept items (Break g ∷ es) current cs inside solid closed full empty holds =
     let same = current_kept items current cs in
-    let rest = cut_kept items es [] [] false false closed full.1 (λ e. refl) (λ e. absurd (not_open (sym e))) in
+    let rest = cut_kept items es [] [] false false closed full.1 (λ e. refl) (λ e. absurd (true≢false (sym e))) in
     let any = ap has_any (without_append current (text_of items cs) ∙ ap (λ a. without_anchors current ++ a) (text_stays items cs)) ∙ holds full.0 in
     ap (λ a. record { items = a; forced = g } ∷ cut (without_anchors items) [] [] (kept_entries (place items) es)) (sym same)
     ∙ broken_off (without_anchors (current ++ text_of items cs)) g _ _ any rest
 cut_kept items (Content (token.Cluster c) ∷ es) current cs inside solid closed full empty holds =
     ap (λ a. cut (without_anchors items) (without_anchors current) a (kept_entries (place items) es)) (sym (moved_append items cs (c ∷ [])))
-    ∙ cut_kept items es current (cs ++ c ∷ []) true (solid || true) closed full (λ e. absurd (not_open e))
+    ∙ cut_kept items es current (cs ++ c ∷ []) true (solid || true) closed full (λ e. absurd (true≢false e))
     (λ e. any_right (without_anchors current) (text_of items (cs ++ c ∷ [])) (text_any items cs c))
 cut_kept items (Content token.TextEnd ∷ es) current cs inside solid closed full empty holds =
     let same = without_append current (text_of items cs) ∙ ap (λ a. without_anchors current ++ a) (text_stays items cs) in
@@ -155,7 +156,7 @@ anchors_move_no_break_lem items =
     let here : kept f tokens ≡ without_leading_spaces true (tokens_of 0 (without_anchors items)) =
     leading_kept f true (tokens_of 0 items) ∙ ap (without_leading_spaces true) (tokens_kept f 0 0 items (λ i. zeros i)) in
     ap (λ es. cut (without_anchors items) [] [] es) (ap entries_of (sym here) ∙ sym (entries_kept f tokens ends))
-    ∙ cut_kept items (entries_of tokens) [] [] false false (entries_closed tokens ends) (entries_full tokens) (λ e. refl) (λ e. absurd (not_open (sym e)))
+    ∙ cut_kept items (entries_of tokens) [] [] false false (entries_closed tokens ends) (entries_full tokens) (λ e. refl) (λ e. absurd (true≢false (sym e)))
   where
     zeros : (i : ℕ) → place items (i + 0) ≡ place items i + 0
     zeros i =

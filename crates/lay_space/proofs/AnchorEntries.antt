@@ -1,5 +1,6 @@
 -- Anchors stand behind texts that have ended, and each break behind a cluster or an atomic.
 use Rattle.std.proofs.Common.{◌≡◌, ℕ, ◌++◌, Bool, true, false, cond, if◌then◌else◌, ◌||◌, List, [], ◌∷◌, Some, None, refl, sym, ap, ◌∙◌, subst, append-nil}
+use Rattle.std.proofs.lemmas.Bool.{true≢false, or_right}
 use Rattle.lay_space.specs.declared.tokens.Token.{Token}
 use Rattle.lay_space.specs.declared.tokens.Token.TheVariants as token
 use Rattle.lay_space.specs.declared.breaks.Entry.{Entry}
@@ -9,7 +10,7 @@ use Rattle.lay_space.specs.BreakPlaces.{is_cluster_or_atomic, wrapped_atomic_is_
 use Rattle.lay_space.specs.Laws.{content_of}
 use Rattle.lay_space.proofs.KeptContent.{content_broken}
 use Rattle.lay_space.proofs.BreakPlaces.{marks, behinds, lines_break_where_they_may_lem}
-use Rattle.lay_space.proofs.AnchorBreaks.{TextsEnd, not_open}
+use Rattle.lay_space.proofs.AnchorBreaks.{TextsEnd}
 use Rattle.lay_space.proofs.AnchorTokens.{shut}
 
 -- no anchor stands right behind a cluster (`inside`)
@@ -125,35 +126,35 @@ settled_closed (Content (token.Atomic n m) ∷ es) =
     let rest = settled_closed es in
     record {
       none = λ inside is. rest.none false is.1;
-      fresh = λ g is. absurd (not_open is.0);
+      fresh = λ g is. absurd (true≢false is.0);
       some = λ g started held w is. closed_waiting held _ w (rest.none false is.1);
     }
 settled_closed (Content (token.Start n takes) ∷ es) =
     let rest = settled_closed es in
     record {
       none = λ inside is. rest.none false is.1;
-      fresh = λ g is. absurd (not_open is.0);
+      fresh = λ g is. absurd (true≢false is.0);
       some = λ g started held w is. start_closed n takes es rest g started held w is.1;
     }
 settled_closed (Content (token.End n) ∷ es) =
     let rest = settled_closed es in
     record {
       none = λ inside is. rest.none false is.1;
-      fresh = λ g is. absurd (not_open is.0);
+      fresh = λ g is. absurd (true≢false is.0);
       some = λ g started held w is. end_closed n es rest g started held w is.1;
     }
 settled_closed (Content (token.Float n) ∷ es) =
     let rest = settled_closed es in
     record {
       none = λ inside is. rest.none false is.1;
-      fresh = λ g is. absurd (not_open is.0);
+      fresh = λ g is. absurd (true≢false is.0);
       some = λ g started held w is. float_closed n es rest g started held w is.1;
     }
 settled_closed (Content (token.Anchor n) ∷ es) =
     let rest = settled_closed es in
     record {
       none = λ inside is. (is.0, rest.none false is.1);
-      fresh = λ g is. absurd (not_open is.0);
+      fresh = λ g is. absurd (true≢false is.0);
       some = λ g started held w is. anchor_closed n es rest g started held w is.1;
     }
 
@@ -180,10 +181,6 @@ full_marks [] solid is = is
 full_marks (Break g ∷ es) solid is = (is.0, full_marks es false is.1)
 full_marks (Content x ∷ es) solid is = full_one solid (is_cluster_or_atomic x) x es refl (full_marks es) is
 
-or_on : (b : Bool) → (b || true) ≡ true
-or_on true = refl
-or_on false = refl
-
 full_break : (solid must may : Bool) (es : List Entry) → solid ≡ true → ((s : Bool) → Full s es)
     → Full solid ((if must then Break true ∷ [] else (if may then Break false ∷ [] else [])) ++ es)
 full_break solid true may es on rest = (on, rest false)
@@ -193,7 +190,7 @@ full_break solid false false es on rest = rest solid
 full_with_one : (b : Bool) (x : Token) (xs : List Token) (solid : Bool) → is_cluster_or_atomic x ≡ b → ((s : Bool) → Full s (with_breaks xs))
     → Full solid (if b then Content x ∷ break_behind x xs ++ with_breaks xs else with_breaks xs)
 full_with_one true x xs solid e rest =
-    full_break (solid || is_cluster_or_atomic x) (must_break_behind x) (may_break_behind x xs || wrapped_atomic_is_next xs) (with_breaks xs) (ap (λ b. solid || b) e ∙ or_on solid) rest
+    full_break (solid || is_cluster_or_atomic x) (must_break_behind x) (may_break_behind x xs || wrapped_atomic_is_next xs) (with_breaks xs) (ap (λ b. solid || b) e ∙ or_right solid true refl) rest
 full_with_one false x xs solid e rest = rest solid
 
 full_with : (xs : List Token) (solid : Bool) → Full solid (with_breaks xs)

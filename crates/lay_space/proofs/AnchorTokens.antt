@@ -1,5 +1,6 @@
 -- The tokens of content without anchors.
 use Rattle.std.proofs.Common.{◌≡◌, ℕ, zero, suc, ◌+◌, ◌++◌, Bool, true, false, if◌then◌else◌, ◌&&◌, List, [], ◌∷◌, length, slice_get, None, refl, ap, ◌∙◌, arith}
+use Rattle.std.proofs.lemmas.Bool.{true≢false}
 use Rattle.lay_units.specs.declared.records.ClusterWidth.{ClusterWidth}
 use Rattle.lay_space.specs.declared.item.Mode.{Mode}
 use Rattle.lay_space.specs.declared.item.Item.{Item}
@@ -10,7 +11,7 @@ use Rattle.lay_space.specs.declared.tokens.Token.TheVariants as token
 use Rattle.lay_space.specs.Tokens.{kind_of, next_place, cluster_tokens, tokens_of, is_collapsible, begins_line, without_leading_spaces}
 use Rattle.lay_space.specs.Segments.{bytes_of}
 use Rattle.lay_space.specs.AnchorLaws.{without_anchors}
-use Rattle.lay_space.proofs.AnchorBreaks.{moved, kept, TextsEnd, not_open}
+use Rattle.lay_space.proofs.AnchorBreaks.{moved, kept, TextsEnd}
 
 -- where an item stands without the anchors; an anchor stands nowhere, which is behind all others
 abbrev pub place : List Item → ℕ → ℕ
@@ -139,11 +140,11 @@ shut true xs is = is
 shut false [] is = tt
 shut false (token.Cluster c ∷ xs) is = is
 shut false (token.TextEnd ∷ xs) is = is
-shut false (token.Atomic n m ∷ xs) is = absurd (not_open is.0)
-shut false (token.Start n takes ∷ xs) is = absurd (not_open is.0)
-shut false (token.End n ∷ xs) is = absurd (not_open is.0)
-shut false (token.Float n ∷ xs) is = absurd (not_open is.0)
-shut false (token.Anchor n ∷ xs) is = absurd (not_open is.0)
+shut false (token.Atomic n m ∷ xs) is = absurd (true≢false is.0)
+shut false (token.Start n takes ∷ xs) is = absurd (true≢false is.0)
+shut false (token.End n ∷ xs) is = absurd (true≢false is.0)
+shut false (token.Float n ∷ xs) is = absurd (true≢false is.0)
+shut false (token.Anchor n ∷ xs) is = absurd (true≢false is.0)
 
 either : (b inside : Bool) (c : Cluster) (xs ys : List Token) → TextsEnd true xs → TextsEnd true ys → TextsEnd inside (if b then xs else (token.Cluster c ∷ ys))
 either true inside c xs ys gone here = shut inside xs gone

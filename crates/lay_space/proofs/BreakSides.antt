@@ -1,12 +1,12 @@
 -- Ends stand before breaks, and so do floats and anchors without content between.
 use Rattle.std.proofs.Common.{ℕ, ◌++◌, Bool, true, false, ◌&&◌, ◌||◌, not, List, [], ◌∷◌, Some, None, refl, sym, subst, append_assoc, append-nil}
+use Rattle.std.proofs.lemmas.Bool.{true≢false}
 use Rattle.lay_space.specs.declared.tokens.Token.{Token}
 use Rattle.lay_space.specs.declared.tokens.Token.TheVariants.{Cluster, TextEnd, Atomic, Start, End, Float, Anchor}
 use Rattle.lay_space.specs.declared.breaks.Entry.{Entry}
 use Rattle.lay_space.specs.declared.breaks.Entry.TheVariants.{Content, Break}
 use Rattle.lay_space.specs.Breaks.{broken, settled, flushed}
 use Rattle.lay_space.specs.BreakSides.{EndsStandBefore, FloatsStandBefore, BreaksStandBetween}
-use Rattle.lay_space.proofs.AnchorBreaks.{not_open}
 use Rattle.lay_space.proofs.AnchorEntries.{Full, broken_full}
 
 abbrev pub Both : List Entry → Type 0
@@ -84,7 +84,7 @@ sides (Break f ∷ es) =
     let rest = sides es in
     record {
       none = λ solid full. rest.some f false [] full.1 (λ r is. is);
-      some = λ g started held full waits. absurd (not_open (sym full.0));
+      some = λ g started held full waits. absurd (true≢false (sym full.0));
     }
 sides (Content (Cluster c) ∷ es) =
     let rest = sides es in

@@ -2,7 +2,7 @@
 use Rattle.std.proofs.Common.{◌≡◌, ◌++◌, Bool, true, false, cond, if◌then◌else◌, ◌&&◌, ◌||◌, not, List, [], ◌∷◌, Option, Some, None, refl, sym, ap, ◌∙◌, append_assoc, append-nil}
 use Rattle.std.specs.List.{filter}
 use Rattle.std.proofs.lemmas.List.Elements.{filter-append}
-use Rattle.std.proofs.lemmas.Bool.{not-true, not-false}
+use Rattle.std.proofs.lemmas.Bool.{not-true, not-false, both_ways, or_parts}
 use Rattle.lay_space.specs.declared.tokens.Token.{Token}
 use Rattle.lay_space.specs.declared.tokens.Token.TheVariants.{Cluster, TextEnd, Atomic, Start, End, Float, Anchor}
 use Rattle.lay_space.specs.declared.breaks.Entry.{Entry}
@@ -88,19 +88,6 @@ keeps_all : (p : Token → Bool) (Holds : Bool → Bool → List Entry → Type 
     → filter p (content_of (entries_of xs)) ≡ filter p xs
 keeps_all p Holds stays grows fresh xs = keeps p Holds stays grows fresh None false [] (broken false xs) tt ∙ ap (filter p) (content_broken false xs)
 
-clash : (b : Bool) → b ≡ true → b ≡ false → ⊥
-clash true t f = absurd cc
-clash false t f = absurd cc
-
-left_off : (a b : Bool) → (a || b) ≡ false → a ≡ false
-left_off true b e = e
-left_off false b e = refl
-
-right_off : (a b : Bool) → (a || b) ≡ false → b ≡ false
-right_off true true e = e
-right_off true false e = refl
-right_off false b e = e
-
 -- one more that doesn't pass
 none_more : (p : Token → Bool) (held : List Entry) (x : Token) → p x ≡ false → passing p held ≡ [] → passing p (held ++ Content x ∷ []) ≡ []
 none_more p held x fails none = passing_append p held (Content x ∷ []) ∙ ap (λ b. passing p held ++ cond b (x ∷ []) []) fails ∙ append-nil (passing p held) ∙ none
@@ -123,12 +110,12 @@ flow_stays (Anchor n) f started held is back passes = absurd cc
 
 flow_grows : Grows WaitsInFlow
 flow_grows (Cluster c) f started held is stays can = absurd cc
-flow_grows TextEnd f started held is stays can = λ e. absurd (clash started (not-false started stays) (left_off started false e))
+flow_grows TextEnd f started held is stays can = λ e. absurd (both_ways started (or_parts started false e).0 (not-false started stays))
 flow_grows (Atomic n m) f started held is stays can = absurd cc
-flow_grows (Start n takes) f started held is stays can = λ e. absurd (clash true refl (right_off started true e))
-flow_grows (End n) f started held is stays can = λ e. absurd (clash started (not-false started stays) (left_off started false e))
-flow_grows (Float n) f started held is stays can = λ e. none_more in_flow held (Float n) refl (is (left_off started false e))
-flow_grows (Anchor n) f started held is stays can = λ e. none_more in_flow held (Anchor n) refl (is (left_off started false e))
+flow_grows (Start n takes) f started held is stays can = λ e. absurd (both_ways true (or_parts started true e).1 refl)
+flow_grows (End n) f started held is stays can = λ e. absurd (both_ways started (or_parts started false e).0 (not-false started stays))
+flow_grows (Float n) f started held is stays can = λ e. none_more in_flow held (Float n) refl (is (or_parts started false e).0)
+flow_grows (Anchor n) f started held is stays can = λ e. none_more in_flow held (Anchor n) refl (is (or_parts started false e).0)
 
 -- behind a break that isn't forced no float waits
 abbrev pub WaitsOut : Bool → Bool → List Entry → Type 0
@@ -149,8 +136,8 @@ out_grows TextEnd f started held is stays can = λ e. none_more is_out_of_flow h
 out_grows (Atomic n m) f started held is stays can = absurd cc
 out_grows (Start n takes) f started held is stays can = λ e. none_more is_out_of_flow held (Start n takes) refl (is e)
 out_grows (End n) f started held is stays can = λ e. none_more is_out_of_flow held (End n) refl (is e)
-out_grows (Float n) f started held is stays can = λ e. absurd (clash f (not-false f stays) e)
-out_grows (Anchor n) f started held is stays can = λ e. absurd (clash f (not-false f stays) e)
+out_grows (Float n) f started held is stays can = λ e. absurd (both_ways f e (not-false f stays))
+out_grows (Anchor n) f started held is stays can = λ e. absurd (both_ways f e (not-false f stays))
 
 abbrev pub is_met : Token → Bool
 is_met x = not (floats_pass x)
@@ -174,8 +161,8 @@ met_grows TextEnd f started held is stays can = λ e. none_more is_met held Text
 met_grows (Atomic n m) f started held is stays can = absurd cc
 met_grows (Start n takes) f started held is stays can = λ e. none_more is_met held (Start n takes) (ap not can) (is e)
 met_grows (End n) f started held is stays can = λ e. none_more is_met held (End n) refl (is e)
-met_grows (Float n) f started held is stays can = λ e. absurd (clash f (not-false f stays) e)
-met_grows (Anchor n) f started held is stays can = λ e. absurd (clash f (not-false f stays) e)
+met_grows (Float n) f started held is stays can = λ e. absurd (both_ways f e (not-false f stays))
+met_grows (Anchor n) f started held is stays can = λ e. absurd (both_ways f e (not-false f stays))
 
 pub breaks_keep_content_lem : BreaksKeepContent
 breaks_keep_content_lem xs = record {

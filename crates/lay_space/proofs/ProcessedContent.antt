@@ -1,7 +1,7 @@
 -- White space of whole contents.
 use Rattle.std.proofs.Common.{◌≡◌, ◌≢◌, ℕ, ◌==◌, ◌&&◌, ◌||◌, Bool, true, false, if◌then◌else◌, List, [], ◌∷◌, map, length, refl, sym, ap, ◌∙◌, subst, chars, encode_utf8_all, arith}
 use Rattle.std.specs.Str.{IsUtf8}
-use Rattle.std.proofs.lemmas.Bool.{and_parts, and_from, eqb-true, eq-eqb}
+use Rattle.std.proofs.lemmas.Bool.{and_parts, and_from, eqb-true, eq-eqb, true≢false}
 use Rattle.std.proofs.lemmas.Str.{chars-nil, chars-encodes, scalars-chars}
 use lib.Utf8.{scalar, scalars}
 use Rattle.lay_space.specs.declared.item.Mode.{Mode}
@@ -55,10 +55,6 @@ left_chars m a text utf8 =
     chars-encodes (left_over m false a (chars text))
     (squeezed_scalars a (map (as_space m) (strip false (chars text))) (spaced_scalars m (strip false (chars text)) (strip_scalars false (chars text) (scalars-chars text utf8))))
 
--- The words of a text, and what follows it.
-never : true ≡ false → ⊥
-never e = absurd cc
-
 abbrev pub TextSame : Bool → Bool → Mode → List ℕ → Type 0
 TextSame a b m text = Same b (chars (text_left a m text)) (chars text) × (space_after a m text ≡ true → ends_in_white b (chars text) ≡ true)
 
@@ -75,7 +71,7 @@ text_same a b m text utf8 before = one (collapses m)
     left = left_over m false a (chars text)
 
     here : Same b left (chars text)
-    here = left_same m (chars text) false a b before (λ e. absurd (never (sym e)))
+    here = left_same m (chars text) false a b before (λ e. absurd (true≢false (sym e)))
 
     one : (c : Bool)
         → (Same b (chars (if c then encode_utf8_all left else text)) (chars text)) × ((if c then ends_in_space a left else (a && length text == 0)) ≡ true → ends_in_white b (chars text) ≡ true)
@@ -105,7 +101,7 @@ no_linefeed_one c e = one (c == 9) (c == 10) refl e
     one : (p q : Bool) → (c == 10) ≡ q → (if p then 32 else (if true && q then 32 else c)) ≡ 10 → ⊥
     one true q is e = absurd (omega (arith, e))
     one false true is e = absurd (omega (arith, e))
-    one false false is e = never (sym (eq-eqb c 10 e) ∙ is)
+    one false false is e = true≢false (sym (eq-eqb c 10 e) ∙ is)
 
 joined_no_linefeed : (m : Mode) → joins_lines m ≡ true → (c : ℕ) → as_space m c ≢ 10
 joined_no_linefeed m joins c = subst (λ j. (if c == 9 then 32 else (if j && c == 10 then 32 else c)) ≢ 10) (sym joins) (no_linefeed_one c)
@@ -122,10 +118,10 @@ squeezed_no_linefeed m joins a (c ∷ cs) =
 
 joins_collapses : (m : Mode) → joins_lines m ≡ true → collapses m ≡ true
 joins_collapses Normal e = refl
-joins_collapses Pre e = absurd (never (sym e))
+joins_collapses Pre e = absurd (true≢false (sym e))
 joins_collapses NoWrap e = refl
-joins_collapses PreWrap e = absurd (never (sym e))
-joins_collapses PreLine e = absurd (never (sym e))
+joins_collapses PreWrap e = absurd (true≢false (sym e))
+joins_collapses PreLine e = absurd (true≢false (sym e))
 
 -- the characters and the space behind what is left of a text
 left_of : (m : Mode) (a : Bool) (text : List ℕ) → IsUtf8 text → (collapses m ≡ true → chars (text_left a m text) ≡ left_over m false a (chars text))

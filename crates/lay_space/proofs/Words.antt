@@ -1,6 +1,6 @@
 -- White space that goes leaves the words, and white space between them.
 use Rattle.std.proofs.Common.{◌≡◌, ℕ, ◌==◌, ◌&&◌, ◌||◌, Bool, true, false, if◌then◌else◌, List, [], ◌∷◌, map, refl, sym, ap, ◌∙◌, subst}
-use Rattle.std.proofs.lemmas.Bool.{or_right, and_right}
+use Rattle.std.proofs.lemmas.Bool.{or_right, and_right, true≢false, or_parts}
 use Rattle.lay_space.specs.declared.item.Mode.{Mode}
 use Rattle.lay_space.specs.Modes.{joins_lines}
 use Rattle.lay_space.specs.WhiteSpace.{is_blank, runs_to_linefeed, strip, as_space, squeeze, ends_in_space}
@@ -10,18 +10,6 @@ use Rattle.lay_space.specs.WhiteSpaceLaws.{is_white, words, ends_in_white}
 pub record Same (b : Bool) (left cs : List ℕ) : Type 0 where
   pub words : words b left ≡ words b cs
   pub ends : ends_in_white b left ≡ ends_in_white b cs
-
-never : true ≡ false → ⊥
-never e = absurd cc
-
-or_first : (a b : Bool) → (a || b) ≡ false → a ≡ false
-or_first true b e = e
-or_first false b e = refl
-
-or_second : (a b : Bool) → (a || b) ≡ false → b ≡ false
-or_second true true e = e
-or_second true false e = refl
-or_second false b e = e
 
 -- the words of a row of white space, and of another character
 white_words : (b : Bool) (c : ℕ) (cs : List ℕ) → is_white c ≡ true → words b (c ∷ cs) ≡ (if b then words true cs else (32 ∷ words true cs))
@@ -50,7 +38,7 @@ dropped true c left cs on cw same = record {
   words = same.words ∙ sym (white_words true c cs cw);
   ends = same.ends ∙ sym (ends_one true true c cs cw);
 }
-dropped false c left cs on cw same = absurd (never (sym on))
+dropped false c left cs on cw same = absurd (true≢false (sym on))
 
 white_stays : (m : Mode) (c : ℕ) → is_white c ≡ true → is_white (as_space m c) ≡ true
 white_stays m c e = one (c == 9) (joins_lines m && c == 10)
@@ -61,11 +49,11 @@ white_stays m c e = one (c == 9) (joins_lines m && c == 10)
     one false false = e
 
 plain_stays : (m : Mode) (c : ℕ) → is_white c ≡ false → as_space m c ≡ c
-plain_stays m c e = one (c == 9) (c == 10) (joins_lines m) (or_first (c == 9) (c == 13) (or_first (c == 9 || c == 13) (c == 32) (or_first (is_blank c) (c == 10) e))) (or_second (is_blank c) (c == 10) e)
+plain_stays m c e = one (c == 9) (c == 10) (joins_lines m) (or_parts (c == 9) (c == 13) (or_parts (c == 9 || c == 13) (c == 32) (or_parts (is_blank c) (c == 10) e).0).0).0 (or_parts (is_blank c) (c == 10) e).1
   where
     one : (p q j : Bool) → p ≡ false → q ≡ false → (if p then 32 else (if j && q then 32 else c)) ≡ c
-    one true q j pe qe = absurd (never pe)
-    one false true j pe qe = absurd (never qe)
+    one true q j pe qe = absurd (true≢false pe)
+    one false true j pe qe = absurd (true≢false qe)
     one false false true pe qe = refl
     one false false false pe qe = refl
 
@@ -80,7 +68,7 @@ white_char m true b c ys cs before cw rest = one (as_space m c == 32)
 
 plain_squeezed : (a : Bool) (c : ℕ) (ys : List ℕ) → is_white c ≡ false → squeeze a (c ∷ ys) ≡ c ∷ squeeze false ys
 plain_squeezed a c ys e =
-    let other : (c == 32) ≡ false = or_second (c == 9 || c == 13) (c == 32) (or_first (is_blank c) (c == 10) e) in
+    let other : (c == 32) ≡ false = (or_parts (c == 9 || c == 13) (c == 32) (or_parts (is_blank c) (c == 10) e).0).1 in
     ap (λ k. if k then squeeze a ys else (c ∷ squeeze (c == 32) ys)) (and_right a (c == 32) other) ∙ ap (λ k. c ∷ squeeze k ys) other
 
 plain_char : (m : Mode) (a b : Bool) (c : ℕ) (ys cs : List ℕ) → is_white c ≡ false → Same false (squeeze false ys) cs → Same b (squeeze a (as_space m c ∷ ys)) (c ∷ cs)
@@ -96,7 +84,7 @@ opens_white d cs e = one (is_blank d) refl e
     one false is e = or_right (is_blank d) (d == 10) e
 
 row_runs : (cs : List ℕ) → runs_to_linefeed cs ≡ true → (words false cs ≡ 32 ∷ words true cs) × (ends_in_white false cs ≡ ends_in_white true cs)
-row_runs [] e = absurd (never (sym e))
+row_runs [] e = absurd (true≢false (sym e))
 row_runs (d ∷ cs) e =
     let dw = opens_white d cs e in
     (white_words false d cs dw ∙ ap (λ ws. 32 ∷ ws) (sym (white_words true d cs dw)), refl)
@@ -114,7 +102,7 @@ LeftSame m cs = (l a b : Bool) → (a ≡ true → b ≡ true) → (l ≡ true �
 blank_dropped : (m : Mode) (c : ℕ) (cs : List ℕ) (l a b : Bool) → (a ≡ true → b ≡ true) → (l ≡ true → b ≡ true) → LeftSame m cs → is_white c ≡ true → (l || runs_to_linefeed cs) ≡ true
     → Same b (squeeze a (map (as_space m) (strip l cs))) (c ∷ cs)
 blank_dropped m c cs l a true before feeds rest cw drops = dropped true c (squeeze a (map (as_space m) (strip l cs))) cs refl cw (rest l a true before feeds)
-blank_dropped m c cs true a false before feeds rest cw drops = absurd (never (sym (feeds refl)))
+blank_dropped m c cs true a false before feeds rest cw drops = absurd (true≢false (sym (feeds refl)))
 blank_dropped m c cs false a false before feeds rest cw drops = runs_dropped c (squeeze a (map (as_space m) (strip false cs))) cs cw drops (rest false a false before feeds)
 
 left_one : (m : Mode) (c : ℕ) (cs : List ℕ) (l a b : Bool) → (a ≡ true → b ≡ true) → (l ≡ true → b ≡ true) → LeftSame m cs

@@ -3,6 +3,7 @@ use Rattle.std.proofs.Common.{◌≡◌, ℕ, zero, suc, ◌+◌, ◌<◌, ◌�
 use Rattle.std.specs.List.{All}
 use Rattle.std.proofs.lemmas.Int.{ints}
 use Rattle.std.proofs.lemmas.List.Elements.{All-append}
+use Rattle.std.proofs.lemmas.List.{length-map}
 use Rattle.lay_units.specs.Units.{IsUsedSize}
 use Rattle.lay_units.specs.declared.length.Unit.{Unit as Length}
 use Rattle.lay_units.specs.declared.records.Len.{Len}
@@ -25,7 +26,7 @@ use Rattle.lay_table.specs.Tracks.{Tracks}
 use Rattle.lay_table.specs.Captions.{captions_of}
 use Rattle.lay_table.specs.PlaceBounds.{AllFit}
 use Rattle.lay_table.specs.WrapperFlow.{box_inside, boxes_in_wrapper, caption_inside, captions_inside, places_in_wrapper, table_box, wrapper_box}
-use Rattle.lay_table.proofs.ColumnSteps.{length_mapped, mapped_more}
+use Rattle.lay_table.proofs.ColumnSteps.{mapped_more}
 
 -- a box that stands in the wrapper
 record Inside (b : FlowBox) : Type 0 where
@@ -134,8 +135,8 @@ are_wrapper_boxes i rows boxes are fit light = record {
 -- they are as many as their places
 pub as_many_boxes : (i : TableInput) (rows : Tracks) → length (boxes_in_wrapper i rows) ≡ length (places_in_wrapper i)
 as_many_boxes i rows =
-    let above = length_mapped (caption_inside i) (captions_of i.boxes).above in
-    let below = length_mapped (caption_inside i) (captions_of i.boxes).below in
+    let above = length-map (captions_of i.boxes).above (caption_inside i) in
+    let below = length-map (captions_of i.boxes).below (caption_inside i) in
     rw (length-append, length-append, above, below) refl
 
 -- with one more caption

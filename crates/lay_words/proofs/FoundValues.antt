@@ -5,11 +5,12 @@ use Rattle.std.specs.Str.{bytes_eq}
 use Rattle.std.proofs.lemmas.List.Concat.{flat_map-append}
 use Rattle.std.proofs.Common.{◌++◌, append-nil, subst}
 use Rattle.std.proofs.lemmas.Slice.Eq.{bytes_eq-Decides}
+use Rattle.std.proofs.lemmas.Bool.{true≢false}
 use Rattle.clap.specs.Walk.{Row, Text, used}
 use Rattle.lay_words.specs.Grammar.{Pairs, given}
 use Rattle.lay_words.specs.Agree.{Gives, values_at}
 use Rattle.lay_words.specs.Command.{option_rule}
-use Rattle.lay_words.proofs.WordKinds.{no_true, by_bool, same_text_at}
+use Rattle.lay_words.proofs.WordKinds.{by_bool, same_text_at}
 
 pub values_more : (id n v : Text) (rows : List Row) → values_at id (used (option_rule n) (v ∷ []) rows) ≡ values_at id rows ++ (if bytes_eq n id then v ∷ [] else [])
 values_more id n v [] = by_bool (bytes_eq n id) (λ e. rw e refl) (λ e. rw e refl)
@@ -23,7 +24,7 @@ values_more id n v (r ∷ rs) = by_bool (bytes_eq r.id n)
   where
     other : (x n id : Text) → bytes_eq x n ≡ false → bytes_eq x id ≡ true → bytes_eq n id ≡ false
     other x n id e f = by_bool (bytes_eq n id)
-        (λ g. absurd (no_true (sym ((bytes_eq-Decides x n).1 (same_text_at x id f ∙ sym (same_text_at n id g))) ∙ e)))
+        (λ g. absurd (true≢false (sym ((bytes_eq-Decides x n).1 (same_text_at x id f ∙ sym (same_text_at n id g))) ∙ e)))
         (λ g. g)
 
 pub gives_more : (rows : List Row) (got : Pairs) (n v : Text) → Gives rows got → Gives (used (option_rule n) (v ∷ []) rows) (got ++ (n, v) ∷ [])

@@ -1,6 +1,6 @@
 -- The nearest part of an inline box that held a box.
-use Rattle.std.proofs.Common.{◌≡◌, inl, inr, ℕ, zero, suc, ◌+◌, ◌-◌, ◌<◌, ◌≤◌, Bool, true, false, List, [], ◌∷◌, ◌++◌, length, take, replicate, get_or, refl, ap, sym, subst, ◌∙◌, arith, Option, None, Some, MatchOption}
-use Rattle.std.proofs.lemmas.Bool.{cases_lt}
+use Rattle.std.proofs.Common.{◌≡◌, inl, inr, ℕ, zero, suc, ◌+◌, ◌-◌, ◌<◌, ◌≤◌, true, false, List, [], ◌∷◌, ◌++◌, length, take, replicate, get_or, refl, ap, sym, subst, ◌∙◌, arith, Option, None, Some, MatchOption}
+use Rattle.std.proofs.lemmas.Bool.{cases_lt, both_ways}
 use Rattle.std.proofs.lemmas.List.{length-replicate}
 use Rattle.std.proofs.lemmas.Grind.{elements}
 use Rattle.lay_doc.specs.Tree.{IsTree, IsUnder}
@@ -19,10 +19,6 @@ one_former_parent boxes k None (Some p) h g = absurd (h p g.0)
 one_former_parent boxes k (Some p) None h g = absurd (g p h.0)
 one_former_parent boxes k (Some p) (Some q) h g = ap Some (let a = h.1 q g.0 in let b = g.1 p h.0 in omega (arith, a, b))
 
-never : (b : Bool) → b ≡ true → b ≡ false → ⊥
-never true e f = cc
-never false e f = cc
-
 part-within : (boxes : List BoxNode) (id k : ℕ) → is_part_at boxes id k ≡ true → k < length boxes
 part-within [] id k h = cc
 part-within (b ∷ bs) id zero h = omega arith
@@ -34,14 +30,14 @@ module _ (boxes : List BoxNode) (tree : IsTree (box_parents boxes)) (next : List
   next-is p k h q (inl none) was =
       let a = was.before in
       let b = was.behind in
-      absurd (never (is_part_at boxes (id_at boxes p) was.next) was.same (none.1 was.next (omega (arith, a, b)) (part-within boxes (id_at boxes p) was.next was.same)))
+      absurd (both_ways (is_part_at boxes (id_at boxes p) was.next) (none.1 was.next (omega (arith, a, b)) (part-within boxes (id_at boxes p) was.next was.same)) was.same)
   next-is p k h q (inr some) was =
       let a = was.before in
       let b = was.behind in
       elim (cases_lt was.next q) [
-        | inl low ↦ absurd (never (is_part_at boxes (id_at boxes p) was.next) was.same (some.3 was.next (omega (arith, a, b)) low))
+        | inl low ↦ absurd (both_ways (is_part_at boxes (id_at boxes p) was.next) (some.3 was.next (omega (arith, a, b)) low) was.same)
         | inr high ↦ elim (cases_lt q was.next) [
-          | inl over ↦ absurd (never (is_part_at boxes (id_at boxes p) q) some.2 (was.first q some.0 over))
+          | inl over ↦ absurd (both_ways (is_part_at boxes (id_at boxes p) q) (was.first q some.0 over) some.2)
           | inr under ↦ omega (arith, high, under)
         ]
       ]
@@ -201,7 +197,7 @@ passed boxes k xs none h = record {
   rising = h.rising;
   all = λ p before is. elim (cases_lt p k) [
     | inl low ↦ elim (h.all p low is) [ inl found ↦ inl found | inr gone ↦ inr (over-later boxes k p gone) ]
-    | inr high ↦ (let same : p ≡ k = omega (arith, before, high) in absurd (never (is_inline_at boxes k) (subst (λ (x : ℕ). is_inline_at boxes x ≡ true) same is) none))
+    | inr high ↦ (let same : p ≡ k = omega (arith, before, high) in absurd (both_ways (is_inline_at boxes k) none (subst (λ (x : ℕ). is_inline_at boxes x ≡ true) same is)))
   ];
 }
 
@@ -222,5 +218,5 @@ pub none_broken : (boxes : List BoxNode) (parents : List (Option ℕ)) → paren
     → ((k : ℕ) → k < length boxes → is_inline_at boxes k ≡ false) → AreFormerParents boxes parents
 none_broken boxes parents e none = rw e (record {
   count = length-replicate (length boxes) None;
-  each = λ k lt. rw (none_there (length boxes) k) (λ p was. never (is_inline_at boxes p) was.part (none p (let before = was.before in omega (arith, before, lt))));
+  each = λ k lt. rw (none_there (length boxes) k) (λ p was. both_ways (is_inline_at boxes p) (none p (let before = was.before in omega (arith, before, lt))) was.part);
 })

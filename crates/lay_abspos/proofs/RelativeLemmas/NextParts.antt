@@ -1,15 +1,11 @@
 -- The next part of each part of an inline box, one box more at a time.
-use Rattle.std.proofs.Common.{◌≡◌, inl, inr, ℕ, zero, suc, ◌+◌, ◌<◌, ◌≤◌, Bool, true, false, List, [], ◌∷◌, length, set, get_or, replicate, refl, sym, subst, arith, None, Some, get_or-set_other, get_or-set_same}
-use Rattle.std.proofs.lemmas.Bool.{cases_lt, cases_eq}
+use Rattle.std.proofs.Common.{◌≡◌, inl, inr, ℕ, zero, suc, ◌+◌, ◌<◌, ◌≤◌, true, false, List, [], ◌∷◌, length, set, get_or, replicate, refl, sym, subst, arith, None, Some, get_or-set_other, get_or-set_same}
+use Rattle.std.proofs.lemmas.Bool.{cases_lt, cases_eq, both_ways}
 use Rattle.lay_box_tree.specs.declared.box_tree.BoxNode.{BoxNode}
 use Rattle.lay_box_tree.specs.InlineParts.{id_at, is_inline_at, is_part_at}
 use Rattle.lay_box_tree.specs.LatestParts.{IsLatest}
 use Rattle.lay_box_tree.proofs.PartEnds.{no-part, other-part}
 use Rattle.lay_abspos.specs.Relative.OpenParts.{AreNextTo, IsNextTo}
-
-never : (b : Bool) → b ≡ true → b ≡ false → ⊥
-never true e f = cc
-never false e f = cc
 
 -- a box more that is no further part
 still : (boxes : List BoxNode) (n p q : ℕ) → IsNextTo boxes n p q → is_part_at boxes (id_at boxes p) n ≡ false → IsNextTo boxes (n + 1) p q
@@ -38,9 +34,9 @@ module _ (boxes : List BoxNode) (next : List ℕ) (k : ℕ) (within : k < length
       → IsNextTo boxes k p (get_or next p 0) → IsNextTo boxes (k + 1) p (get_or next p 0)
   earlier-part p l before is same latest differs (inr some) = known boxes k p (get_or next p 0) some
   earlier-part p l before is same latest differs (inl none) = absurd (elim (cases_lt p l) [
-    | inl low ↦ never (is_part_at boxes (id_at boxes p) l) (subst (λ (i : ℕ). is_part_at boxes i l ≡ true) (sym same) latest.1) (none.1 l low latest.0)
+    | inl low ↦ both_ways (is_part_at boxes (id_at boxes p) l) (none.1 l low latest.0) (subst (λ (i : ℕ). is_part_at boxes i l ≡ true) (sym same) latest.1)
     | inr high ↦ elim (cases_lt l p) [
-      | inl over ↦ never (is_part_at boxes (id_at boxes k) p) (subst (λ (i : ℕ). is_part_at boxes i p ≡ true) same is) (latest.2 p over before)
+      | inl over ↦ both_ways (is_part_at boxes (id_at boxes k) p) (latest.2 p over before) (subst (λ (i : ℕ). is_part_at boxes i p ≡ true) same is)
       | inr under ↦ differs (omega (arith, high, under))
     ]
   ])
@@ -50,7 +46,7 @@ module _ (boxes : List BoxNode) (next : List ℕ) (k : ℕ) (within : k < length
   behind p q from (inr some) = known boxes k p q some
 
   none-before : (p : ℕ) → p < k → is_inline_at boxes p ≡ true → (id_at boxes p ≡ id_at boxes k) → IsLatest boxes k (id_at boxes k) None → ⊥
-  none-before p before is same latest = never (is_part_at boxes (id_at boxes k) p) (subst (λ (i : ℕ). is_part_at boxes i p ≡ true) same is) (latest p before)
+  none-before p before is same latest = both_ways (is_part_at boxes (id_at boxes k) p) (latest p before) (subst (λ (i : ℕ). is_part_at boxes i p ≡ true) same is)
 
   pub first-noted : IsLatest boxes k (id_at boxes k) None → AreNextTo boxes next (k + 1)
   first-noted latest = record {
@@ -87,7 +83,7 @@ module _ (boxes : List BoxNode) (next : List ℕ) (k : ℕ) (within : k < length
   named : (xs : List BoxNode) (id i : ℕ) → is_part_at xs id i ≡ true → id_at xs i ≡ id
   named xs id i e = elim (cases_eq (id_at xs i) id) [
     | inl same ↦ same
-    | inr differs ↦ absurd (never (is_part_at xs id i) e (other-part xs id i differs))
+    | inr differs ↦ absurd (both_ways (is_part_at xs id i) (other-part xs id i differs) e)
   ]
 
   pub further-noted : (l : ℕ) → IsLatest boxes k (id_at boxes k) (Some l) → AreNextTo boxes (set next l k) (k + 1)

@@ -1,6 +1,6 @@
 -- What held each box before blocks broke it, there is always one such list.
-use Rattle.std.proofs.Common.{◌≡◌, ◌⊎◌, inl, inr, ℕ, zero, suc, ◌<◌, ◌≤◌, Bool, true, false, List, [], ◌∷◌, ◌++◌, length, slice_index_or, refl, subst, sym, arith, Option, None, Some}
-use Rattle.std.proofs.lemmas.Bool.{cases_lt, cases_Bool}
+use Rattle.std.proofs.Common.{◌≡◌, ◌⊎◌, inl, inr, ℕ, zero, suc, ◌<◌, ◌≤◌, true, false, List, [], ◌∷◌, ◌++◌, length, slice_index_or, refl, subst, sym, arith, Option, None, Some}
+use Rattle.std.proofs.lemmas.Bool.{cases_lt, cases_Bool, both_ways}
 use Rattle.std.proofs.lemmas.List.{length_push}
 use Rattle.lay_doc.specs.Tree.{IsTree, IsUnder, end_of}
 use Rattle.lay_doc.proofs.Subtrees.{has_subtree_lem}
@@ -11,10 +11,6 @@ use Rattle.lay_box_tree.proofs.BoxForests.{length-parents}
 use Rattle.lay_box_tree.specs.InlineParts.{id_at, is_inline_at, is_part_at}
 use Rattle.lay_abspos.specs.Relative.FormerParents.{AreFormerParents, IsFormerParent, WasIn}
 use Rattle.lay_abspos.proofs.RelativeLemmas.Ends.{each-longer}
-
-never : (b : Bool) → b ≡ true → b ≡ false → ⊥
-never true is not = cc
-never false is not = cc
 
 part_within : (boxes : List BoxNode) (id k : ℕ) → is_part_at boxes id k ≡ true → k < length boxes
 part_within [] id k is = cc
@@ -55,9 +51,9 @@ module _ (boxes : List BoxNode) (id p : ℕ) where
 -- a next part is the only one
 same_next : (boxes : List BoxNode) (id p n at : ℕ) → (next : Next boxes id p n) → p < at → is_part_at boxes id at ≡ true → ((j : ℕ) → p < j → j < at → is_part_at boxes id j ≡ false) → at ≡ next.at
 same_next boxes id p n at next behind part first = elim (cases_lt at next.at) [
-  | inl low ↦ absurd (never (is_part_at boxes id at) part (next.first at behind low))
+  | inl low ↦ absurd (both_ways (is_part_at boxes id at) (next.first at behind low) part)
   | inr high ↦ elim (cases_lt next.at at) [
-    | inl more ↦ absurd (never (is_part_at boxes id next.at) next.part (first next.at next.behind more))
+    | inl more ↦ absurd (both_ways (is_part_at boxes id next.at) (first next.at next.behind more) next.part)
     | inr less ↦ omega (arith, high, less)
   ]
 ]
@@ -82,7 +78,7 @@ module _ (boxes : List BoxNode) (tree : IsTree (box_parents boxes)) (k : ℕ) (w
   was_by : (p : ℕ) → is_inline_at boxes p ≡ true → p < k → box_parent boxes k < p → Next boxes (id_at boxes p) p (length boxes) ⊎ NoNext boxes (id_at boxes p) p (length boxes)
       → WasIn boxes p k ⊎ (WasIn boxes p k → ⊥)
   was_by p part before beside (inr none) =
-      inr (λ w. never (is_part_at boxes (id_at boxes p) w.next) w.same (let b = w.behind in none w.next (omega (arith, b, before)) (part_within boxes (id_at boxes p) w.next w.same)))
+      inr (λ w. both_ways (is_part_at boxes (id_at boxes p) w.next) (let b = w.behind in none w.next (omega (arith, b, before)) (part_within boxes (id_at boxes p) w.next w.same)) w.same)
   was_by p part before beside (inl next) =
       let is : (w : WasIn boxes p k) → w.next ≡ next.at = λ w. let b = w.behind in same_next boxes (id_at boxes p) p (length boxes) w.next next (omega (arith, b, before)) w.same w.first in
       elim (cases_lt k next.at) [
@@ -95,7 +91,7 @@ module _ (boxes : List BoxNode) (tree : IsTree (box_parents boxes)) (k : ℕ) (w
 
   was : (p : ℕ) → WasIn boxes p k ⊎ (WasIn boxes p k → ⊥)
   was p = elim (cases_Bool (is_inline_at boxes p)) [
-    | inr not ↦ inr (λ w. never (is_inline_at boxes p) w.part not)
+    | inr not ↦ inr (λ w. both_ways (is_inline_at boxes p) not w.part)
     | inl part ↦ elim (cases_lt p k) [
       | inr high ↦ inr (λ w. let b = w.before in omega (arith, b, high))
       | inl before ↦ elim (cases_lt (box_parent boxes k) p) [

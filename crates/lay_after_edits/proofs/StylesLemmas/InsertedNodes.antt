@@ -2,7 +2,7 @@
 use Rattle.std.proofs.Common.{◌≡◌, ℕ, ◌+◌, ◌-◌, ◌<◌, ◌≤◌, List, [], ◌∷◌, length, get_or, map, take, drop, refl, sym, ap, ◌∙◌, arith, inl, inr}
 use Rattle.std.specs.List.{insert}
 use Rattle.std.proofs.lemmas.Bool.{cases_lt}
-use Rattle.std.proofs.lemmas.List.{drop-map, get_or-map, map-append, take-map}
+use Rattle.std.proofs.lemmas.List.{drop-map, get_or-map, map-append, take-map, length-map}
 use Rattle.std.proofs.lemmas.List.Edits.{get_or-insert_above, get_or-insert_below, length-insert}
 use Rattle.lay_style.specs.Values.{Declaration}
 use Rattle.lay_style.specs.ComputedStyle.{declarations_at}
@@ -10,7 +10,7 @@ use Rattle.lay_doc.specs.declared.node.Node.{Node}
 use Rattle.lay_doc.specs.Document.{declarations_of, inserted, moved, parents_of}
 use Rattle.lay_doc.specs.Tree.{IsTree, shifted}
 use Rattle.lay_doc.proofs.Inserted.{map-map}
-use Rattle.lay_doc.proofs.NodeColumns.{length-column, length-parents}
+use Rattle.lay_doc.proofs.NodeColumns.{length-parents}
 use Rattle.lay_doc.proofs.PutTrees.{shifted_high, shifted_low}
 use Rattle.lay_after_edits.specs.Styles.Stretches.{earlier, inserted_at}
 use Rattle.lay_after_edits.proofs.StylesLemmas.MovedStyles.{IsMoved}
@@ -37,7 +37,7 @@ module _ (nodes : List Node) (at : ℕ) (node : Node) (tree : IsTree (parents_of
   length_news : length news ≡ length parents + 1
   length_news =
       let a = ap length (parents_inserted nodes at node) in
-      let b = length-column (shifted at) (insert parents at node.parent) in
+      let b = length-map (insert parents at node.parent) (shifted at) in
       let c = length-insert parents at node.parent (omega (arith, within, length-parents nodes)) in
       omega (arith, a, b, c)
 
@@ -103,7 +103,7 @@ module _ (nodes : List Node) (at : ℕ) (node : Node) (tree : IsTree (parents_of
         parent = ap (λ (m : ℕ). get_or news m 0) (sym q) ∙ read_behind (k - 1) h l;
         declared = ap (declarations_at (declarations_of (inserted nodes at node))) (sym q)
             ∙ (ap (λ (ds : List (List Declaration)). declarations_at ds ((k - 1) + 1)) (declarations_inserted nodes at node)
-            ∙ get_or-insert_above (declarations_of nodes) at node.decls [] (k - 1) h (omega (arith, within, length-column (λ (n : Node). n.decls) nodes)));
+            ∙ get_or-insert_above (declarations_of nodes) at node.decls [] (k - 1) h (omega (arith, within, length-map nodes (λ (n : Node). n.decls))));
       }
 
   pub inserted_moved : IsMoved parents news (declarations_of nodes) (declarations_of (inserted nodes at node)) (inserted_at at)
@@ -119,7 +119,7 @@ module _ (nodes : List Node) (at : ℕ) (node : Node) (tree : IsTree (parents_of
         count = omega (arith, length_news);
         parent_before = read_before;
         declared_before = λ k low. ap (λ (ds : List (List Declaration)). declarations_at ds k) (declarations_inserted nodes at node)
-            ∙ get_or-insert_below (declarations_of nodes) at node.decls [] k low (omega (arith, within, length-column (λ (n : Node). n.decls) nodes));
+            ∙ get_or-insert_below (declarations_of nodes) at node.decls [] k low (omega (arith, within, length-map nodes (λ (n : Node). n.decls)));
         outside = λ k from lt high. (let n = next k from lt in
             let p = n.parent in
             let o = outside_shifted (get_or parents n.one 0) (omega (arith, p, high)) in

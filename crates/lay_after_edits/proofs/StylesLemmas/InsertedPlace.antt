@@ -1,6 +1,6 @@
 -- Where a node that is put in stands.
 use Rattle.std.proofs.Common.{◌≡◌, ℕ, ◌+◌, ◌==◌, ◌||◌, slice_index, Bool, true, false, not, refl, ap, ◌∙◌, arith, Option, None, Some, if◌then◌else◌, is_some, nat_lt, option_map, subst}
-use Rattle.std.proofs.lemmas.Bool.{ltb-false}
+use Rattle.std.proofs.lemmas.Bool.{ltb-false, or_parts}
 use Rattle.lay_style.specs.Places.{place_of}
 use Rattle.lay_style.proofs.Places.{place_within}
 use Rattle.lay_doc.specs.declared.edit.Edit.{Edit}
@@ -22,10 +22,6 @@ use Rattle.lay_after_edits.specs.Styles.Stretches.{inserted_at, stretch_of}
 passed : (b : Bool) (f : EditFault) (rest : Option EditFault) → (if b then Some f else rest) ≡ None → (b ≡ false) × (rest ≡ None)
 passed true f rest h = absurd cc
 passed false f rest h = (refl, h)
-
-right : (a b : Bool) → (a || b) ≡ false → b ≡ false
-right true b h = absurd cc
-right false b h = h
 
 none_there : (o : Option ℕ) → is_some o ≡ false → o ≡ None
 none_there None h = refl
@@ -49,7 +45,7 @@ put_below d parent index p new is named none =
     record {
       place = p;
       named = named;
-      fresh = none_there (place_of new.id.0 (ids_of d.nodes)) (right (new.id.0 == 0) (is_some (place_of new.id.0 (ids_of d.nodes))) b.0);
+      fresh = none_there (place_of new.id.0 (ids_of d.nodes)) (or_parts (new.id.0 == 0) (is_some (place_of new.id.0 (ids_of d.nodes))) b.0).1;
       slot = slot_found (parents_of d.nodes) is.tree p index few (omega (arith, has, length-ids d.nodes, length-parents d.nodes));
     }
 

@@ -2,7 +2,7 @@
 use Rattle.std.proofs.Common.{◌≡◌, ℕ, ◌+◌, ◌-◌, ◌<◌, ◌≤◌, List, [], length, get_or, map, refl, sym, ap, ◌∙◌, arith, inl, inr}
 use Rattle.std.specs.List.{remove_range}
 use Rattle.std.proofs.lemmas.Bool.{cases_lt, le-ltb, lt-ltb}
-use Rattle.std.proofs.lemmas.List.{get_or-map}
+use Rattle.std.proofs.lemmas.List.{get_or-map, length-map}
 use Rattle.lay_style.specs.Values.{Declaration}
 use Rattle.lay_style.specs.ComputedStyle.{declarations_at}
 use Rattle.lay_doc.specs.declared.node.Node.{Node}
@@ -11,7 +11,7 @@ use Rattle.lay_doc.specs.Removal.{closed_up, moved_back, removed_between}
 use Rattle.lay_doc.specs.Tree.{IsSlot, IsTree, child_count, end_of}
 use Rattle.lay_doc.proofs.Cut.{cut_read, length-cut, map-cut, old_high, old_low, old_place}
 use Rattle.lay_doc.proofs.Inserted.{map-map}
-use Rattle.lay_doc.proofs.NodeColumns.{length-column, length-parents}
+use Rattle.lay_doc.proofs.NodeColumns.{length-parents}
 use Rattle.lay_doc.proofs.Subtrees.{end_is_slot, parent_behind}
 use Rattle.lay_after_edits.specs.Styles.Stretches.{earlier, removed_at}
 use Rattle.lay_after_edits.proofs.StylesLemmas.MovedStyles.{IsMoved}
@@ -56,7 +56,7 @@ module _ (nodes : List Node) (p : ℕ) (tree : IsTree (parents_of nodes)) (above
   length_news : length news + (end - p) ≡ length parents
   length_news =
       let a = ap length (parents_removed nodes p end) in
-      let b = length-column (closed_up p end) (remove_range parents p end) in
+      let b = length-map (remove_range parents p end) (closed_up p end) in
       omega (arith, a, b, length_cut)
 
   read : (k : ℕ) → k < length news → get_or news k 0 ≡ closed_up p end (get_or parents (old_place p end k) 0)
@@ -68,7 +68,7 @@ module _ (nodes : List Node) (p : ℕ) (tree : IsTree (parents_of nodes)) (above
   declared : (k : ℕ) → declarations_at (declarations_of (removed_between nodes p end)) k ≡ declarations_at (declarations_of nodes) (old_place p end k)
   declared k =
       ap (λ (ds : List (List Declaration)). declarations_at ds k) (declarations_removed nodes p end)
-      ∙ cut_read (declarations_of nodes) p end k [] le (omega (arith, within, length-parents nodes, length-column (λ (n : Node). n.decls) nodes))
+      ∙ cut_read (declarations_of nodes) p end k [] le (omega (arith, within, length-parents nodes, length-map nodes (λ (n : Node). n.decls)))
 
   earlier_old : (k : ℕ) → p ≤ k → earlier (removed_at parents p) k ≡ old_place p end k
   earlier_old k high =

@@ -2,6 +2,7 @@
 use Rattle.std.proofs.Common.{◌≡◌, ◌<◌, ◌+◌, ◌-◌, ◌==◌, ◌&&◌, ℕ, zero, suc, Bool, true, false, List, [], ◌∷◌, length, slice_get, Option, None, Some, option_map, refl, ap, sym, subst, ◌∙◌, arith}
 use Rattle.std.proofs.lemmas.List.FromFn.{get_or-map-range_with_len, length-map-range_with_len}
 use Rattle.std.proofs.lemmas.Option.{slice_get-get_or}
+use Rattle.std.proofs.lemmas.Bool.{eqb-true}
 use Rattle.lay_boxgen.proofs.NodeColumns.{length-parents}
 use Rattle.lay_context_sizes.specs.MeasuredContexts.{not_measured}
 use Rattle.lay_cells.specs.Shapes.{IsIn}
@@ -98,10 +99,6 @@ module _ (medium : Medium) (contexts : List Context) (all : List FormattingConte
     places = counted not_placed contexts (λ c. own_places (kept c phase.Place)) (length contexts) ∙ sym of.count;
   }
 
--- a key is read where it stands
-same_number : (a b : ℕ) → (a == b) ≡ true → a ≡ b
-same_number a b e = grind (arith, e)
-
 same_phase : (p q : Phase) → is_phase p q ≡ true → p ≡ q
 same_phase phase.Measure phase.Measure e = refl
 same_phase phase.Measure phase.Size e = absurd cc
@@ -123,7 +120,7 @@ is_same_number a = grind arith
 
 key_by : (a b : CellKey) (same : Bool) → (a.node.0 == b.node.0) ≡ same → (same && is_phase a.phase b.phase) ≡ true → a ≡ b
 key_by a b true e f =
-    let number : a.node.0 ≡ b.node.0 = same_number a.node.0 b.node.0 e in
+    let number : a.node.0 ≡ b.node.0 = eqb-true a.node.0 b.node.0 e in
     let phases : a.phase ≡ b.phase = same_phase a.phase b.phase f in
     ap (λ (n : ℕ). record { node = record { 0 = n }; phase = a.phase }) number ∙ ap (λ (p : Phase). record { node = b.node; phase = p }) phases
 key_by a b false e f = absurd cc

@@ -1,20 +1,13 @@
 -- A masked column is that of the masked values.
-use Rattle.std.proofs.Common.{◌≡◌, ◌<◌, ◌||◌, ℕ, suc, Bool, true, false, if◌then◌else◌, List, [], ◌∷◌, length, map, slice_index, Option, None, Some, refl, ap, ◌∙◌, arith}
+use Rattle.std.proofs.Common.{◌≡◌, ◌<◌, ℕ, suc, Bool, true, false, if◌then◌else◌, List, [], ◌∷◌, length, map, slice_index, Option, None, Some, refl, ap, ◌∙◌, arith}
 use Rattle.std.specs.List.{list_any}
+use Rattle.std.proofs.lemmas.Bool.{or_parts}
 use Rattle.lay_cell_work.specs.CellColumns.{is_link, links_or_none, masked}
 
 -- nothing where another root stands
 abbrev pub masked_value : {X : Type 0} → X → Option ℕ → X → X
 masked_value nothing None x = x
 masked_value nothing (Some r) x = nothing
-
-or_left : (a b : Bool) → (a || b) ≡ false → a ≡ false
-or_left true b e = absurd cc
-or_left false b e = refl
-
-or_right : (a b : Bool) → (a || b) ≡ false → b ≡ false
-or_right true b e = absurd cc
-or_right false b e = e
 
 module _ {X : Type 0} (nothing : X) (link : ℕ → Option ℕ) (value : ℕ → X) where
   abbrev pub entry : ℕ → X
@@ -35,8 +28,8 @@ module _ {X : Type 0} (nothing : X) (link : ℕ → Option ℕ) (value : ℕ →
   none_masked : (numbers : List ℕ) → list_any is_link (map link numbers) ≡ false → map value numbers ≡ map entry numbers
   none_masked [] e = refl
   none_masked (j ∷ numbers) e =
-      let here : value j ≡ entry j = no_link (link j) (value j) (or_left (is_link (link j)) (list_any is_link (map link numbers)) e) in
-      let rest : map value numbers ≡ map entry numbers = none_masked numbers (or_right (is_link (link j)) (list_any is_link (map link numbers)) e) in
+      let here : value j ≡ entry j = no_link (link j) (value j) (or_parts (is_link (link j)) (list_any is_link (map link numbers)) e).0 in
+      let rest : map value numbers ≡ map entry numbers = none_masked numbers (or_parts (is_link (link j)) (list_any is_link (map link numbers)) e).1 in
       ap (λ (x : X). x ∷ map value numbers) here ∙ ap (λ (ys : List X). entry j ∷ ys) rest
 
   by_any : (b : Bool) (numbers : List ℕ) → list_any is_link (map link numbers) ≡ b → masked nothing (if b then map link numbers else []) (map value numbers) ≡ map entry numbers

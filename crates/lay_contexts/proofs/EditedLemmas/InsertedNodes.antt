@@ -4,12 +4,13 @@ use Rattle.std.specs.List.{insert}
 use Rattle.std.proofs.lemmas.Bool.{cases_lt, le-ltb, lt-ltb}
 use Rattle.std.proofs.lemmas.List.Edits.{get_or-insert_at, length-insert}
 use Rattle.std.proofs.lemmas.Option.{slice_get-map, slice_get-get_or}
+use Rattle.std.proofs.lemmas.List.{length-map}
 use Rattle.lay_style.specs.ComputedStyle.{declarations_at}
 use Rattle.lay_doc.specs.declared.edit.Edit.{Edit}
 use Rattle.lay_doc.specs.declared.node.Node.{Node}
 use Rattle.lay_doc.specs.Document.{Document, IsDocument, declarations_of, ids_of, inserted, moved, parents_of}
 use Rattle.lay_doc.specs.Tree.{itself, shifted}
-use Rattle.lay_doc.proofs.NodeColumns.{length-column, length-ids, length-parents}
+use Rattle.lay_doc.proofs.NodeColumns.{length-ids, length-parents}
 use Rattle.lay_doc.proofs.PutTrees.{shifted_high, shifted_low}
 use Rattle.lay_contexts.specs.ContextTree.{parent_of}
 use Rattle.lay_contexts.specs.Edited.Reached.{IsReached, IsUnderThere, place_in, subject_of}
@@ -33,7 +34,7 @@ module _ (d : Document) (edit : Edit) (at : ℕ) (new : Node) (doc : IsDocument 
   Shifts k m = (shifted at k ≡ m) × (k < length d.nodes)
 
   length-grown : length grown.nodes ≡ length d.nodes + 1
-  length-grown = length-column (moved at) (insert d.nodes at new) ∙ length-insert d.nodes at new within
+  length-grown = length-map (insert d.nodes at new) (moved at) ∙ length-insert d.nodes at new within
 
   node-shifts : (k m : ℕ) → Shifts k m → SameNode d.nodes grown.nodes k m
   node-shifts k m r =

@@ -3,13 +3,14 @@ use Rattle.std.proofs.Common.{◌≡◌, inl, inr, ℕ, ◌+◌, ◌-◌, ◌<�
 use Rattle.std.specs.List.{remove_range}
 use Rattle.std.proofs.lemmas.Bool.{cases_lt, le-ltb, lt-ltb}
 use Rattle.std.proofs.lemmas.Option.{slice_get-map}
+use Rattle.std.proofs.lemmas.List.{length-map}
 use Rattle.lay_style.specs.ComputedStyle.{declarations_at}
 use Rattle.lay_doc.specs.declared.edit.Edit.{Edit}
 use Rattle.lay_doc.specs.Document.{Document, IsDocument, declarations_of, ids_of, parents_of}
 use Rattle.lay_doc.specs.Removal.{closed_up, moved_back, removed_between}
 use Rattle.lay_doc.specs.Tree.{IsSlot, child_count, end_of}
 use Rattle.lay_doc.proofs.Cut.{length-cut, old_high, old_inside, old_less, old_less_back, old_low, old_more, old_outside, old_place}
-use Rattle.lay_doc.proofs.NodeColumns.{length-column, length-parents}
+use Rattle.lay_doc.proofs.NodeColumns.{length-parents}
 use Rattle.lay_doc.proofs.Subtrees.{end_is_slot, has_subtree_lem, parent_outside}
 use Rattle.lay_contexts.specs.ContextTree.{parent_of}
 use Rattle.lay_contexts.specs.Edited.Reached.{IsReached, IsUnderThere, place_in, subject_of}
@@ -52,7 +53,7 @@ module _ (d : Document) (edit : Edit) (p : ℕ) (doc : IsDocument d) (not_root :
   within = let w = slot.within in omega (arith, w, length-parents d.nodes)
 
   length-shrunk : length shrunk.nodes + (end - p) ≡ length d.nodes
-  length-shrunk = ap (λ (n : ℕ). n + (end - p)) (length-column (moved_back p end) (remove_range d.nodes p end)) ∙ length-cut d.nodes p end le within
+  length-shrunk = ap (λ (n : ℕ). n + (end - p)) (length-map (remove_range d.nodes p end) (moved_back p end)) ∙ length-cut d.nodes p end le within
 
   old-within : (k m : ℕ) → Closes k m → k < length d.nodes
   old-within k m r = let o = old_inside p end m (length d.nodes) r.1 in let e = r.0 in omega (arith, o, e)

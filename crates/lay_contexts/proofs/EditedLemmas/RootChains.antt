@@ -1,6 +1,6 @@
 -- What the own box of a formatting context or of one around it may be is said by nodes.
-use Rattle.std.proofs.Common.{◌≡◌, ◌⊎◌, inl, inr, ◌↔◌, ℕ, zero, suc, ◌<◌, ◌≤◌, Bool, true, false, ◌&&◌, ◌||◌, List, [], ◌∷◌, length, get_or, refl, ap, sym, subst, ◌∙◌, arith, if◌then◌else◌, Option, None, Some, slice_get, slice_index}
-use Rattle.std.proofs.lemmas.Bool.{cases_lt, or_left, or_right, or_cases}
+use Rattle.std.proofs.Common.{◌≡◌, ◌⊎◌, inl, inr, ◌↔◌, ℕ, zero, suc, ◌<◌, ◌≤◌, Bool, true, false, ◌||◌, List, [], ◌∷◌, length, get_or, refl, ap, sym, subst, ◌∙◌, arith, if◌then◌else◌, Option, None, Some, slice_get, slice_index}
+use Rattle.std.proofs.lemmas.Bool.{cases_lt, or_left, or_right, or_cases, and_parts, both_ways}
 use Rattle.std.proofs.lemmas.List.{get_or-map}
 use Rattle.lay_style.specs.declared.style.Style.{Style}
 use Rattle.lay_style.specs.ComputedStyle.{style_at}
@@ -47,7 +47,7 @@ use Rattle.lay_contexts.specs.Edited.Shrinking.{IsWithin, IsWithinOutward, Takes
 use Rattle.lay_contexts.proofs.EditedLemmas.StrayNodes.{anonymous_tables_stand_by_nodes}
 use Rattle.lay_contexts.proofs.EditedLemmas.OwnList.{around-before}
 use Rattle.lay_contexts.proofs.EditedLemmas.PartLeaves.{place-of}
-use Rattle.lay_contexts.proofs.EditedLemmas.TableChains.{anonymous-by, chain, differ, none-at-own, root-flag, root-kinds, table-kind}
+use Rattle.lay_contexts.proofs.EditedLemmas.TableChains.{anonymous-by, chain, none-at-own, root-flag, root-kinds, table-kind}
 use Rattle.lay_contexts.proofs.EditedLemmas.TableMarks.{Marked, is_table_box, marked-part}
 
 abbrev pub Is : (Flow → BoxKind → Style → Bool) → BoxNode → Bool
@@ -58,10 +58,6 @@ pub cases-of : (S : Flow → BoxKind → Style → Bool) (all : List FormattingC
     → (Is S (listed_at (boxes_of all j) 0) ≡ true) ⊎ ((0 < j) × IsWithinOutward S all (formatting_context_at all j).outer)
 cases-of S all _ (first j e) = inl e
 cases-of S all _ (outward j positive w) = inr (positive, w)
-
-table-anonymous : (a b : Bool) → (a && b) ≡ true → a ≡ true
-table-anonymous true b e = refl
-table-anonymous false b e = absurd cc
 
 no-contexts : (contexts : List Context) → length contexts ≤ 0 → (context_at contexts 0).place ≡ 0
 no-contexts [] e = refl
@@ -234,7 +230,7 @@ module _ (S : Flow → BoxKind → Style → Bool) (takes : TakesAnonymousTables
     table-is : (r : ℕ) → r < length (B i) → is_table_box (listed_at (B i) r) ≡ true → Is S (listed_at (B i) r) ≡ true
     table-is r inside e =
         let b = listed_at (B i) r in
-        ap (λ (x : Flow). S x b.kind b.style) (flow-in r inside (table-anonymous b.anonymous (is_wrapper b.kind) e))
+        ap (λ (x : Flow). S x b.kind b.style) (flow-in r inside (and_parts b.anonymous (is_wrapper b.kind) e).0)
         ∙ table-kind S takes b.anonymous b.kind b.style e (known.automatic r inside e)
 
     abbrev Said : ℕ → Type 0
@@ -271,7 +267,7 @@ module _ (S : Flow → BoxKind → Style → Bool) (takes : TakesAnonymousTables
         by (inr w) = out (inr w)
 
     back-own : Said 0 → W (number_of contexts i 0)
-    back-own (inl p) = absurd (differ (M 0) p (no-own 0 refl))
+    back-own (inl p) = absurd (both_ways (M 0) (no-own 0 refl) p)
     back-own (inr w) = w
 
     back : (turns r : ℕ) → r < turns → r < length (B i) → is_root (B i) r ≡ true → Said r → W (number_of contexts i r)
@@ -334,7 +330,7 @@ module _ (S : Flow → BoxKind → Style → Bool) (takes : TakesAnonymousTables
           let own_inner = (are.boxes o o-in).own in
           let a : (listed_at (B o) 0).inner ≡ true = ap (λ (j : ℕ). (listed_at (B o) j).inner) (sym z) ∙ k-inner in
           let b : (listed_at (B o) 0).inner ≡ false = sym (get_or-map (λ (b : BoxNode). b.inner) (B o) 0 no_box false (are.boxes o o-in).some) ∙ own_inner in
-          differ (listed_at (B o) 0).inner a b)
+          both_ways (listed_at (B o) 0).inner b a)
     ]
 
     same-place : (x : ℕ) → x < length d.nodes → slice_index (ids_of d.nodes) x ≡ slice_index (ids_of d.nodes) (place (suc i)) → x ≡ place (suc i)

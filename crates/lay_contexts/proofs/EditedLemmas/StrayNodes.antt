@@ -1,6 +1,6 @@
 -- Whether the box of an inner context stands in an anonymous table, within the context around, is said by the nodes between.
 use Rattle.std.proofs.Common.{◌≡◌, ◌⊎◌, inl, inr, ℕ, zero, suc, ◌+◌, ◌-◌, ◌<◌, ◌≤◌, ◌==◌, ◌↔◌, Bool, true, false, ◌&&◌, ◌||◌, not, List, [], ◌∷◌, length, refl, ap, sym, subst, ◌∙◌, arith, if◌then◌else◌, Option, None, Some, option_map, slice_get, slice_index}
-use Rattle.std.proofs.lemmas.Bool.{cases_lt, eqb-true, ne_eqb, or_left, or_right, and_left, or_cases}
+use Rattle.std.proofs.lemmas.Bool.{cases_lt, eqb-true, ne_eqb, or_left, or_right, and_left, or_cases, both_ways}
 use Rattle.lay_style.specs.declared.style.Style.{Style}
 use Rattle.lay_style.specs.declared.style_words.Display.{Display}
 use Rattle.lay_style.specs.declared.style_words.Display.TheVariants as display
@@ -37,10 +37,6 @@ use Rattle.lay_contexts.proofs.EditedLemmas.StrayForms.{or-false}
 use Rattle.lay_contexts.proofs.EditedLemmas.StrayRules.{After, AfterIn, Before, BeforeIn, after-list, inside-generated}
 use Rattle.lay_contexts.proofs.EditedLemmas.PartLeaves.{and_tree, behind, below, cut-is, leaf, leaf-is, leaf_of, leaf_with, no-inline, own_with, place-of, put-and}
 
-differ : (b : Bool) → b ≡ true → b ≡ false → ⊥
-differ true e h = cc
-differ false e h = cc
-
 -- White space is a text.
 abbrev NoWhite : Option Form → Type 0
 NoWhite None = Unit {0}
@@ -52,7 +48,7 @@ element-no-white c r _ = refl
 
 no-white-there : (o : Option Form) (x : Form) → NoWhite o → o ≡ Some x → is_white x ≡ true → ⊥
 no-white-there None x h e w = cc
-no-white-there (Some y) x h e w = let g : y ≡ x = cc in differ (is_white y) (ap is_white g ∙ w) h
+no-white-there (Some y) x h e w = let g : y ≡ x = cc in both_ways (is_white y) h (ap is_white g ∙ w)
 
 white-text : (is_root : Bool) (x : Kind) (text : List ℕ) (s : Style) (y : Form) → form_of is_root x text s ≡ Some y → is_white y ≡ true → x ≡ kind.Text
 white-text is_root (kind.Element c r) text s y e w =
@@ -99,7 +95,7 @@ root-no-white nodes s None f get e w root = cc
 root-no-white nodes s (Some n) f get e w root = by (form_of true n.kind n.text s) refl e
   where
     text : (x : Form) → form_of true n.kind n.text s ≡ Some x → is_white x ≡ true → ⊥
-    text x h white = differ (is_element_at nodes 0) root (element-there nodes 0 n get ∙ ap is_element (white-text true n.kind n.text s x h white))
+    text x h white = both_ways (is_element_at nodes 0) (element-there nodes 0 n get ∙ ap is_element (white-text true n.kind n.text s x h white)) root
 
     by : (o : Option Form) → form_of true n.kind n.text s ≡ o → option_map (facts_with 0 n s) o ≡ Some f → ⊥
     by None h e = cc
@@ -131,7 +127,7 @@ module _ (nodes : List Node) (ss : List Style) (is_tree : IsTree (parents_of nod
   P = IsKnownInside nodes ss
 
   opened : (b : Bool) (f : Facts) → f.inner ≡ false → P b f
-  opened b f e = λ inner. absurd (differ f.inner inner e)
+  opened b f e = λ inner. absurd (both_ways f.inner e inner)
 
   -- the state that the children of the node at k have, of which this is known
   abbrev Says : Bool → ℕ → Type 0
@@ -204,7 +200,7 @@ module _ (nodes : List Node) (ss : List Style) (is_tree : IsTree (parents_of nod
       let low = r.0 in
       let high = r.1 in
       let up : parent_of nodes c ≡ k = eqb-true (slice_index (parents_of nodes) c) k r.2 in
-      differ (is_element_at nodes k) (ap (is_element_at nodes) (sym up) ∙ elements c (omega (arith, low)) (omega (arith, low, high))) e)))
+      both_ways (is_element_at nodes k) e (ap (is_element_at nodes) (sym up) ∙ elements c (omega (arith, low)) (omega (arith, low, high))))))
 
   blank-there : (c : ℕ) → 0 < c → (f : Facts) → box_at nodes ss c ≡ Some f → is_white f.form ≡ true → (f.inner ≡ false) × (below nodes is_tree ss c ≡ [])
   blank-there c positive f there w =
@@ -281,7 +277,7 @@ module _ (nodes : List Node) (ss : List Style) (is_tree : IsTree (parents_of nod
   -- nothing is around the own box of a context
   module _ (a : ℕ) (lt : a < length nodes) (marked : is_marked (box_at nodes ss a) ≡ true) (no_white : (f : Facts) → box_at nodes ss a ≡ Some f → is_white f.form ≡ true → ⊥) where
     says-own : Says false a
-    says-own = (λ e. absurd cc, λ u. absurd (differ (is_marked (box_at nodes ss a)) marked u.0))
+    says-own = (λ e. absurd cc, λ u. absurd (both_ways (is_marked (box_at nodes ss a)) u.0 marked))
 
     own-children : (f : Facts) → box_at nodes ss a ≡ Some f → Each (Child f false) (below nodes is_tree ss a)
     own-children f there =
@@ -326,7 +322,7 @@ inside-list P b (t ∷ ts) h = (inside-tree P b t h.0, inside-list P b ts h.1)
 context-no-white : (d : Document) → IsDocument d → (styles : List Style) (a : ℕ) → is_marked (box_at d.nodes styles a) ≡ true → (f : Facts) → box_at d.nodes styles a ≡ Some f → is_white f.form ≡ true → ⊥
 context-no-white d doc styles a marked f there w = elim (cases_lt 0 a) [
   | inl above ↦ (let h = white-box d.nodes a (slice_get d.nodes a) (style_at styles a) f refl there w (ne_eqb a 0 (λ z. omega (arith, z, above))) in
-      differ f.inner (sym (ap is_marked there) ∙ marked) h.1)
+      both_ways f.inner h.1 (sym (ap is_marked there) ∙ marked))
   | inr low ↦ (let z : a ≡ 0 = omega (arith, low) in
       root (subst (λ (k : ℕ). box_at d.nodes styles k ≡ Some f) z there))
 ]

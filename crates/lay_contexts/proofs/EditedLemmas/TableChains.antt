@@ -1,7 +1,7 @@
 -- From a box to the nearest root above it: whether it stands in an anonymous table is said there too.
 use Rattle.std.proofs.Common.{◌≡◌, inl, inr, ℕ, zero, suc, ◌<◌, Bool, true, false, ◌&&◌, ◌||◌, not, List, length, get_or, refl, ap, sym, ◌∙◌, arith}
 use Rattle.std.proofs.lemmas.List.{get_or-map}
-use Rattle.std.proofs.lemmas.Bool.{false_from_ne_true}
+use Rattle.std.proofs.lemmas.Bool.{false_from_ne_true, both_ways}
 use Rattle.lay_style.specs.declared.style.Style.{Style}
 use Rattle.lay_style.specs.declared.style_words.TableLayout.TheVariants.{Auto}
 use Rattle.lay_doc.specs.declared.node.Node.{Node}
@@ -19,10 +19,6 @@ use Rattle.lay_contexts.specs.Edited.Shrinking.{TakesAnonymousTables}
 use Rattle.lay_contexts.proofs.EditedLemmas.StrayForms.{or-false}
 use Rattle.lay_contexts.proofs.EditedLemmas.TableMarks.{Marked, is_table_box}
 
-pub differ : (b : Bool) → b ≡ true → b ≡ false → ⊥
-differ true e h = cc
-differ false e h = cc
-
 -- Kinds of boxes.
 table-root : (a i : Bool) (x : BoxKind) → (a && is_wrapper x) ≡ true → (i ≡ true → a ≡ false) → (a && not i && is_wrapper_or_cell x) ≡ true
 table-root true true x e h = absurd (let z = h refl in cc)
@@ -38,7 +34,7 @@ module _ (S : Flow → BoxKind → Style → Bool) (takes : TakesAnonymousTables
   pub root-kinds : (a i : Bool) (x : BoxKind) (s : Style) → (a && not i && is_wrapper_or_cell x) ≡ true → S InFlow x s ≡ true → (a && is_wrapper x) ≡ true
   root-kinds true false kind.Wrapper s e h = refl
   root-kinds true false kind.InlineWrapper s e h = refl
-  root-kinds true false (kind.Cell m n) s e h = absurd (differ (S InFlow (kind.Cell m n) s) h (takes.cell m n s))
+  root-kinds true false (kind.Cell m n) s e h = absurd (both_ways (S InFlow (kind.Cell m n) s) (takes.cell m n s) h)
   root-kinds _ _ x s e h = absurd cc
 
   pub table-kind : (a : Bool) (x : BoxKind) (s : Style) → (a && is_wrapper x) ≡ true → s.table.layout ≡ Auto → S InFlow x s ≡ true
@@ -87,5 +83,5 @@ module _ (nodes_of : List Node) (ss : List Style) (boxes : List BoxNode) (marks 
       let before = low k positive lt in
       let p_in : p < length boxes = omega (arith, before, lt) in
       let p_some : 0 < p = not_own boxes p e in
-      let no_table : is_table_box (box_at boxes p) ≡ false = false_from_ne_true (is_table_box (box_at boxes p)) (λ t. differ (is_root boxes p) (table-is-root p p_some p_in t) e) in
+      let no_table : is_table_box (box_at boxes p) ≡ false = false_from_ne_true (is_table_box (box_at boxes p)) (λ t. both_ways (is_root boxes p) e (table-is-root p p_some p_in t)) in
       step k positive lt ∙ (or-false (mark p) (is_table_box (box_at boxes p)) no_table ∙ chain p h up p_some p_in)

@@ -1,6 +1,6 @@
 -- What stands in a box that is collapsed through is collapsed through, and what stands in one run starts where it does.
-use Rattle.std.proofs.Common.{◌≡◌, ℕ, zero, suc, ◌+◌, ◌-◌, ◌<◌, ◌≤◌, ◌&&◌, not, nat_lt, Bool, true, false, List, length, refl, sym, ◌∙◌, arith, inl, inr, ap}
-use Rattle.std.proofs.lemmas.Bool.{cases_lt}
+use Rattle.std.proofs.Common.{◌≡◌, ℕ, zero, suc, ◌+◌, ◌-◌, ◌<◌, ◌≤◌, not, nat_lt, Bool, true, false, List, length, refl, sym, ◌∙◌, arith, inl, inr, ap}
+use Rattle.std.proofs.lemmas.Bool.{cases_lt, and_parts}
 use Rattle.lay_flow.specs.declared.blocks.flow_box.FlowBox.{FlowBox}
 use Rattle.lay_flow.specs.Blocks.Boxes.{parent_at, parents_of}
 use Rattle.lay_flow.proofs.BlocksLemmas.BoxTrees.{parent_before}
@@ -44,9 +44,6 @@ end_of boxes d lt = end_from boxes d (d + 1) (length boxes - (d + 1)) (omega (ar
 pub end_place : (boxes : List FlowBox) (d m : ℕ) → EndsBefore boxes d m → IsPlace boxes d m
 end_place boxes d m e = record { parent = e.parent; within = e.within; inside = e.inside; next = λ w. let l = e.ends w in omega (arith, l) }
 
-right_true : (a b : Bool) → (a && b) ≡ true → b ≡ true
-right_true a b e = grind (arith, e)
-
 -- no margin of the box parts the run that goes through the box round it
 pub record Passes (boxes : List FlowBox) (r : Runs) (k : ℕ) : Type 0 where
   pub through : flag_at r.through k ≡ true
@@ -62,7 +59,7 @@ module _ (boxes : List FlowBox) (tree : IsTree (parents_of boxes)) (r : Runs) (i
       let there = gathers boxes tree r is d m (end_place boxes d m e) in
       let f : ℕ = there.first in
       let g = there.is_gathered in
-      let own : f ≤ d = not_low d f (right_true (may_collapse_through (block_at boxes d)) (not (nat_lt d f)) (sym (passes_here boxes tree r is d m positive e.parent e.within e.ends e.inside f g) ∙ through)) in
+      let own : f ≤ d = not_low d f (and_parts (may_collapse_through (block_at boxes d)) (not (nat_lt d f)) (sym (passes_here boxes tree r is d m positive e.parent e.within e.ends e.inside f g) ∙ through)).1 in
       let low : k < m = elim (cases_lt k m) [
         | inl low ↦ low
         | inr high ↦ (let a = e.ends (omega (arith, high, within)) in let p = e.parent in let b = inside m p (omega (arith, high)) in absurd (omega (arith, a, b)))

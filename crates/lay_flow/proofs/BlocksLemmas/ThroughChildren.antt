@@ -1,6 +1,6 @@
 -- A box is collapsed through just where its children are and nothing of its own parts its margins.
 use Rattle.std.proofs.Common.{◌≡◌, ℕ, zero, suc, ◌+◌, ◌<◌, ◌≤◌, ◌&&◌, not, nat_lt, Bool, true, false, List, length, refl, sym, ap, ◌∙◌, arith, inl, inr, Option, Some, None}
-use Rattle.std.proofs.lemmas.Bool.{cases_eq}
+use Rattle.std.proofs.lemmas.Bool.{cases_eq, and_parts}
 use Rattle.lay_doc.specs.Tree.{IsTree}
 use Rattle.lay_flow.specs.declared.blocks.flow_box.FlowBox.{FlowBox}
 use Rattle.lay_flow.specs.Blocks.Boxes.{parent_at, parents_of}
@@ -17,12 +17,6 @@ use Rattle.lay_flow.proofs.BlocksLemmas.Siblings.{child_parent, last_is}
 use Rattle.lay_flow.proofs.BlocksLemmas.Truths.{not_low}
 use Rattle.lay_flow.specs.Blocks.MarginPlace.{IsAround}
 
-left_true : (a b : Bool) → (a && b) ≡ true → a ≡ true
-left_true a b t = grind (arith, t)
-
-right_true : (a b : Bool) → (a && b) ≡ true → b ≡ true
-right_true a b t = grind (arith, t)
-
 module _ (boxes : List FlowBox) (tree : IsTree (parents_of boxes)) (r : Runs) (is : HasRuns boxes r) where
   -- the run that comes to the end of a box that is collapsed through still has what it had before the box
   stays : (p s : ℕ) → p < s → s < length boxes → flag_at r.through s ≡ true → has_top p (run_at r.before_tops s) ≡ true → has_top p (run_before boxes r s (length boxes)) ≡ true
@@ -32,8 +26,7 @@ module _ (boxes : List FlowBox) (tree : IsTree (parents_of boxes)) (r : Runs) (i
       let m : ℕ = end.end in
       let there = gathers boxes tree r is s m (end_place boxes s m e) in
       let g = there.is_gathered in
-      let low : there.first ≤ s = not_low s there.first (right_true (may_collapse_through (block_at boxes s)) (not (nat_lt s there.first))
-      (sym (passes_here boxes tree r is s m (omega (arith, lt)) e.parent e.within e.ends e.inside there.first g) ∙ through)) in
+      let low : there.first ≤ s = not_low s there.first (and_parts (may_collapse_through (block_at boxes s)) (not (nat_lt s there.first)) (sym (passes_here boxes tree r is s m (omega (arith, lt)) e.parent e.within e.ends e.inside there.first g) ∙ through)).1 in
       let from : there.first ≤ p = not_low p there.first (sym (g.leads p s low e.parent lt) ∙ had) in
       let over = e.parent in
       let last = last_over boxes tree r is s m (omega (arith, lt)) e.parent e.within e.ends e.inside in
@@ -66,7 +59,7 @@ module _ (boxes : List FlowBox) (tree : IsTree (parents_of boxes)) (r : Runs) (i
 pub collapsed_through_lem : CollapsedThrough
 collapsed_through_lem boxes r tree is p positive within = (
   λ through. (
-    left_true (may_collapse_through (block_at boxes p)) _ (sym (passes_is boxes r is p positive within) ∙ through),
+    (and_parts (may_collapse_through (block_at boxes p)) _ (sym (passes_is boxes r is p positive within) ∙ through)).0,
     λ c inner child.
         let c_is = child_parent boxes p c child in
         let above = c_is.0 in

@@ -1,7 +1,7 @@
 -- Bytes that are nothing but text to a line: no space, linefeed, tab or zero width space. Two such stretches that meet at a character are
 -- one such stretch.
 use Rattle.std.proofs.Common.{◌≡◌, ◌⊎◌, inl, inr, ℕ, ◌+◌, ◌<◌, ◌≤◌, Bool, true, false, ◌&&◌, ◌||◌, ◌==◌, nat_lt, if◌then◌else◌, List, length, slice_index, refl, sym, ap, ◌∙◌, subst, arith, eq-eqb, ne_eqb, eqb-true, le-ltb}
-use Rattle.std.proofs.lemmas.Bool.{cases_eq, cases_lt, false_from_ne_true, both_ways}
+use Rattle.std.proofs.lemmas.Bool.{cases_eq, cases_lt, false_from_ne_true, both_ways, and_parts}
 use Rattle.lay_space.specs.declared.item.Mode.{Mode}
 use Rattle.lay_space.specs.declared.tokens.ClusterKind.{ClusterKind}
 use Rattle.lay_space.specs.declared.tokens.ClusterKind.TheVariants.{PreservedSpace, Linefeed, Tab, ZeroWidthSpace, Other}
@@ -27,11 +27,6 @@ pub record IsPlain (text : List ℕ) (from to : ℕ) : Type 0 where
   pub crlf : IsReturn text from to → ⊥
   pub zero_width : IsZeroWidth text from to → ⊥
 
--- truth of tests
-both_of : (a b : Bool) → a && b ≡ true → (a ≡ true) × (b ≡ true)
-both_of true b h = (refl, h)
-both_of false b h = absurd (cc (h))
-
 both : (a b : Bool) → a ≡ true → b ≡ true → a && b ≡ true
 both true b p q = q
 both false b p q = absurd (cc (p))
@@ -53,7 +48,7 @@ byte_true text from to byte is = both (to == from + 1) (slice_index text from ==
 
 byte_of : (text : List ℕ) (from to byte : ℕ) → is_byte text from to byte ≡ true → IsByte text from to byte
 byte_of text from to byte h =
-    let s = both_of (to == from + 1) (slice_index text from == byte) h in (eqb-true _ _ s.0, eqb-true _ _ s.1)
+    let s = and_parts (to == from + 1) (slice_index text from == byte) h in (eqb-true _ _ s.0, eqb-true _ _ s.1)
 
 return_true : (text : List ℕ) (from to : ℕ) → IsReturn text from to → is_linefeed text from to ≡ true
 return_true text from to is =
@@ -69,9 +64,9 @@ zero_true text from to is =
 
 zero_of : (text : List ℕ) (from to : ℕ) → is_zero_width_space text from to ≡ true → IsZeroWidth text from to
 zero_of text from to h =
-    let a = both_of (to == from + 3 && slice_index text from == 226 && slice_index text (from + 1) == 128) (slice_index text (from + 2) == 139) h in
-    let b = both_of (to == from + 3 && slice_index text from == 226) (slice_index text (from + 1) == 128) a.0 in
-    let c = both_of (to == from + 3) (slice_index text from == 226) b.0 in
+    let a = and_parts (to == from + 3 && slice_index text from == 226 && slice_index text (from + 1) == 128) (slice_index text (from + 2) == 139) h in
+    let b = and_parts (to == from + 3 && slice_index text from == 226) (slice_index text (from + 1) == 128) a.0 in
+    let c = and_parts (to == from + 3) (slice_index text from == 226) b.0 in
     (eqb-true _ _ c.0, eqb-true _ _ c.1, eqb-true _ _ b.1, eqb-true _ _ a.1)
 
 linefeed_of : (text : List ℕ) (from to : ℕ) → is_linefeed text from to ≡ true → IsByte text from to 10 ⊎ IsReturn text from to
@@ -82,8 +77,8 @@ linefeed_of text from to h =
         → IsByte text from to 10 ⊎ IsReturn text from to
     by (inl p) = inl (byte_of text from to 10 p)
     by (inr q) =
-        let a = both_of (to == from + 2 && slice_index text from == 13) (slice_index text (from + 1) == 10) q in
-        let b = both_of (to == from + 2) (slice_index text from == 13) a.0 in
+        let a = and_parts (to == from + 2 && slice_index text from == 13) (slice_index text (from + 1) == 10) q in
+        let b = and_parts (to == from + 2) (slice_index text from == 13) a.0 in
         inr (eqb-true _ _ b.0, eqb-true _ _ b.1, eqb-true _ _ a.1)
 
 -- a cluster is of the last kind where no test is met, and nothing else is more than text

@@ -2,7 +2,7 @@
 use Rattle.std.proofs.Common.{◌≡◌, ◌⊎◌, inl, inr, ℕ, zero, suc, ◌+◌, ◌<◌, ◌≤◌, ℤ, pos, ◌+ℤ◌, ◌-ℤ◌, ◌≤ℤ◌}
 use Rattle.std.proofs.Common.{Bool, true, false, ◌||◌, if◌then◌else◌, List, [], ◌∷◌, All, length, take}
 use Rattle.std.proofs.Common.{drop, slice_get, Some, IsTrue, IsFalse, refl, sym, ap, subst, ◌∙◌, arith}
-use Rattle.std.proofs.lemmas.Bool.{cases_lt}
+use Rattle.std.proofs.lemmas.Bool.{cases_lt, or_right}
 use Rattle.std.proofs.lemmas.Int.{ints}
 use Rattle.std.proofs.lemmas.List.Elements.{All-drop}
 use Rattle.std.proofs.lemmas.Option.{same_Some, slice_get_within}
@@ -25,7 +25,6 @@ use Rattle.lay_line_measures.specs.declared.container.Container.{Container}
 use Rattle.lay_line_measures.specs.BoxMeasuresValue.{BoxMeasuresValue}
 use Rattle.lay_line_measures.specs.SeenLines.{has_seen_line}
 use Rattle.lay_line_measures.specs.Stretches.{stretch_of, stretches_of}
-use Rattle.lay_line_measures.proofs.Disjunctions.{or_true}
 use Rattle.lay_line_measures.proofs.SeenPens.{pen_seen}
 use Rattle.lay_measure.specs.declared.pen.Breaking.{Breaking}
 use Rattle.lay_measure.specs.declared.pen.Breaking.TheVariants as breaking
@@ -254,7 +253,7 @@ indent_spent p r some is (inl none) = chosen r.seen p.frame.indent.0 (inr none)
 indent_spent p r some is (inr first) =
     let shown : seen_to p.frame p.rest r.reach.count ≡ true =
     pen_seen p.frame (pos 0) p.rest r.reach.count ∙ more_seen p.rest r.reach.count some first in
-    let seen : r.seen ≡ true = is.seen_is ∙ ap (λ (b : Bool). any_shows p.open_boxes || b) shown ∙ or_true (any_shows p.open_boxes) in
+    let seen : r.seen ≡ true = is.seen_is ∙ ap (λ (b : Bool). any_shows p.open_boxes || b) shown ∙ or_right (any_shows p.open_boxes) true refl in
     chosen r.seen p.frame.indent.0 (inl seen)
 
 pub stands_after

@@ -1,6 +1,6 @@
 -- The first fault of a node in terms of its list is that of the document, and one that has none fits.
 use Rattle.std.proofs.Common.{◌≡◌, ℕ, zero, suc, ◌+◌, ◌<◌, ◌≤◌, ◌==◌, ◌||◌, not, Bool, true, false, List, [], ◌∷◌, length, get_or, refl, sym, ap, ◌∙◌, arith, Option, Some, None, option_map, is_some, nat_lt, nat_le, if◌then◌else◌}
-use Rattle.std.proofs.lemmas.Bool.{le-ltb, leb-false, ltb-false}
+use Rattle.std.proofs.lemmas.Bool.{le-ltb, leb-false, ltb-false, or_parts}
 use Rattle.std.proofs.lemmas.List.{get_or-map}
 use Rattle.lay_units.specs.Limits.{longest_text, most_depth, most_nodes, most_text}
 use Rattle.lay_style.specs.Places.{place_of}
@@ -71,10 +71,6 @@ passed : (b : Bool) (f : EditFault) (rest : Option EditFault) → (if b then Som
 passed true f rest h = absurd cc
 passed false f rest h = record { no = refl; after = h }
 
-right : (a b : Bool) → (a || b) ≡ false → b ≡ false
-right true b h = absurd cc
-right false b h = h
-
 none_there : (o : Option ℕ) → is_some o ≡ false → o ≡ None
 none_there None h = refl
 none_there (Some k) h = absurd cc
@@ -87,8 +83,8 @@ fits l up new none =
     let h = passed (nat_le most_depth (get_or (item_depths l.items.items) up 0)) TooDeep _ e.after in
     let t = passed (is_too_long l.text_bytes (length new.text)) TextTooLong _ h.after in
     record {
-      fresh = none_there (number_of l.numbers new.id.0) (right (new.id.0 == 0) (is_some (number_of l.numbers new.id.0)) b.no);
+      fresh = none_there (number_of l.numbers new.id.0) (or_parts (new.id.0 == 0) (is_some (number_of l.numbers new.id.0)) b.no).1;
       few = leb-false most_nodes (length l.items.items) e.no;
       shallow = leb-false most_depth (get_or (item_depths l.items.items) up 0) h.no;
-      small = ltb-false most_text (l.text_bytes + length new.text) (right (nat_lt longest_text (length new.text)) (nat_lt most_text (l.text_bytes + length new.text)) t.no);
+      small = ltb-false most_text (l.text_bytes + length new.text) (or_parts (nat_lt longest_text (length new.text)) (nat_lt most_text (l.text_bytes + length new.text)) t.no).1;
     }

@@ -3,7 +3,7 @@ use Rattle.std.proofs.Common.{◌≡◌, ◌≢◌, ℕ, ◌+◌, ◌<◌, ◌�
 use Rattle.std.specs.List.{insert}
 use Rattle.std.proofs.lemmas.Bool.{cases_lt, cases_eq, eq-eqb, ne_eqb}
 use Rattle.std.proofs.lemmas.Grind.{elements}
-use Rattle.std.proofs.lemmas.List.{get_or-map, get_or-set_same, get_or-set_other, length-set, length-append, map-append}
+use Rattle.std.proofs.lemmas.List.{get_or-map, get_or-set_same, get_or-set_other, length-set, length-append, map-append, length-map}
 use Rattle.std.proofs.lemmas.List.Edits.{length-insert, get_or-insert_below, get_or-insert_at, get_or-insert_above}
 use Rattle.lay_style.specs.Places.{place_of}
 use Rattle.lay_style.proofs.Places.{place_here, place_later, map_some}
@@ -17,7 +17,7 @@ use Rattle.lay_doc.specs.Edits.{insert_fault, after_insert, last_index}
 use Rattle.lay_doc.proofs.EditedDocuments.{edits_leave_documents}
 use Rattle.lay_doc.proofs.Indexed.{place_insert_here, place_insert_other}
 use Rattle.lay_doc.proofs.Inserted.{ids_inserted, text_size_inserted}
-use Rattle.lay_doc.proofs.NodeColumns.{length-column, length-parents, length-ids}
+use Rattle.lay_doc.proofs.NodeColumns.{length-parents, length-ids}
 use Rattle.lay_doc.proofs.PutTrees.{shifted_low, shifted_high}
 use Rattle.lay_doc.proofs.Slots.{slot_is}
 use Rattle.lay_doc.proofs.Subtrees.{parent_behind}
@@ -169,7 +169,7 @@ module _ (d : Document) (a b : Listing) (g : IsGathered d a) (parent : NodeId) (
       at_depth m k = record { width = d.width; height = d.height; nodes = inserted d.nodes m (becomes new (get_or places up 0) (k + 1)) }
 
   length-put : length nodes ≡ count + 1
-  length-put = length-column (moved at) (insert d.nodes at node) ∙ length-insert d.nodes at node within
+  length-put = length-map (insert d.nodes at node) (moved at) ∙ length-insert d.nodes at node within
 
   length-items : length b.items.items ≡ count + 1
   length-items = rw grows.items (let l = length-append a.items.items (listed ∷ []) in omega (arith, l, g.stands.item_count))
@@ -186,19 +186,19 @@ module _ (d : Document) (a b : Listing) (g : IsGathered d a) (parent : NodeId) (
 
   ups_old : (i : ℕ) → i < count → get_or (ups_of b.items.items) i 0 ≡ get_or (ups_of a.items.items) i 0
   ups_old i lt = rw (grows.items, push_column (λ (x : Listed). x.up) a.items.items listed)
-      (push_old (ups_of a.items.items) up 0 i (let l = length-column (λ (x : Listed). x.up) a.items.items in omega (arith, l, g.stands.item_count, lt)))
+      (push_old (ups_of a.items.items) up 0 i (let l = length-map a.items.items (λ (x : Listed). x.up) in omega (arith, l, g.stands.item_count, lt)))
 
   ups_new : (i : ℕ) → i ≡ count → get_or (ups_of b.items.items) i 0 ≡ up
   ups_new i is = rw (grows.items, push_column (λ (x : Listed). x.up) a.items.items listed)
-      (push_new (ups_of a.items.items) up 0 i (let l = length-column (λ (x : Listed). x.up) a.items.items in omega (arith, l, g.stands.item_count, is)))
+      (push_new (ups_of a.items.items) up 0 i (let l = length-map a.items.items (λ (x : Listed). x.up) in omega (arith, l, g.stands.item_count, is)))
 
   depths_old : (i : ℕ) → i < count → get_or (item_depths b.items.items) i 0 ≡ get_or (item_depths a.items.items) i 0
   depths_old i lt = rw (grows.items, push_column (λ (x : Listed). x.depth) a.items.items listed)
-      (push_old (item_depths a.items.items) listed.depth 0 i (let l = length-column (λ (x : Listed). x.depth) a.items.items in omega (arith, l, g.stands.item_count, lt)))
+      (push_old (item_depths a.items.items) listed.depth 0 i (let l = length-map a.items.items (λ (x : Listed). x.depth) in omega (arith, l, g.stands.item_count, lt)))
 
   depths_new : (i : ℕ) → i ≡ count → get_or (item_depths b.items.items) i 0 ≡ listed.depth
   depths_new i is = rw (grows.items, push_column (λ (x : Listed). x.depth) a.items.items listed)
-      (push_new (item_depths a.items.items) listed.depth 0 i (let l = length-column (λ (x : Listed). x.depth) a.items.items in omega (arith, l, g.stands.item_count, is)))
+      (push_new (item_depths a.items.items) listed.depth 0 i (let l = length-map a.items.items (λ (x : Listed). x.depth) in omega (arith, l, g.stands.item_count, is)))
 
   items_old : (i : ℕ) (x : Listed) → i < count → get_or b.items.items i x ≡ get_or a.items.items i x
   items_old i x lt = rw grows.items (push_old a.items.items listed x i (omega (arith, g.stands.item_count, lt)))

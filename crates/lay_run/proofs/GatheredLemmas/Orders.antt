@@ -2,27 +2,26 @@
 use Rattle.std.proofs.Common.{◌≡◌, ℕ, ◌+◌, ◌-◌, ◌<◌, ◌≤◌, List, [], ◌∷◌, ◌++◌, length, get_or, map, refl, sym, ap, ◌∙◌, arith, inl, inr, Option, Some, None, option_map, IfSome}
 use Rattle.std.proofs.lemmas.Bool.{cases_lt}
 use Rattle.std.proofs.lemmas.Grind.{elements}
-use Rattle.std.proofs.lemmas.List.{get_or-map, length-append}
+use Rattle.std.proofs.lemmas.List.{get_or-map, length-append, length-map}
 use Rattle.lay_doc.specs.Tree.{shifted}
 use Rattle.lay_doc.proofs.PutTrees.{shifted_low, shifted_high}
-use Rattle.lay_doc.proofs.NodeColumns.{length-column}
 use Rattle.lay_run.specs.Gathered.Standing.{IsOrder}
 
 abbrev pub more_places : List ℕ → ℕ → List ℕ
 more_places places at = map (shifted at) places ++ at ∷ []
 
 pub length-more : (places : List ℕ) (at : ℕ) → length (more_places places at) ≡ length places + 1
-length-more places at = length-append (map (shifted at) places) (at ∷ []) ∙ ap (λ (m : ℕ). m + 1) (length-column (shifted at) places)
+length-more places at = length-append (map (shifted at) places) (at ∷ []) ∙ ap (λ (m : ℕ). m + 1) (length-map places (shifted at))
 
 pub more_old : (places : List ℕ) (at i : ℕ) → i < length places → get_or (more_places places at) i 0 ≡ shifted at (get_or places i 0)
 more_old places at i lt =
-    let len = length-column (shifted at) places in
+    let len = length-map places (shifted at) in
     let front : get_or (map (shifted at) places ++ at ∷ []) i 0 ≡ get_or (map (shifted at) places) i 0 = grind (arith, elements) in
     front ∙ get_or-map (shifted at) places i 0 0 lt
 
 pub more_new : (places : List ℕ) (at i : ℕ) → i ≡ length places → get_or (more_places places at) i 0 ≡ at
 more_new places at i is =
-    let len = length-column (shifted at) places in
+    let len = length-map places (shifted at) in
     grind (arith, elements)
 
 pub data Shifts (at x : ℕ) : Type 0 where

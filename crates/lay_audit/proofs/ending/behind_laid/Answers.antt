@@ -2,11 +2,11 @@ use Rattle.std.proofs.Common.{◌≡◌, ◌++◌, sym, ap, ◌∙◌, arith}
 use Rattle.std.proofs.lemmas.Bool.Decides.{Decides-eqb}
 use Rattle.std.proofs.lemmas.Slice.Eq.{slice_eq-Decides}
 use Rattle.std.proofs.lemmas.Option.{same_Some, none-some}
+use Rattle.std.proofs.lemmas.Bool.{both_ways}
 use Rattle.lay_report.specs.Report.{laid_line}
 use Rattle.lay_audit.specs.Lines.{behind_line, first_line}
 use Rattle.lay_audit.proofs.EndSteps.{laid_first}
 use Rattle.lay_audit.proofs.LineFacts.{line_parts}
-use Rattle.lay_audit.proofs.NextReplies.{not_both}
 use Rattle.lay_audit.proofs.ending.behind_laid.Goals as goal
 use Rattle.lay_audit.proofs.ending.behind_laid.Goals.{else-contexts-laid-via-then-contexts-laid+else-eq, else-contexts-laid-via-else-contexts-laid}
 
@@ -31,8 +31,7 @@ returns-clause-none c = λ e rest is.
     let number : c.in-Some.laid ≡ is.laid = same_Some c.in-Some.laid is.laid (sym c.in-Some.is ∙ c.laid_number.ensures is.laid is.within line) in
     elim c.else-contexts-laid.branch [
       | else-contexts-laid-via-then-contexts-laid+else-eq w ↦
-          not_both w.eq.result
-          ((slice_eq-Decides Decides-eqb w.as_bytes.result.now c.split_line.result.0.now w.eq.result w.eq.ensures).1
-          (w.as_bytes.ensures.value ∙ (c.in_ok-written.ensures ∙ (ap laid_line number ∙ sym line)))) w.if-eq.false
+          both_ways w.eq.result w.if-eq.false ((slice_eq-Decides Decides-eqb w.as_bytes.result.now c.split_line.result.0.now w.eq.result w.eq.ensures).1
+          (w.as_bytes.ensures.value ∙ (c.in_ok-written.ensures ∙ (ap laid_line number ∙ sym line))))
       | else-contexts-laid-via-else-contexts-laid w ↦ (let f = w.if-contexts-laid.false in let m = is.enough in omega (arith, f, m, number))
     ]

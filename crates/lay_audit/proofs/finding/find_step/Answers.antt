@@ -1,8 +1,8 @@
 use Rattle.std.proofs.Common.{sym, subst, arith, inl, inr}
-use Rattle.std.proofs.lemmas.Bool.{cases_eq}
+use Rattle.std.proofs.lemmas.Bool.{cases_eq, both_ways}
 use Rattle.lay_audit.specs.declared.step.Step.TheVariants as step
 use Rattle.lay_audit.specs.NextLines.{StandsNot}
-use Rattle.lay_audit.proofs.NextReplies.{less_of, no_step, not_both}
+use Rattle.lay_audit.proofs.NextReplies.{less_of, no_step}
 use Rattle.lay_audit.proofs.finding.find_step.Goals as goal
 
 pub returns-then-branch-clause-some : goal.returns-then-branch-clause-some
@@ -18,5 +18,5 @@ loop-place-preserved c = λ k lt r. elim (cases_eq k c.loop-place.place) [
 pub returns-clause-none : goal.returns-clause-none
 returns-clause-none c = λ e.
     let d = rw c.in_ok-is_publication.was at (c.is_publication.ensures c.args.scripts.now) in
-    no_step c.args.scripts.now c.args.present.now c.args.rest.now (λ s. not_both c.in_ok-is_publication.field-0 (d.1 s) c.if-branch.false)
+    no_step c.args.scripts.now c.args.present.now c.args.rest.now (λ s. both_ways c.in_ok-is_publication.field-0 c.if-branch.false (d.1 s))
     (λ k lt r. c.loop-place.invariant k (let over = c.loop-place-test.false in omega (arith, lt, over)) r)

@@ -1,7 +1,6 @@
 use Rattle.std.proofs.Common.{rules, ◌≡◌, false, ap, ◌∙◌, arith, inl, inr}
-use Rattle.std.proofs.lemmas.Bool.{cases_lt}
+use Rattle.std.proofs.lemmas.Bool.{cases_lt, both_ways}
 use Rattle.lay_contexts.specs.Homes.{is_root}
-use Rattle.lay_contexts.proofs.NearestRoots.{never}
 use Rattle.lay_contexts.proofs.parting.is_whole.Goals as goal
 
 pub loop-k-preserved : goal.loop-k-preserved
@@ -11,7 +10,7 @@ loop-k-preserved c j some lt root =
     let no : is_root boxes k ≡ false = search rules in
     elim (cases_lt j k) [
       | inl low ↦ c.loop-k.invariant j some low root
-      | inr high ↦ (let q : j ≡ k = omega (arith, lt, high) in never (is_root boxes j) root (ap (is_root boxes) q ∙ no))
+      | inr high ↦ (let q : j ≡ k = omega (arith, lt, high) in both_ways (is_root boxes j) (ap (is_root boxes) q ∙ no) root)
     ]
 
 pub returns : goal.returns

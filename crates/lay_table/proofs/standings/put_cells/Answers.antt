@@ -1,7 +1,7 @@
 use Rattle.std.proofs.Common.{◌≡◌, length, ◌∙◌, arith}
+use Rattle.std.proofs.lemmas.List.{length-map}
 use Rattle.lay_table_grid.specs.declared.grid.TableCell.{TableCell}
 use Rattle.lay_table.specs.TableStandings.{cell_places, cell_standing}
-use Rattle.lay_table.proofs.ColumnSteps.{length_mapped}
 use Rattle.lay_table.proofs.StandingSteps.{one_more}
 use Rattle.lay_table.proofs.standings.put_cells.Goals as goal
 
@@ -22,7 +22,7 @@ loop-c-preserved c =
 
 pub returns-clause-each : goal.returns-clause-each
 returns-clause-each c =
-    let mapped = length_mapped (λ (cell : TableCell). cell.place) c.args.input.now.table.grid.cells in
+    let mapped = length-map c.args.input.now.table.grid.cells (λ (cell : TableCell). cell.place) in
     let cells = c.cells-c-end.ensures.value in
     let grid = c.grid.ensures in
     let end = rw (cells, grid) at c.loop-c.auto.c-end in
