@@ -37,7 +37,7 @@ fn counts(boxes: &[BoxNode], place: usize) -> bool
 }
 
 /// The place of the parent of the box at a place.
-fn box_parent(boxes: &[BoxNode], place: usize) -> usize
+pub fn box_parent(boxes: &[BoxNode], place: usize) -> usize
     requires { place < length boxes.now }
     ensures { result ≡ box_parent boxes.now place }
 {

@@ -84,7 +84,7 @@ fn take_note(
 }
 
 /// Gives an id its latest place, and answers the one that it had.
-fn put_latest(
+pub fn put_latest(
     latest: &mut BTreeMap<u32, usize>,
     id: u32,
     place: usize,
@@ -107,7 +107,7 @@ fn latest_of(latest: &BTreeMap<u32, usize>, id: u32) -> Option<usize>
 }
 
 /// The id of the node of the box at k.
-fn id_at(boxes: &[BoxNode], k: usize) -> u32
+pub fn id_at(boxes: &[BoxNode], k: usize) -> u32
     requires { k < length boxes.now }
     ensures { result ≡ id_at boxes.now k }
 {
@@ -115,7 +115,7 @@ fn id_at(boxes: &[BoxNode], k: usize) -> u32
 }
 
 /// Whether the box at k is an inline box.
-fn is_inline_at(boxes: &[BoxNode], k: usize) -> bool
+pub fn is_inline_at(boxes: &[BoxNode], k: usize) -> bool
     requires { k < length boxes.now }
     ensures { result ≡ is_inline_at boxes.now k }
 {

@@ -53,5 +53,7 @@ pub use laws::{
     anchors_hold_boxes, boxes_are_a_tree, boxes_are_few, boxes_lead_on, context_is_one_box,
     inner_boxes_are_leaves, kinds_say_forms, parts_are_whole,
 };
+pub use node_boxes::node_flow;
 pub use rule_laws::{inlines_are_broken, runs_are_replaced};
 pub use subtree::Subtree;
+pub use white_space::is_white;

@@ -51,7 +51,7 @@ fn form_of(is_root: bool, node: &Node, style: &Style) -> Option<Form>
 }
 
 /// Whether a node is in flow.
-fn node_flow(kind: Kind, style: &Style) -> Flow
+pub fn node_flow(kind: Kind, style: &Style) -> Flow
     ensures { result ≡ node_flow kind style.now }
 {
     match kind {

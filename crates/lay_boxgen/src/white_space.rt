@@ -7,7 +7,8 @@ ghost use Rattle.lay_boxgen.specs.WhiteSpace.{is_white_byte, is_linefeed, is_car
 use crate::facts::TextForm;
 use lay_style::WhiteSpace;
 
-fn is_white(bytes: &[u8]) -> bool
+/// Whether all bytes of a text are spaces, tabs, line feeds or carriage returns.
+pub fn is_white(bytes: &[u8]) -> bool
     ensures { result ≡ list_all is_white_byte bytes.now }
 {
     bytes

@@ -6,7 +6,7 @@ ghost use Rattle.lay_doc.specs.Tree.{IsTree};
 ghost use Rattle.lay_cascade.specs.Siblings.{IsAdjacent, AreAdjacent};
 ghost use Rattle.lay_cascade.specs.LastChildren.{AreLast};
 
-use lay_doc::{Node, parent_at};
+use lay_doc::{Node, is_text_at, parent_at};
 use lay_units::NoMemory;
 use std::alloc::Global;
 
@@ -63,11 +63,4 @@ pub fn adjacent_of(alloc: Global, nodes: &[Node]) -> Result<Vec<Option<usize>>, 
         note(nodes, &mut last, k);
     }
     Ok(adjacent)
-}
-
-fn is_text_at(nodes: &[Node], place: usize) -> bool
-    requires { place < length nodes.now }
-    ensures { result ≡ is_text_at nodes.now place }
-{
-    nodes[place].kind.is_text()
 }

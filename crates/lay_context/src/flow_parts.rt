@@ -1,19 +1,17 @@
 //! What a formatting context in block flow is placed of.
 
-ghost use Rattle.std.specs.Prelude.{◌≡◌, length};
+ghost use Rattle.std.specs.Prelude.{◌≡◌};
 ghost use Rattle.lay_line_items.specs.InlineContents.{AreContents};
 ghost use Rattle.lay_sizes.specs.SizeColumns.{sizes_at};
 ghost use Rattle.lay_flow_boxes.specs.PlaceInputs.{HeightRuleFits, PlaceInputFits, height_rule_of};
 
-use crate::own_heights::height_rule_of;
 use crate::shared_pieces::SharedPieces;
 use lay_box_tree::ContextBoxes;
 use lay_face::Face;
 use lay_flow::blocks::HeightRule;
-use lay_flow_boxes::PlaceInput;
+use lay_flow_boxes::{PlaceInput, height_rule_of, own_sizes};
 use lay_line_items::InlineContents;
 use lay_placements::{ContextSizes, OwnBoxes};
-use lay_sizes::BoxSizes;
 use std::marker::Model;
 use std::sync::Arc;
 
@@ -150,13 +148,4 @@ impl FlowParts {
         let input = PlaceInput::new(self.boxes, self.sizes, self.inner, pieces, self.face);
         input.with_own_height(own_height).with_contents(contents)
     }
-}
-
-/// The used sizes of the own box.
-fn own_sizes(boxes: &ContextBoxes, sizes: &ContextSizes) -> BoxSizes
-    requires { length sizes.now ≡ length boxes.now }
-    ensures { result ≡ sizes_at sizes.now 0 }
-{
-    let _ = boxes.as_slice();
-    sizes.as_slice()[0]
 }

@@ -116,7 +116,7 @@ fn laid_styled(
 }
 
 /// The viewport as the root's containing block.
-fn viewport_of(doc: &Doc) -> ContainingBlock
+pub fn viewport_of(doc: &Doc) -> ContainingBlock
     ensures value { result ≡ viewport_of doc.now }
     ensures fits { ViewportFits result }
 {

@@ -50,7 +50,7 @@ pub use laws::{
     measured_where_shrunk, measuring_all_changes_no_tree, needs_come_first, one_local,
     one_page_corners, one_solution,
 };
-pub use layout::{last_scratch, scratch};
+pub use layout::{last_scratch, scratch, viewport_of};
 pub use measure_parts::MeasureParts;
 pub use measured::{is_measured, measured_flags};
 pub use medium::Medium;

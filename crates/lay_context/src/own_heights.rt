@@ -8,6 +8,7 @@ ghost use Rattle.lay_context.specs.OwnHeights.{height_rule_as, own_height_rule};
 use lay_box_tree::{BoxKind, ContextBoxes};
 use lay_context_sizes::SizedContext;
 use lay_flow::blocks::HeightRule;
+use lay_flow_boxes::height_rule_of;
 use lay_sizes::BoxSizes;
 use lay_units::{Len, Unit};
 
@@ -43,14 +44,3 @@ const AS_HIGH_AS_CONTENT: HeightRule = HeightRule {
     min: Unit(0),
     max: None,
 };
-
-/// What is given of the height of a box of these used sizes.
-pub(crate) fn height_rule_of(sizes: BoxSizes) -> HeightRule
-    ensures { result ≡ height_rule_of sizes }
-{
-    HeightRule {
-        given: sizes.height,
-        min: sizes.min_height,
-        max: sizes.max_height,
-    }
-}

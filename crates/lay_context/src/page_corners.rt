@@ -1,7 +1,6 @@
 //! Where formatting contexts stand on the page.
 
-ghost use Rattle.std.specs.Prelude.{◌≡◌, ◌<◌, ◌≤◌, ◌+ℤ◌, length, IfOk};
-ghost use Rattle.lay_units.specs.Units.{IsNear};
+ghost use Rattle.std.specs.Prelude.{◌≡◌, ◌<◌, ◌≤◌, length, IfOk};
 ghost use Rattle.lay_placements.specs.Corners.{AreNearCorners, IsCornerNear, corner_at};
 ghost use Rattle.lay_placements.specs.Standings.{AreNearStandings, IsStandingNear, standing_at};
 ghost use Rattle.lay_context.specs.PageCorners.{ArePageStandings, HasPageCorners, beside, flow_standing, inner_corner, lowered};
@@ -12,7 +11,7 @@ use crate::laid_contexts::LaidContexts;
 use crate::page_standings::noted_standing;
 use crate::placed_context::PlacedContext;
 use crate::values::Values;
-use lay_placements::{Corner, Standing, near_position};
+use lay_placements::{Corner, Standing, near_sum};
 use lay_positioned::is_absolute;
 use lay_units::{NoMemory, Unit};
 use std::alloc::Global;
@@ -136,8 +135,8 @@ fn beside(outer: Corner, inner: Corner) -> Result<Corner, NoMemory>
     ensures near { IfOk result IsCornerNear }
 {
     Ok(Corner {
-        x: position_sum(outer.x, inner.x)?,
-        y: position_sum(outer.y, inner.y)?,
+        x: near_sum(outer.x, inner.x)?,
+        y: near_sum(outer.y, inner.y)?,
     })
 }
 
@@ -147,20 +146,8 @@ fn lowered(shift: Unit, corner: Corner) -> Result<Corner, NoMemory>
 {
     Ok(Corner {
         x: corner.x,
-        y: position_sum(corner.y, shift)?,
+        y: near_sum(corner.y, shift)?,
     })
-}
-
-/// The sum of two positions. NoMemory is the answer where it is more than 2^60 units from 0, which it is in no
-/// document within the limits.
-fn position_sum(a: Unit, b: Unit) -> Result<Unit, NoMemory>
-    ensures sum { IfOk result (λ v. v ≡ record { 0 = a.0 +ℤ b.0 }) }
-    ensures near { IfOk result (λ v. IsNear v.0) }
-{
-    match a.0.checked_add(b.0) {
-        Some(sum) => near_position(Unit(sum)),
-        None => Err(NoMemory),
-    }
 }
 
 pub(crate) fn corner_at(corners: &[Corner], i: usize) -> Corner

@@ -470,7 +470,7 @@ impl Doc {
 }
 
 /// The first fault of a document's root.
-fn root_fault(root: &NewNode) -> Option<EditFault>
+pub fn root_fault(root: &NewNode) -> Option<EditFault>
     ensures { result ≡ root_fault root.now }
 {
     if !root.kind().is_element() {

@@ -126,7 +126,7 @@ impl IdIndex {
 }
 
 /// Whether an id is one of 1, 2, 3 and so on up to `last`.
-fn is_up_to(id: u32, last: usize) -> bool
+pub fn is_up_to(id: u32, last: usize) -> bool
     ensures { result ≡ is_up_to id last }
 {
     0 < id && id as usize <= last
@@ -147,7 +147,7 @@ fn kept_id(nodes: &[Node], from: usize, to: usize, k: usize) -> u32
 }
 
 /// Gives an id that has none a number.
-fn add_number(numbers: &mut BTreeMap<u32, usize>, id: u32, number: usize) -> Result<(), NoMemory>
+pub fn add_number(numbers: &mut BTreeMap<u32, usize>, id: u32, number: usize) -> Result<(), NoMemory>
     ensures ok { OnOk result ((x : ℕ) → get nat_cmp numbers.new x ≡ (if x == id then Some number else get nat_cmp numbers.old x)) }
     ensures err { OnErr result (numbers.new.entries ≡ numbers.old.entries) }
 {

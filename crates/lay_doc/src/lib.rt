@@ -19,9 +19,10 @@ mod node_ref;
 mod placing;
 mod removal;
 
-pub use columns::{is_element_at, parent_at};
-pub use doc::{Doc, NewFault};
+pub use columns::{is_element_at, is_text_at, parent_at};
+pub use doc::{Doc, NewFault, root_fault};
 pub use edit::{BadDeclaration, Edit, EditFault};
+pub use index::{add_number, is_up_to};
 pub use laws::{edits_leave_documents, has_subtree, one_slot, one_style_column};
 pub use node::{Kind, NewNode, Node, NodeId};
 pub use node_ref::NodeRef;

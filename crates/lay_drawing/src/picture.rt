@@ -14,7 +14,7 @@ use crate::label::{Label, labels_of};
 use crate::mark::Marked;
 use crate::pixels::push_px;
 use crate::style::push_style;
-use lay_frag::FragKind;
+use lay_frag::kind_word;
 use lay_units::{NoMemory, Text};
 use std::alloc::Global;
 use std::fmt::Write;
@@ -178,7 +178,7 @@ fn push_class(text: &mut String, piece: &Marked) -> Result<(), NoMemory>
     ensures { OnOk result (string_bytes text.new ≡ string_bytes text.old ++ class_text piece.now) }
 {
     push(text, " class=\"")?;
-    push(text, word(piece.piece.kind))?;
+    push(text, kind_word(piece.piece.kind))?;
     push(text, piece.mark.word())?;
     push(text, "\"")?;
     Ok(())
@@ -188,7 +188,7 @@ fn push_title(text: &mut String, piece: &Marked) -> Result<(), NoMemory>
     ensures { OnOk result (string_bytes text.new ≡ string_bytes text.old ++ title_text piece.now) }
 {
     push(text, "<title>")?;
-    push(text, word(piece.piece.kind))?;
+    push(text, kind_word(piece.piece.kind))?;
     push(text, " ")?;
     push_number(text, piece.piece.node.0)?;
     push(text, " ")?;
@@ -196,16 +196,6 @@ fn push_title(text: &mut String, piece: &Marked) -> Result<(), NoMemory>
     push(text, piece.mark.word())?;
     push(text, "</title>")?;
     Ok(())
-}
-
-fn word(kind: FragKind) -> &'static str
-    ensures { result.now ≡ kind_word kind }
-{
-    match kind {
-        FragKind::Box => "box",
-        FragKind::Line => "line",
-        FragKind::Text => "text",
-    }
 }
 
 fn push_number(text: &mut String, n: u32) -> Result<(), NoMemory>

@@ -10,6 +10,7 @@ ghost use Rattle.lay_flow_boxes.specs.Outside.{outside};
 ghost use Rattle.lay_box_tree.specs.ContextBoxes.{is_inner};
 
 use lay_box_tree::BoxNode;
+use lay_placements::sizes_at;
 use lay_sizes::{BoxSizes, OwnBox, own_box};
 use lay_style::Style;
 use lay_units::Unit;
@@ -27,13 +28,6 @@ pub(crate) fn is_inner(boxes: &[BoxNode], k: usize) -> bool
     ensures { result ≡ is_inner boxes.now k }
 {
     boxes[k].inner
-}
-
-pub(crate) fn sizes_at(sizes: &[BoxSizes], k: usize) -> BoxSizes
-    requires { k < length sizes.now }
-    ensures { result ≡ sizes_at sizes.now k }
-{
-    sizes[k]
 }
 
 pub(crate) fn length_at(column: &[Unit], k: usize) -> Unit
@@ -59,7 +53,8 @@ pub(crate) fn outside(boxes: &[BoxNode], sizes: &[BoxSizes], inner: &[OwnBox], k
     own_box(sizes_at(sizes, k), Unit(0), None)
 }
 
-pub(crate) fn own_box_at(inner: &[OwnBox], k: usize) -> OwnBox
+/// The own box of the formatting context whose box is at k.
+pub fn own_box_at(inner: &[OwnBox], k: usize) -> OwnBox
     requires { k < length inner.now }
     ensures { result ≡ own_box_at inner.now k }
 {

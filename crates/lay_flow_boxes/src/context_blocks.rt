@@ -7,8 +7,9 @@ ghost use Rattle.lay_sizes.specs.OwnBoxes.{OwnBoxFits};
 ghost use Rattle.lay_flow_boxes.specs.ContextBlocks.{content_left, left_of_box, HasLefts};
 ghost use Rattle.lay_flow_boxes.specs.NearLefts.{AreNearLefts, IsNearLeft};
 
-use crate::box_columns::{length_at, outside, sizes_at};
+use crate::box_columns::{length_at, outside};
 use crate::place_input::PlaceInput;
+use lay_placements::sizes_at;
 use lay_sizes::{BoxSizes, OwnBox};
 use lay_units::{NoMemory, Unit, sum_of};
 use std::alloc::Global;

@@ -13,7 +13,7 @@ ghost use Rattle.lay_flow_boxes.specs.LineBoxes.{IsShaping};
 ghost use Rattle.lay_flow_boxes.specs.PlaceInputs.{height_rule_of};
 ghost use Rattle.lay_flow_boxes.specs.NearLefts.{AreNearLefts, IsNearLeft};
 
-use crate::box_columns::{is_inner, length_at, own_box_at, sizes_at, style_at};
+use crate::box_columns::{is_inner, length_at, own_box_at, style_at};
 use crate::context_blocks::{content_right, inside_edge};
 use crate::inline_containers::inline_containers;
 use crate::line_boxes::{Shaping, lines_in};
@@ -23,6 +23,7 @@ use lay_floats::{Clear, Side};
 use lay_flow::blocks::{
     Across, BlockBox, FloatBox, FlowBox, FlowKind, HeightRule, LinesBox, SolidBox, Vertical,
 };
+use lay_placements::sizes_at;
 use lay_sizes::{BoxSizes, OwnBox};
 use lay_style::Float;
 use lay_units::{Len, NoMemory, Unit};
@@ -167,7 +168,8 @@ fn height_rule(input: &PlaceInput, k: usize) -> HeightRule
     height_rule_of(sizes_at(input.sizes(), k))
 }
 
-fn is_anchor(role: Role) -> bool
+/// Whether a box is the anchor of an absolutely positioned one.
+pub fn is_anchor(role: Role) -> bool
     ensures { result ≡ is_anchor role }
 {
     matches!(role, Role::Anchor)

@@ -21,8 +21,10 @@ mod shape;
 pub mod words;
 
 pub use asked_contents::{Asked, contents_of, is_any_asked};
+pub use box_columns::own_box_at;
+pub use context_shapes::is_anchor;
 pub use laws::{
     boxes_in_lines_are_items, items_are_boxes_in_lines, one_flow_shape, widths_agree_on_lines,
 };
-pub use place_input::PlaceInput;
+pub use place_input::{PlaceInput, height_rule_of, own_sizes};
 pub use shape::{FlowShape, flow_shape};

@@ -7,7 +7,7 @@ ghost use Rattle.lay_flow_boxes.specs.ContextBlocks.{content_of_box, line_contai
 ghost use Rattle.lay_flow_boxes.specs.FlowShapes.{measures_in};
 ghost use Rattle.lay_flow_boxes.specs.LineBoxes.{IsShaping};
 
-use crate::box_columns::{length_at, sizes_at};
+use crate::box_columns::length_at;
 use crate::context_blocks::{content_right, inside_edge};
 use crate::place_input::PlaceInput;
 use lay_box_tree::InlinePart;
@@ -16,6 +16,7 @@ use lay_line_measures::{
     BoxMeasures, Container, has_seen_line, line_content, line_content_of_items,
 };
 use lay_lines::content::LineContent;
+use lay_placements::sizes_at;
 use lay_space::Segment;
 use lay_units::{NoMemory, Unit};
 use std::alloc::Global;

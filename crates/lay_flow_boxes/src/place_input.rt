@@ -205,7 +205,7 @@ impl PlaceInput {
 }
 
 /// The used sizes of the own box.
-fn own_sizes(boxes: &ContextBoxes, sizes: &ContextSizes) -> BoxSizes
+pub fn own_sizes(boxes: &ContextBoxes, sizes: &ContextSizes) -> BoxSizes
     requires { length sizes.now ≡ length boxes.now }
     ensures { result ≡ sizes_at sizes.now 0 }
 {
@@ -214,7 +214,7 @@ fn own_sizes(boxes: &ContextBoxes, sizes: &ContextSizes) -> BoxSizes
 }
 
 /// What is given of the height of a box of these used sizes.
-pub(crate) fn height_rule_of(sizes: BoxSizes) -> HeightRule
+pub fn height_rule_of(sizes: BoxSizes) -> HeightRule
     ensures { result ≡ height_rule_of sizes }
 {
     HeightRule {

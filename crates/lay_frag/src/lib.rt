@@ -13,6 +13,6 @@ mod tree;
 
 pub use frag::{Frag, FragKind};
 pub use lines::text_of;
-pub use piece_line::push_frag;
-pub use placed::{Pieces, Placed};
+pub use piece_line::{kind_word, push_frag};
+pub use placed::{Pieces, Placed, further, piece_at};
 pub use tree::Tree;

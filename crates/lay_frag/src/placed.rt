@@ -118,7 +118,8 @@ impl Placed {
     }
 }
 
-fn piece_at(pieces: &[Frag], k: usize) -> Frag
+/// The piece with this number.
+pub fn piece_at(pieces: &[Frag], k: usize) -> Frag
     requires { k < length pieces.now }
     ensures { slice_get pieces.now k ≡ Some result }
 {
@@ -140,7 +141,8 @@ fn moved(frag: Frag, right: Unit, down: Unit) -> Frag
     }
 }
 
-fn further(from: Unit, by: Unit) -> Unit
+/// A position, moved by a length; both are in 1/64 px.
+pub fn further(from: Unit, by: Unit) -> Unit
     requires { IsSum (from.0 +ℤ by.0) }
     ensures { result ≡ record { 0 = from.0 +ℤ by.0 } }
 {

@@ -5,7 +5,7 @@ ghost use Rattle.std.specs.Fmt.{decimal};
 ghost use Rattle.lay_frag.specs.Lines.{kind_word};
 ghost use Rattle.lay_hit.specs.HitLines.{hit_line, piece_name};
 
-use lay_frag::{Frag, FragKind};
+use lay_frag::{Frag, kind_word};
 use lay_units::{NoMemory, Text};
 use std::alloc::Global;
 use std::fmt::Write;
@@ -26,20 +26,10 @@ pub fn hit_line(alloc: Global, seen: Option<Frag>) -> Result<Text, NoMemory>
 fn push_name(text: &mut String, frag: Frag) -> Result<(), NoMemory>
     ensures { OnOk result (string_bytes text.new ≡ string_bytes text.old ++ piece_name frag) }
 {
-    text.push_str(word(frag.kind))?;
+    text.push_str(kind_word(frag.kind))?;
     push_count(text, frag.node.0)?;
     push_count(text, frag.part)?;
     Ok(())
-}
-
-fn word(kind: FragKind) -> &'static str
-    ensures { result.now ≡ kind_word kind }
-{
-    match kind {
-        FragKind::Box => "box",
-        FragKind::Line => "line",
-        FragKind::Text => "text",
-    }
 }
 
 fn push_count(text: &mut String, n: u32) -> Result<(), NoMemory>

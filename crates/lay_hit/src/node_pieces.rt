@@ -1,9 +1,9 @@
 //! Of each node a piece or none.
 
-ghost use Rattle.std.specs.Prelude.{◌≡◌, ◌<◌, Some, None, is_some, length, replicate, slice_get};
+ghost use Rattle.std.specs.Prelude.{◌≡◌, ◌<◌, Some, None, is_some, length, replicate};
 ghost use Rattle.std.specs.Prelude.{slice_index, slice_index_or, slice_set, IfOk, OnOk};
 
-use lay_frag::Frag;
+use lay_frag::{Frag, piece_at};
 use lay_units::NoMemory;
 use std::alloc::Global;
 use std::marker::Model;
@@ -79,11 +79,4 @@ fn number_at(numbers: &[usize], place: usize) -> usize
     ensures { result ≡ slice_index numbers.now place }
 {
     numbers[place]
-}
-
-fn piece_at(pieces: &[Frag], k: usize) -> Frag
-    requires { k < length pieces.now }
-    ensures { slice_get pieces.now k ≡ Some result }
-{
-    pieces[k]
 }

@@ -1,12 +1,12 @@
 //! Points, and which pieces hold them.
 
-ghost use Rattle.std.specs.Prelude.{◌≡◌, ◌<◌, ◌+ℤ◌, Some, length, slice_get, IfSome};
-ghost use Rattle.lay_units.specs.Units.{IsPosition, IsSum};
+ghost use Rattle.std.specs.Prelude.{◌≡◌, ◌<◌, Some, length, slice_get, IfSome};
+ghost use Rattle.lay_units.specs.Units.{IsPosition};
 ghost use Rattle.lay_frag.specs.Pieces.{page_pieces, moved, IsContextInRange, IsRectInRange};
 ghost use Rattle.lay_hit.specs.Hits.{holds, is_from, is_in};
 ghost use Rattle.lay_hit.specs.MovedPieces.{AreMoved};
 
-use lay_frag::{Frag, Placed};
+use lay_frag::{Frag, Placed, further};
 use lay_units::{Rect, Unit};
 
 /// A point of the page, in 64ths of a px from its left and its top.
@@ -82,11 +82,4 @@ fn piece_at(pieces: &[Frag], k: usize) -> &Frag
     ensures { slice_get pieces.now k ≡ Some result.now }
 {
     &pieces[k]
-}
-
-fn further(from: Unit, by: Unit) -> Unit
-    requires { IsSum (from.0 +ℤ by.0) }
-    ensures { result ≡ record { 0 = from.0 +ℤ by.0 } }
-{
-    Unit(from.0 + by.0)
 }

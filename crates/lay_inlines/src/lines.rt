@@ -14,7 +14,7 @@ use crate::line::{Line, Sheet};
 use crate::line_piece::{LinePiece, LinePieceList};
 use crate::open_boxes::pass;
 use crate::slices::{back, front};
-use lay_lines::Ended;
+use lay_lines::{Ended, next_frame};
 use lay_lines::content::{Frame, InlineArea, LineContent, Stretch};
 use lay_units::{NoMemory, Unit};
 use std::alloc::Global;
@@ -63,7 +63,7 @@ pub fn line_pieces(alloc: Global, lines: &LinesGeometry) -> Result<LinePieceList
         let taken = front(rest, row.reach.count);
         put_row(&mut sheet, &mut pieces, &open_boxes, &line, taken)?;
         pass_row(&mut open_boxes, lines.content.has_boxes(), taken)?;
-        frame = next_frame(frame, row.seen);
+        frame = next_frame(&frame, row.seen);
         rest = back(rest, row.reach.count);
     }
     Ok(LinePieceList::new(pieces))
@@ -110,18 +110,5 @@ fn first_frame(lines: &LinesGeometry) -> Frame
         strut: lines.content.strut(),
         indent: lines.content.indent(),
         tab: lines.content.tab(),
-    }
-}
-
-/// What the line after one has from its container.
-fn next_frame(frame: Frame, seen: bool) -> Frame
-    ensures { result ≡ next_frame frame seen }
-{
-    Frame {
-        left: frame.left,
-        right: frame.right,
-        strut: frame.strut,
-        indent: if seen { Unit(0) } else { frame.indent },
-        tab: frame.tab,
     }
 }

@@ -35,7 +35,8 @@ impl<'a> Rest<'a> {
     }
 }
 
-fn next_frame(frame: &Frame, seen: bool) -> Frame
+/// The frame of the next line: once a line was seen, none is indented (CSS 2.2, 16.1).
+pub fn next_frame(frame: &Frame, seen: bool) -> Frame
     ensures { result ≡ next_frame frame.now seen }
 {
     Frame {

@@ -13,9 +13,8 @@ ghost use Rattle.lay_placement.specs.Counts.{HaveCounts};
 ghost use Rattle.lay_placement.specs.StaticPositions.{anchor_line, line_top};
 
 use crate::context_places::{BoxPlaces, rows_at};
-use crate::standings::is_anchor;
 use lay_box_tree::{BoxKind, BoxNode, ContextBoxes, inline_parts};
-use lay_flow_boxes::PlaceInput;
+use lay_flow_boxes::{PlaceInput, is_anchor};
 use lay_line_items::inline_segments;
 use lay_lines::Ended;
 use lay_space::{Item, Segment};

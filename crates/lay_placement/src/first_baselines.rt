@@ -7,10 +7,10 @@ ghost use Rattle.lay_placement.specs.Baselines.{is_of_cell, is_solid, is_table_i
 ghost use Rattle.lay_placement.specs.Counts.{HaveCounts};
 
 use crate::baselines::{baseline_below, baseline_of};
-use crate::columns::{own_box_at, place_at};
+use crate::columns::place_at;
 use crate::context_places::{BoxPlaces, rows_at};
 use lay_box_tree::{Role, is_cell, is_wrapper};
-use lay_flow_boxes::PlaceInput;
+use lay_flow_boxes::{PlaceInput, own_box_at};
 use lay_lines::Ended;
 use lay_units::{NoMemory, Unit};
 

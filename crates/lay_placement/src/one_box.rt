@@ -10,12 +10,11 @@ ghost use Rattle.lay_flow_boxes.specs.PlaceInputs.{HeightRuleFits};
 ghost use Rattle.lay_placement.specs.ContextPlacements.{IsPlacement};
 ghost use Rattle.lay_placement.specs.OneBox.{empty_block, empty_height, only_piece, only_standing};
 
-use crate::columns::sizes_at;
 use lay_box_tree::BoxNode;
 use lay_flow::blocks::{Block, HeightRule, Inside, Near, StandingBlock};
 use lay_flow_boxes::PlaceInput;
 use lay_frag::{Frag, FragKind, Pieces};
-use lay_placements::{Corner, Placement, Standing};
+use lay_placements::{Corner, Placement, Standing, sizes_at};
 use lay_sizes::{BoxSizes, OwnBox, own_box};
 use lay_units::{NoMemory, Rect, Unit};
 use std::alloc::Global;

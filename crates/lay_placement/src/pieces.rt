@@ -14,16 +14,15 @@ ghost use Rattle.lay_placement.specs.ContextPieces.{moved_rect, piece_as, piece_
 ghost use Rattle.lay_placement.specs.ContextPieces.{pieces_on_line, pieces_to, spliced_at};
 ghost use Rattle.lay_placement.specs.Paintings.{IsPainting};
 
-use crate::columns::{own_box_at, sizes_at};
 use crate::context_places::{BoxPlaces, move_of};
 use crate::on_lines::on_lines_at;
 use lay_abspos::relative::Offset;
 use lay_box_tree::BoxNode;
 use lay_doc::NodeId;
-use lay_flow_boxes::PlaceInput;
+use lay_flow_boxes::{PlaceInput, own_box_at};
 use lay_frag::{Frag, FragKind};
 use lay_inlines::{LinePiece, LinePieceKind, LinePieceList};
-use lay_placements::{PieceList, Standing, near_position};
+use lay_placements::{PieceList, Standing, near_position, sizes_at};
 use lay_sizes::border_width;
 use lay_units::{NoMemory, Rect, Unit, sum_of};
 use std::alloc::Global;

@@ -4,7 +4,7 @@ ghost use Rattle.std.specs.Prelude.{IfOk};
 ghost use Rattle.lay_placement.specs.ContextPlacements.{IsPlacement};
 
 use crate::baselines::own_baseline;
-use crate::columns::{place_at, sizes_at};
+use crate::columns::place_at;
 use crate::context_places::context_places;
 use crate::on_lines::on_lines_of;
 use crate::one_box::placement_of_one;
@@ -12,7 +12,7 @@ use crate::pieces::{Painting, pieces_of};
 use crate::standings::standings_of;
 use lay_flow_boxes::PlaceInput;
 use lay_frag::Pieces;
-use lay_placements::Placement;
+use lay_placements::{Placement, sizes_at};
 use lay_sizes::own_box;
 use lay_units::NoMemory;
 use std::alloc::Global;

@@ -14,14 +14,13 @@ ghost use Rattle.lay_placement.specs.Restings.{IsResting};
 ghost use Rattle.lay_placement.specs.StaticPositions.{static_position};
 
 use crate::anchor_lines::anchor_lines;
-use crate::columns::{length_at, own_box_at, place_at, sizes_at};
+use crate::columns::{length_at, place_at};
 use crate::context_places::{BoxPlaces, move_of};
 use crate::corners::{corner_in_flow, corners_of};
 use lay_abspos::relative::Offset;
-use lay_box_tree::Role;
-use lay_flow_boxes::PlaceInput;
+use lay_flow_boxes::{PlaceInput, is_anchor, own_box_at};
 use lay_inlines::LinePieceList;
-use lay_placements::{Corner, Standing, near_corner};
+use lay_placements::{Corner, Standing, near_corner, sizes_at};
 use lay_units::{NoMemory, Unit, sum_of};
 use std::alloc::Global;
 
@@ -164,11 +163,4 @@ fn border_height(input: &PlaceInput, places: &BoxPlaces, k: usize) -> Unit
         return own_box_at(input.inner(), k).height;
     }
     place_at(places.places.boxes(), k).height
-}
-
-/// Whether a box of this role is an anchor.
-pub(crate) fn is_anchor(role: Role) -> bool
-    ensures { result ≡ is_anchor role }
-{
-    matches!(role, Role::Anchor)
 }

@@ -48,7 +48,8 @@ fn height_holder(boxes: &ContextBoxes, c: usize) -> usize
     c
 }
 
-fn sizes_at(sizes: &[BoxSizes], k: usize) -> BoxSizes
+/// The used sizes of the box at k.
+pub fn sizes_at(sizes: &[BoxSizes], k: usize) -> BoxSizes
     requires { k < length sizes.now }
     ensures { result ≡ sizes_at sizes.now k }
 {

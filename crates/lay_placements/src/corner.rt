@@ -1,6 +1,6 @@
 //! Corners of boxes.
 
-ghost use Rattle.std.specs.Prelude.{◌≡◌, IfErr, IfOk};
+ghost use Rattle.std.specs.Prelude.{◌≡◌, ◌+ℤ◌, IfErr, IfOk};
 ghost use Rattle.lay_units.specs.Units.{IsNear};
 ghost use Rattle.lay_placements.specs.Corners.{IsCornerNear};
 
@@ -37,4 +37,15 @@ pub fn near_position(v: Unit) -> Result<Unit, NoMemory>
         return Err(NoMemory);
     }
     Ok(v)
+}
+
+/// The sum of two lengths, in 1/64 px. NoMemory is the answer where it is more than 2^60 units from 0.
+pub fn near_sum(a: Unit, b: Unit) -> Result<Unit, NoMemory>
+    ensures value { IfOk result (λ u. u ≡ record { 0 = a.0 +ℤ b.0 }) }
+    ensures near { IfOk result (λ u. IsNear u.0) }
+{
+    match a.0.checked_add(b.0) {
+        Some(sum) => near_position(Unit(sum)),
+        None => Err(NoMemory),
+    }
 }

@@ -18,9 +18,9 @@ mod placements;
 mod splicing;
 mod standing;
 
-pub use containing::{block_around, block_in};
+pub use containing::{block_around, block_in, sizes_at};
 pub use context_sizes::ContextSizes;
-pub use corner::{Corner, near_corner, near_position};
+pub use corner::{Corner, near_corner, near_position, near_sum};
 pub use inner_pieces::InnerPieces;
 pub use node_counts::Counts;
 pub use own_boxes::OwnBoxes;

@@ -12,8 +12,8 @@ use crate::layouts::{Layouts, step};
 use crate::padding_boxes::padding_box;
 use crate::rects::seen_from;
 use lay_contexts::FormattingContexts;
-use lay_sizes::ContainingBlock;
-use lay_units::{Len, NoMemory, Rect, Unit};
+use lay_sizes::{ContainingBlock, or_zero};
+use lay_units::{NoMemory, Rect, Unit};
 
 /// Where an anchor stands: the number of its formatting context, and its place there.
 #[derive(Clone, Copy)]
@@ -71,14 +71,5 @@ pub(crate) fn viewport_rect(viewport: ContainingBlock) -> Rect
         y: Unit(0),
         w: viewport.width,
         h: or_zero(viewport.height),
-    }
-}
-
-fn or_zero(length: Len) -> Unit
-    ensures { result ≡ or_zero length }
-{
-    match length {
-        Len::Auto => Unit(0),
-        Len::Of(length) => length,
     }
 }

@@ -5,7 +5,7 @@ ghost use Rattle.lay_style.specs.Positions.{is_positioned};
 ghost use Rattle.lay_box_tree.specs.Containers.{box_parent};
 ghost use Rattle.lay_positioned.specs.Holders.{IsHolderFor, IsNearestHolder, can_hold, is_holder, is_holder_at};
 
-use lay_box_tree::{BoxKind, BoxNode, ContextBoxes};
+use lay_box_tree::{BoxKind, BoxNode, ContextBoxes, box_parent};
 use lay_style::Position;
 
 /// The one that counts for a box at k, if there is one among these boxes.
@@ -29,20 +29,13 @@ fn nearest_holder(boxes: &ContextBoxes, k: usize) -> Option<usize>
     let nodes = boxes.as_slice();
     let mut at = k;
     while at > 0 {
-        let parent = parent_at(nodes, at);
+        let parent = box_parent(nodes, at);
         if is_holder_at(nodes, parent) {
             return Some(parent);
         }
         at = parent;
     }
     None
-}
-
-fn parent_at(boxes: &[BoxNode], k: usize) -> usize
-    requires { k < length boxes.now }
-    ensures { result ≡ box_parent boxes.now k }
-{
-    boxes[k].parent as usize
 }
 
 fn is_holder_at(boxes: &[BoxNode], k: usize) -> bool

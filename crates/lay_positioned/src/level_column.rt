@@ -52,7 +52,8 @@ pub fn level_count(levels: &[usize]) -> usize
     count
 }
 
-fn one_if(holds: bool) -> usize
+/// 1 where it holds, and 0 elsewhere.
+pub fn one_if(holds: bool) -> usize
     ensures value { result ≡ one_if holds }
     ensures few { result ≤ 1 }
 {

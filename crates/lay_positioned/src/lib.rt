@@ -23,5 +23,5 @@ pub use laws::{
     settings_are_values, settings_come_of_ways, ways_lead_down, ways_lead_out,
 };
 pub use layouts::Layouts;
-pub use level_column::{level_count, levels};
+pub use level_column::{level_count, levels, one_if};
 pub use settings::setting;

@@ -1,6 +1,6 @@
 //! The levels of contexts.
 
-ghost use Rattle.std.specs.Prelude.{◌≡◌, ◌<◌, ◌≤◌, ◌++◌, ◌∷◌, [], IfOk, OnOk, ℕ, length, map, slice_index, slice_index_or, slice_set};
+ghost use Rattle.std.specs.Prelude.{◌≡◌, ◌<◌, ◌++◌, ◌∷◌, [], IfOk, OnOk, ℕ, length, map, slice_index, slice_index_or, slice_set};
 ghost use Rattle.std.specs.List.{range_with_len};
 ghost use Rattle.lay_positioned.specs.Levels.{one_if};
 ghost use Rattle.lay_shape.specs.Building.{AreByLevel, levels_of};
@@ -9,6 +9,7 @@ ghost use Rattle.lay_shape.specs.Levels.{level_of};
 use crate::numbers::Numbers;
 use crate::ways::is_absolute;
 use lay_contexts::Contexts;
+use lay_positioned::one_if;
 use lay_units::NoMemory;
 use std::alloc::Global;
 
@@ -44,16 +45,6 @@ fn level_at(levels: &[usize], i: usize) -> usize
     ensures { result ≡ slice_index levels.now i }
 {
     levels[i]
-}
-
-fn one_if(holds: bool) -> usize
-    ensures value { result ≡ one_if holds }
-    ensures few { result ≤ 1 }
-{
-    if holds {
-        return 1;
-    }
-    0
 }
 
 /// For each level that there can be the numbers of the contexts that have it, in order.

@@ -29,5 +29,5 @@ pub use laws::{
     cells_are_of_contexts, cells_have_a_shape, cells_stand_once, contexts_are_of_own_nodes,
     needs_stand_before, ways_are_lists,
 };
-pub use needs::needs_of;
+pub use needs::{key_of, needs_of, node_of};
 pub use order::cells_of;

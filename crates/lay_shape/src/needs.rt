@@ -15,7 +15,7 @@ use lay_units::NoMemory;
 use std::alloc::Global;
 
 /// The node of the context with this number.
-pub(crate) fn node_of(contexts: &Contexts, i: usize) -> NodeId
+pub fn node_of(contexts: &Contexts, i: usize) -> NodeId
     requires { i < length contexts.now }
     ensures { result ≡ node_of contexts.now i }
 {
@@ -23,7 +23,7 @@ pub(crate) fn node_of(contexts: &Contexts, i: usize) -> NodeId
 }
 
 /// The key of a cell.
-pub(crate) fn key_of(contexts: &Contexts, cell: ContextPhase) -> CellKey
+pub fn key_of(contexts: &Contexts, cell: ContextPhase) -> CellKey
     requires { cell.context < length contexts.now }
     ensures { result ≡ key_of contexts.now cell }
 {

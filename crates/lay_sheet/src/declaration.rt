@@ -9,10 +9,10 @@ ghost use Rattle.lay_sheet.specs.Declarations.{before_exclamation, before_import
 ghost use Rattle.lay_sheet.specs.Declarations.{named, weighed, declared, declaration_of, AreDeclarations};
 ghost use Rattle.lay_sheet.specs.Pieces.{block_to, behind_block};
 
-use crate::pieces::{behind_first, split_before, split_part, trimmed};
+use crate::pieces::{behind_first, split_before, split_part};
 use lay_style::Decl;
 use lay_units::NoMemory;
-use lay_values::{read, read_bytes};
+use lay_values::{read, read_bytes, trimmed};
 use std::alloc::Global;
 use std::str::from_utf8;
 

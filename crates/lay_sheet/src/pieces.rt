@@ -2,17 +2,9 @@
 
 ghost use Rattle.std.specs.Prelude.{◌≡◌, ◌<◌, ◌≤◌, [], true, false, length, drop};
 ghost use Rattle.lay_values.specs.Numbers.{leading, behind};
-ghost use Rattle.lay_values.specs.Reading.{trimmed};
 ghost use Rattle.lay_sheet.specs.Pieces.{is_other, block_to, behind_block, behind_at_rule, part_to, behind_part};
 
 use memchr::memchr3;
-
-/// A text without the white space at both its ends.
-pub(crate) fn trimmed(text: &[u8]) -> &[u8]
-    ensures { result.now ≡ trimmed text.now }
-{
-    text.trim_ascii_start().trim_ascii_end()
-}
 
 /// What stands behind the first byte of a text.
 pub(crate) fn behind_first(text: &[u8]) -> &[u8]

@@ -7,9 +7,10 @@ ghost use Rattle.lay_sheet.specs.SelectorTexts.{is_name_start, is_name_part, beg
 ghost use Rattle.lay_sheet.specs.SelectorTexts.{begins_compound, simple_of, behind_simple, begins_with_space, joint_of};
 ghost use Rattle.lay_sheet.specs.SelectorTexts.{behind_sign, behind_joint, AreSteps, IsSelectorText, AreSelectors};
 
-use crate::pieces::{behind_first, split_before, trimmed};
+use crate::pieces::{behind_first, split_before};
 use crate::selector::{Joint, Name, Selector, Simple, Step};
 use lay_units::NoMemory;
+use lay_values::{trimmed, without_front};
 use std::alloc::Global;
 
 fn is_name_start(byte: u8) -> bool
@@ -124,13 +125,6 @@ fn behind_simple(text: &[u8]) -> &[u8]
         [b'*', rest @ ..] => rest,
         [_, rest @ ..] => split_name(rest).1,
     }
-}
-
-fn without_front(text: &[u8]) -> &[u8]
-    ensures rest { result.now ≡ without_front text.now }
-    ensures shorter { length result.now ≤ length text.now }
-{
-    text.trim_ascii_start()
 }
 
 fn begins_with_space(text: &[u8]) -> bool

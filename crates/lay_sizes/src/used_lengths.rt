@@ -83,7 +83,8 @@ pub fn used_vertical_margin(containing: Unit, margin: LengthPercentageOrAuto) ->
     or_zero(used_margin(containing, margin))
 }
 
-pub(crate) fn or_zero(length: Len) -> Unit
+/// A length, and 0 for `auto`.
+pub fn or_zero(length: Len) -> Unit
     ensures { result ≡ or_zero length }
 {
     match length {

@@ -35,7 +35,6 @@ pub use cell_align::CellAlign;
 pub use cells::{cell_of, own_box_at, sizes_at, table_sizes};
 pub use groups::OuterGroups;
 pub use laws::one_table_placement;
-pub use near::near_sum;
 pub use pieces::Extent;
 pub use placing::table_placement;
 pub use row_heights::{TableRows, cell_height, table_content, table_rows};

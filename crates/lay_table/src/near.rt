@@ -1,21 +1,10 @@
 //! Sums of lengths.
 
-ghost use Rattle.std.specs.Prelude.{◌≡◌, ◌+ℤ◌, ◌-ℤ◌, ◌*ℤ◌, pos, IfOk};
+ghost use Rattle.std.specs.Prelude.{◌≡◌, ◌-ℤ◌, ◌*ℤ◌, pos, IfOk};
 ghost use Rattle.lay_units.specs.Units.{IsNear};
 
 use lay_placements::near_position;
 use lay_units::{NoMemory, Unit};
-
-/// The sum of two lengths, in 1/64 px. NoMemory is the answer where it is more than 2^60 units from 0.
-pub fn near_sum(a: Unit, b: Unit) -> Result<Unit, NoMemory>
-    ensures value { IfOk result (λ u. u ≡ record { 0 = a.0 +ℤ b.0 }) }
-    ensures near { IfOk result (λ u. IsNear u.0) }
-{
-    match a.0.checked_add(b.0) {
-        Some(sum) => near_position(Unit(sum)),
-        None => Err(NoMemory),
-    }
-}
 
 /// The same for a difference.
 pub(crate) fn near_difference(a: Unit, b: Unit) -> Result<Unit, NoMemory>

@@ -10,13 +10,12 @@ ghost use Rattle.lay_table.specs.TableStandings.{HasTablePlaces, column_spacing,
 
 use crate::captions::Captions;
 use crate::cells::table_sizes;
-use crate::near::near_sum;
 use crate::row_heights::{TableRows, table_rows};
 use crate::table_input::TableInput;
 use crate::tracks::Tracks;
 use crate::wrapper_flow::wrapper_flow;
 use lay_flow::blocks::{BoxPlace, FlowPlaces};
-use lay_placements::Corner;
+use lay_placements::{Corner, near_sum};
 use lay_table_grid::TableGrid;
 use lay_units::{NoMemory, Unit};
 use std::alloc::Global;

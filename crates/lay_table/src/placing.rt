@@ -8,7 +8,6 @@ ghost use Rattle.lay_table.specs.PlaceBounds.{PlacesFit};
 ghost use Rattle.lay_table.specs.TablePlacements.{IsTablePlacement, first_baseline};
 
 use crate::captions::captions_of;
-use crate::near::near_sum;
 use crate::pieces::pieces_of;
 use crate::places::{TablePlaces, place_at, table_places};
 use crate::shifts::row_baseline;
@@ -16,7 +15,7 @@ use crate::standings::standings_of;
 use crate::table_input::TableInput;
 use crate::wrapper_flow::wrapper_sizes;
 use lay_frag::Pieces;
-use lay_placements::Placement;
+use lay_placements::{Placement, near_sum};
 use lay_sizes::{OwnBox, own_box};
 use lay_units::{NoMemory, Unit};
 use std::alloc::Global;

@@ -16,15 +16,14 @@ ghost use Rattle.lay_table.specs.WrapperFlow.{places_in_wrapper};
 use crate::captions::Captions;
 use crate::cells::cell_of;
 use crate::groups::{GroupCounts, group_counts, rows_before, rows_within_box};
-use crate::near::near_sum;
 use crate::places::{TablePlaces, place_at};
 use crate::row_heights::cell_height;
 use crate::shifts::shift_of;
 use crate::table_input::TableInput;
 use crate::tracks::Tracks;
-use lay_box_tree::BoxKind;
 use lay_flow::blocks::BoxPlace;
-use lay_placements::{Corner, Standing, near_position};
+use lay_placements::{Corner, Standing, near_position, near_sum};
+use lay_table_grid::is_row_group;
 use lay_units::{NoMemory, Unit};
 use std::alloc::Global;
 
@@ -95,15 +94,6 @@ const NO_STANDING: Standing = Standing {
     height: Unit(0),
     shift: Unit(0),
 };
-
-fn is_row_group(kind: &BoxKind) -> bool
-    ensures { result ≡ is_row_group kind.now }
-{
-    matches!(
-        kind,
-        BoxKind::RowGroup | BoxKind::HeaderGroup | BoxKind::FooterGroup
-    )
-}
 
 /// The row group at k.
 fn group_standing(

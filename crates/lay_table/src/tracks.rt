@@ -6,7 +6,8 @@ ghost use Rattle.lay_flow.specs.Blocks.Lengths.{length_at};
 ghost use Rattle.lay_table.specs.Tracks.{end_of, extent_of, start_of};
 ghost use Rattle.lay_table.specs.TrackStarts.{AreStarts};
 
-use crate::near::{near_difference, near_sum};
+use crate::near::near_difference;
+use lay_placements::near_sum;
 use lay_units::{NoMemory, Unit};
 use std::alloc::Global;
 use std::marker::Model;

@@ -48,7 +48,8 @@ fn all_around(
     Ok(groups)
 }
 
-fn around_column(boxes: &[BoxNode], k: usize) -> usize
+/// Where the box around the column at k is, a column group or the table; of a column group that stands for its columns, its own place.
+pub fn around_column(boxes: &[BoxNode], k: usize) -> usize
     ensures { result ≡ around_column boxes.now k }
 {
     if is_column_group_at(boxes, k) {

@@ -8,6 +8,7 @@ ghost use Rattle.lay_table_sizes.specs.CellBounds.{cell_edges, cell_maximum, cel
 ghost use Rattle.lay_table_sizes.specs.CellBounds.{span_cell, span_cells, widths_at};
 
 use crate::lengths::size;
+use crate::table_box::style_of_box;
 use lay_box_tree::BoxNode;
 use lay_grid::automatic::SpanCell;
 use lay_measure::{NO_WIDTHS, PreferredWidths, given_or, greater, size_or_zero, sum};
@@ -89,14 +90,6 @@ fn cell_edges(borders: Sides, style: &Style) -> Result<Unit, NoMemory>
     let left = sum(borders.left, size_or_zero(style.padding.left))?;
     let right = sum(size_or_zero(style.padding.right), borders.right)?;
     sum(left, right)
-}
-
-/// The style of the box at k.
-fn style_of_box(boxes: &[BoxNode], k: usize) -> &Style
-    requires { k < length boxes.now }
-    ensures { result.now ≡ style_of_box boxes.now k }
-{
-    &boxes[k].style
 }
 
 /// The preferred widths at k.

@@ -7,7 +7,7 @@ ghost use Rattle.lay_table_sizes.specs.GroupWidths.{goes_on, group_spans, run_of
 use crate::given_widths::group_width_at;
 use lay_box_tree::BoxNode;
 use lay_grid::automatic::GroupSpan;
-use lay_table_grid::{TableGrid, is_column_group_at};
+use lay_table_grid::{TableGrid, around_column};
 use lay_units::{NoMemory, Unit};
 use std::alloc::Global;
 
@@ -96,18 +96,6 @@ fn groups_of(alloc: Global, boxes: &[BoxNode], places: &[usize]) -> Result<Vec<u
         groups.push(around_column(boxes, *place))?;
     }
     Ok(groups)
-}
-
-fn around_column(boxes: &[BoxNode], k: usize) -> usize
-    ensures { result ≡ around_column boxes.now k }
-{
-    if is_column_group_at(boxes, k) {
-        return k;
-    }
-    match boxes.get(k) {
-        Some(node) => node.parent as usize,
-        None => 0,
-    }
 }
 
 /// Whether the column before stands in this group too.

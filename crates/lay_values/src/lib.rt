@@ -15,4 +15,4 @@ mod words;
 
 pub use laws::{name_fault, one_measure, one_name, one_word};
 pub use names::property_of;
-pub use reading::{ValueFault, read, read_bytes};
+pub use reading::{ValueFault, read, read_bytes, trimmed, without_front};

@@ -1,6 +1,6 @@
 //! The text of a property's value.
 
-ghost use Rattle.std.specs.Prelude.{◌≡◌, [], true, false, IfSome, map, option_map};
+ghost use Rattle.std.specs.Prelude.{◌≡◌, ◌≤◌, [], true, false, IfSome, length, map, option_map};
 ghost use Rattle.std.specs.Str.{IsAscii, is_utf8};
 ghost use Rattle.std.specs.Char.{to_ascii_lowercase};
 ghost use Rattle.std.specs.Result.{result_ok};
@@ -26,14 +26,16 @@ pub enum ValueFault {
     NoMemory,
 }
 
-fn without_front(text: &[u8]) -> &[u8]
-    ensures { result.now ≡ without_front text.now }
+/// A text without the white space at its front.
+pub fn without_front(text: &[u8]) -> &[u8]
+    ensures rest { result.now ≡ without_front text.now }
+    ensures shorter { length result.now ≤ length text.now }
 {
     text.trim_ascii_start()
 }
 
 /// A text without the white space at both its ends.
-fn trimmed(text: &[u8]) -> &[u8]
+pub fn trimmed(text: &[u8]) -> &[u8]
     ensures rest { result.now ≡ trimmed text.now }
     ensures ascii { IsAscii result.now → IsAscii text.now }
 {

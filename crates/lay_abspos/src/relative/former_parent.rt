@@ -8,9 +8,9 @@ ghost use Rattle.lay_abspos.specs.Relative.FormerParents.{AreFormerParents, IsFo
 ghost use Rattle.lay_abspos.specs.Relative.OpenParts.{AreNextPlaces, AreOpen, GoesOn};
 ghost use Rattle.lay_abspos.specs.Relative.SubtreeEnds.{IsEnd};
 
-use crate::relative::next_place::{is_inline_at, next_places};
-use crate::relative::subtree_end::{box_parent, subtree_ends};
-use lay_box_tree::{BoxNode, BoxTree};
+use crate::relative::next_place::next_places;
+use crate::relative::subtree_end::subtree_ends;
+use lay_box_tree::{BoxNode, BoxTree, box_parent, is_inline_at};
 use lay_units::NoMemory;
 use std::alloc::Global;
 

@@ -1,7 +1,6 @@
 //! By how much the boxes of one formatting context are moved.
 
-ghost use Rattle.std.specs.Prelude.{◌≡◌, ◌<◌, ◌+ℤ◌, IsFalse, length, IfOk};
-ghost use Rattle.lay_units.specs.Units.{IsNear};
+ghost use Rattle.std.specs.Prelude.{◌≡◌, ◌<◌, IsFalse, length, IfOk};
 ghost use Rattle.lay_sizes.specs.SizeColumns.{HaveSizeBounds};
 ghost use Rattle.lay_abspos.specs.Relative.FormerParents.{AreFormerParents};
 ghost use Rattle.lay_abspos.specs.Relative.MoveBounds.{AreNearMoves, IsMoveNear};
@@ -12,13 +11,10 @@ use crate::relative::box_moves::BoxMoves;
 use crate::relative::former_parents;
 use crate::relative::offset::{NO_OFFSET, Offset, is_relative, relative_offset};
 use lay_box_tree::{ContextBoxes, Role};
-use lay_placements::block_around;
+use lay_placements::{block_around, near_sum};
 use lay_sizes::BoxSizes;
-use lay_units::{NoMemory, Unit};
+use lay_units::NoMemory;
 use std::alloc::Global;
-
-/// The greatest distance that a box is moved.
-const FAR: i64 = 1152921504606846976;
 
 /// By how much each box of a formatting context of these used sizes is moved from where it stands, from outer to inner boxes, in
 /// 1/64 px. NoMemory is also the answer where one is moved by more than 2^60 units, which it is in no document within the
@@ -156,17 +152,4 @@ fn sum_of(own: Offset, carried: Offset) -> Result<Offset, NoMemory>
     let right = near_sum(own.right, carried.right)?;
     let down = near_sum(own.down, carried.down)?;
     Ok(Offset { right, down })
-}
-
-fn near_sum(a: Unit, b: Unit) -> Result<Unit, NoMemory>
-    requires a { IsNear a.0 }
-    requires b { IsNear b.0 }
-    ensures sum { IfOk result (λ u. u ≡ record { 0 = a.0 +ℤ b.0 }) }
-    ensures near { IfOk result (λ u. IsNear u.0) }
-{
-    let sum = a.0 + b.0;
-    if sum < -FAR || sum > FAR {
-        return Err(NoMemory);
-    }
-    Ok(Unit(sum))
 }

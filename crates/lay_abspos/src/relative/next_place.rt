@@ -1,13 +1,13 @@
 //! The next part of each part of an inline box.
 
-ghost use Rattle.std.specs.Prelude.{◌≡◌, ◌≢◌, ◌<◌, ◌+◌, ℕ, Some, length, IfOk, OnOk};
+ghost use Rattle.std.specs.Prelude.{◌<◌, ◌+◌, ℕ, Some, length, IfOk, OnOk};
 ghost use Rattle.std.specs.BTreeMap.{get};
 ghost use Rattle.std.specs.Ordering.{nat_cmp};
 ghost use Rattle.lay_box_tree.specs.InlineParts.{id_at, is_inline_at};
 ghost use Rattle.lay_box_tree.specs.LatestParts.{IsLatest};
 ghost use Rattle.lay_abspos.specs.Relative.OpenParts.{AreNextPlaces, AreNextTo};
 
-use lay_box_tree::{BoxKind, BoxNode};
+use lay_box_tree::{BoxNode, id_at, is_inline_at, put_latest};
 use lay_units::NoMemory;
 use std::alloc::Global;
 use std::collections::BTreeMap;
@@ -47,36 +47,4 @@ fn note_part(
         }
         None => Ok(()),
     }
-}
-
-/// Gives an id its latest place, and answers the one that it had.
-fn put_latest(
-    latest: &mut BTreeMap<u32, usize>,
-    id: u32,
-    place: usize,
-) -> Result<Option<usize>, NoMemory>
-    ensures earlier { IfOk result (λ o. o ≡ get nat_cmp latest.old id) }
-    ensures here { OnOk result (get nat_cmp latest.new id ≡ Some place) }
-    ensures others { OnOk result ((k : ℕ) → k ≢ id → get nat_cmp latest.new k ≡ get nat_cmp latest.old k) }
-{
-    match latest.insert(id, place) {
-        Ok(earlier) => Ok(earlier),
-        Err(_) => Err(NoMemory),
-    }
-}
-
-/// The id of the node of the box at k.
-fn id_at(boxes: &[BoxNode], k: usize) -> u32
-    requires { k < length boxes.now }
-    ensures { result ≡ id_at boxes.now k }
-{
-    boxes[k].node.0
-}
-
-/// Whether the box at k is an inline box.
-pub(crate) fn is_inline_at(boxes: &[BoxNode], k: usize) -> bool
-    requires { k < length boxes.now }
-    ensures { result ≡ is_inline_at boxes.now k }
-{
-    matches!(boxes[k].kind, BoxKind::Inline)
 }

@@ -1,12 +1,12 @@
 //! The place behind each box and all that is in it.
 
-ghost use Rattle.std.specs.Prelude.{◌≡◌, ◌<◌, ◌+◌, length, IfOk};
+ghost use Rattle.std.specs.Prelude.{◌<◌, ◌+◌, length, IfOk};
 ghost use Rattle.lay_doc.specs.Tree.{IsTree};
 ghost use Rattle.lay_box_tree.specs.BoxColumns.{box_parents};
 ghost use Rattle.lay_box_tree.specs.Containers.{box_parent};
 ghost use Rattle.lay_abspos.specs.Relative.SubtreeEnds.{AreEnds, AreEndsTo};
 
-use lay_box_tree::BoxNode;
+use lay_box_tree::{BoxNode, box_parent};
 use lay_units::NoMemory;
 use std::alloc::Global;
 
@@ -36,12 +36,4 @@ fn end_at(boxes: &[BoxNode], ends: &mut [usize], k: usize)
         ends[at] = k;
         at = box_parent(boxes, at);
     }
-}
-
-/// The place of the parent of the box at a place.
-pub(crate) fn box_parent(boxes: &[BoxNode], place: usize) -> usize
-    requires { place < length boxes.now }
-    ensures { result ≡ box_parent boxes.now place }
-{
-    boxes[place].parent as usize
 }

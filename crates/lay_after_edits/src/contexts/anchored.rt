@@ -8,26 +8,14 @@ ghost use Rattle.lay_after_edits.specs.Contexts.Anchored.{FlowsAbsolutely, IsAnc
 use crate::contexts::edited_doc::EditedDoc;
 use crate::contexts::places::number_at;
 use crate::contexts::reach::Reach;
-use lay_box_tree::Flow;
-use lay_boxgen::{flow_of, is_absolute};
-use lay_doc::{Edit, Kind};
-use lay_style::Style;
+use lay_boxgen::{is_absolute, node_flow};
+use lay_doc::Edit;
 
 /// Whether an edit changes declarations.
 fn is_style_edit(edit: &Edit) -> bool
     ensures { IsTrue result → IsStyleEdit edit.now }
 {
     matches!(edit, Edit::SetStyle { .. } | Edit::ClearStyle { .. })
-}
-
-/// Whether a node is in flow, if it generates a box.
-fn node_flow(kind: Kind, style: &Style) -> Flow
-    ensures { result ≡ node_flow kind style.now }
-{
-    match kind {
-        Kind::Text => Flow::InFlow,
-        _ => flow_of(style),
-    }
 }
 
 /// Whether the node at a place, if it generates a box, is absolute or fixed.

@@ -1,20 +1,11 @@
 //! Whether a box is generated of a text before an edit and after it.
 
-ghost use Rattle.std.specs.Prelude.{◌≡◌, ◌<◌, IsTrue, length};
-ghost use Rattle.std.specs.List.{list_all};
-ghost use Rattle.lay_boxgen.specs.WhiteSpace.{is_white_byte};
+ghost use Rattle.std.specs.Prelude.{◌<◌, IsTrue, length};
 ghost use Rattle.lay_after_edits.specs.Contexts.Reach.{IsSeen, IsSeenAt, StaysSeen};
 
 use crate::contexts::edited_doc::EditedDoc;
+use lay_boxgen::is_white;
 use lay_doc::{Doc, Edit};
-
-fn is_white(bytes: &[u8]) -> bool
-    ensures { result ≡ list_all is_white_byte bytes.now }
-{
-    bytes
-        .iter()
-        .all(|byte| matches!(*byte, b' ' | b'\t' | b'\n' | b'\r'))
-}
 
 /// Whether a text has more than white space.
 pub(crate) fn is_seen(text: &str) -> bool

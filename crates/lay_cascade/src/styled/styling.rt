@@ -15,7 +15,7 @@ use crate::styled::columns::columns_of;
 use crate::styled::nodes::{Cascade, winners_at};
 use crate::styled::selector_index::index_of;
 use crate::{Named, adjacent_of, sets_of};
-use lay_doc::{Doc, Edit, Node, NodeId};
+use lay_doc::{Doc, Edit, Node, NodeId, is_text_at};
 use lay_sheet::Sheet;
 use lay_style::{Decl, Property};
 use lay_units::NoMemory;
@@ -108,14 +108,6 @@ fn take_all(
         take_winner(alloc, doc, k, winner_at(winners, i))?;
     }
     Ok(())
-}
-
-/// Whether the node at a place is a text.
-fn is_text_at(nodes: &[Node], k: usize) -> bool
-    requires { k < length nodes.now }
-    ensures { result ≡ is_text_at nodes.now k }
-{
-    nodes[k].kind.is_text()
 }
 
 /// Lets the node at a place take what is greatest for it of a sheet.

@@ -9,7 +9,7 @@ ghost use Rattle.lay_context_sizes.specs.ContextSizes.{not_sized};
 ghost use Rattle.lay_context_sizes.specs.MeasuredContexts.{not_measured};
 ghost use Rattle.lay_cell_work.specs.PresentInputs.{root_count};
 ghost use Rattle.lay_shape.specs.Dependencies.{in_phase};
-ghost use Rattle.lay_shape.specs.Keys.{AreOfOwnNodes, key_of, node_of};
+ghost use Rattle.lay_shape.specs.Keys.{AreOfOwnNodes, key_of};
 ghost use Rattle.lay_shape.specs.Shapes.{cells_of, shape_of};
 ghost use Rattle.lay_kept_cells.specs.Table.RootColumns.{IsRootOf};
 
@@ -20,8 +20,7 @@ use lay_cells::Shape;
 use lay_context::{Phase, PlacedContext, measured_flags, no_pieces, not_placed, not_sized};
 use lay_context_sizes::{MeasuredContext, SizedContext};
 use lay_contexts::{Contexts, FormattingContexts, formatting_contexts};
-use lay_doc::NodeId;
-use lay_shape::{CellKey, ContextPhase, cells_of, shape};
+use lay_shape::{CellKey, ContextPhase, cells_of, key_of, shape};
 use lay_units::NoMemory;
 use std::alloc::Global;
 use std::marker::Model;
@@ -210,23 +209,4 @@ impl CellTable {
     {
         &self.no_place
     }
-}
-
-/// The key of a cell.
-fn key_of(contexts: &Contexts, cell: ContextPhase) -> CellKey
-    requires { cell.context < length contexts.now }
-    ensures { result ≡ key_of contexts.now cell }
-{
-    CellKey {
-        node: node_of(contexts, cell.context),
-        phase: cell.phase,
-    }
-}
-
-/// The node of a context.
-fn node_of(contexts: &Contexts, c: usize) -> NodeId
-    requires { c < length contexts.now }
-    ensures { result ≡ node_of contexts.now c }
-{
-    contexts.at(c).boxes().as_slice()[0].node
 }

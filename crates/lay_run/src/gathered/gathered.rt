@@ -7,7 +7,7 @@ ghost use Rattle.lay_doc.specs.Edits.{root_fault, insert_fault, after_insert, la
 
 use crate::gathered::listing::Listing;
 use crate::gathered::walk::in_order;
-use lay_doc::{Doc, EditFault, NewFault, NewNode, NodeId};
+use lay_doc::{Doc, EditFault, NewFault, NewNode, NodeId, root_fault};
 use lay_units::NoMemory;
 use std::alloc::Global;
 use std::marker::Model;
@@ -98,17 +98,4 @@ impl Gathered {
     {
         in_order(alloc, self.width, self.height, self.listing)
     }
-}
-
-/// The first fault of a document's root.
-fn root_fault(root: &NewNode) -> Option<EditFault>
-    ensures { result ≡ root_fault root.now }
-{
-    if !root.kind().is_element() {
-        return Some(EditFault::NotElement);
-    }
-    if root.id().0 == 0 {
-        return Some(EditFault::IdTaken);
-    }
-    None
 }

@@ -1,12 +1,11 @@
 //! The numbers of listed nodes, by their ids.
 
 ghost use Rattle.std.specs.Prelude.{◌≡◌, ◌==◌, ◌≤◌, ℕ, [], None, Some, if◌then◌else◌, OnOk, OnErr};
-ghost use Rattle.std.specs.BTreeMap.{get};
-ghost use Rattle.std.specs.Ordering.{nat_cmp};
 ghost use Rattle.lay_units.specs.Limits.{most_nodes};
 ghost use Rattle.lay_doc.specs.Index.{is_up_to};
 ghost use Rattle.lay_run.specs.Gathered.Numbers.{number_of};
 
+use lay_doc::{add_number, is_up_to};
 use lay_units::NoMemory;
 use std::alloc::Global;
 use std::collections::BTreeMap;
@@ -56,23 +55,5 @@ impl Numbers {
             return Ok(());
         }
         add_number(&mut self.others, id, number)
-    }
-}
-
-/// Whether an id is one of 1, 2, 3 and so on up to `last`.
-fn is_up_to(id: u32, last: usize) -> bool
-    ensures { result ≡ is_up_to id last }
-{
-    0 < id && id as usize <= last
-}
-
-/// Gives an id that has none a number.
-fn add_number(numbers: &mut BTreeMap<u32, usize>, id: u32, number: usize) -> Result<(), NoMemory>
-    ensures ok { OnOk result ((x : ℕ) → get nat_cmp numbers.new x ≡ (if x == id then Some number else get nat_cmp numbers.old x)) }
-    ensures err { OnErr result (numbers.new.entries ≡ numbers.old.entries) }
-{
-    match numbers.insert(id, number) {
-        Ok(_) => Ok(()),
-        Err(_) => Err(NoMemory),
     }
 }

@@ -5,7 +5,8 @@ ghost use Rattle.lay_contexts.specs.Contexts.{boxes_in};
 ghost use Rattle.lay_shape.specs.Keys.{node_of};
 ghost use Rattle.lay_shape.specs.KeptShapes.KeptBoxes.{AreBoxFlags, AreOfSameNodes};
 
-use crate::kept_shapes::touched_keys::{node_of, same_context};
+use crate::kept_shapes::touched_keys::same_context;
+use crate::needs::node_of;
 use lay_contexts::Contexts;
 use lay_units::NoMemory;
 use std::alloc::Global;

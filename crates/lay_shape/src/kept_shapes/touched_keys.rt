@@ -10,6 +10,7 @@ ghost use Rattle.lay_shape.specs.KeptShapes.KeptBoxes.{KeepBoxes};
 
 use crate::CellKey;
 use crate::kept_shapes::measured_list::MeasuredList;
+use crate::needs::node_of;
 use lay_context::Phase;
 use lay_contexts::Contexts;
 use lay_doc::NodeId;
@@ -127,12 +128,4 @@ fn push_key(keys: &mut Vec<CellKey>, node: NodeId, phase: Phase) -> Result<(), N
 {
     keys.push(CellKey { node, phase })?;
     Ok(())
-}
-
-/// The node of the context with this number.
-pub(crate) fn node_of(contexts: &Contexts, i: usize) -> NodeId
-    requires { i < length contexts.now }
-    ensures { result ≡ node_of contexts.now i }
-{
-    contexts.at(i).boxes().as_slice()[0].node
 }

@@ -10,7 +10,8 @@ ghost use Rattle.lay_shape.specs.Touched.TouchedKeys.{AreTouchedKeys, AreTouched
 
 use crate::CellKey;
 use crate::touched::measured_contexts::MeasuredContexts;
-use crate::touched::numbers_by_node::{node_of, number_of, numbers_by_node};
+use crate::touched::numbers_by_node::{number_of, numbers_by_node};
+use crate::needs::node_of;
 use lay_context::Phase;
 use lay_contexts::Contexts;
 use lay_doc::NodeId;

@@ -10,7 +10,7 @@ returns-then-is_holder_at-clause-holder c =
     let boxes = c.args.boxes.now in
     let at = c.loop-at.at in
     let yes : is_holder_at boxes (box_parent boxes at) ≡ true = search rules in
-    let is : c.parent_at-parent.result ≡ box_parent boxes at = search rules in
+    let is : c.box_parent-parent.result ≡ box_parent boxes at = search rules in
     rw is (c.loop-at.invariant.nearest (Some (box_parent boxes at)) (parent at (omega arith) yes))
 
 pub loop-at-preserved : goal.loop-at-preserved
@@ -18,7 +18,7 @@ loop-at-preserved c =
     let boxes = c.args.boxes.now in
     let at = c.loop-at.at in
     let no : is_holder_at boxes (box_parent boxes at) ≡ false = search rules in
-    let is : c.parent_at-parent.result ≡ box_parent boxes at = search rules in
+    let is : c.box_parent-parent.result ≡ box_parent boxes at = search rules in
     record {
       within = omega (arith, is, parent_before boxes c.as_slice-nodes.ensures.are.tree at (omega arith) c.loop-at.invariant.within);
       nearest = λ holder h. c.loop-at.invariant.nearest holder (further at holder (omega arith) no (rw is at h));
