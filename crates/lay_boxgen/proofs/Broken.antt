@@ -1,5 +1,6 @@
 -- Inline boxes are broken round each longest break, and in no other way.
 use Rattle.std.proofs.Common.{◌≡◌, Bool, true, false, ◌&&◌, not, List, [], ◌∷◌, ◌++◌, filter, refl, ap, sym, subst, ◌∙◌, if◌then◌else◌}
+use Rattle.std.proofs.lemmas.List.{append_assoc, append-nil}
 use Rattle.lay_boxgen.specs.Boxes.{Tree, tree, trees_of, facts_of}
 use Rattle.lay_boxgen.specs.BreakLaws.{HasNoBlock, IsUnseen, IsBreak, one, further, EndsBreak, nothing_follows, other, behind_unseen, IsBroken, last, break, InlinesAreBroken}
 use Rattle.lay_boxgen.specs.BrokenInlines.{is_block_box, is_unseen, is_no_text_box, parts_from}
@@ -7,7 +8,7 @@ use Rattle.lay_boxgen.specs.Forms.{is_in_flow, is_inline_level, is_text}
 use Rattle.lay_boxgen.specs.declared.facts.Facts.{Facts}
 use Rattle.lay_boxgen.specs.declared.facts.Form.{Form}
 use Rattle.lay_boxgen.specs.declared.facts.Form.TheVariants.{Text}
-use Rattle.lay_boxgen.proofs.Replaced.{assoc, no_more, seam}
+use Rattle.lay_boxgen.proofs.Replaced.{seam}
 
 text-level : (form : Form) → (b : Bool) → (b && not (is_inline_level form)) ≡ true → not (is_text form) ≡ true
 text-level (Text t) true h = cc
@@ -62,19 +63,19 @@ module _ (f : Facts) where
       → parts_from f true held (t ∷ ts) ≡ filter is_no_text_box held ++ t ∷ parts_from f true [] ts
   next_block held t ts h =
       let step : parts_from f true held (t ∷ ts) ≡ (filter is_no_text_box held ++ t ∷ []) ++ parts_from f true [] ts = simp h refl in
-      step ∙ assoc (filter is_no_text_box held) (t ∷ []) (parts_from f true [] ts)
+      step ∙ append_assoc (filter is_no_text_box held) (t ∷ []) (parts_from f true [] ts)
 
   through_held : (before held ts : List Tree) → HasNoBlock held → parts_from f false before (held ++ ts) ≡ parts_from f false (before ++ held) ts
-  through_held before [] ts n = ap (λ r. parts_from f false r ts) (sym (no_more before))
+  through_held before [] ts n = ap (λ r. parts_from f false r ts) (sym (append-nil before))
   through_held before (t ∷ held) ts n =
       skip before t (held ++ ts) n.0
-      ∙ (through_held (before ++ t ∷ []) held ts n.1 ∙ ap (λ r. parts_from f false r ts) (assoc before (t ∷ []) held))
+      ∙ (through_held (before ++ t ∷ []) held ts n.1 ∙ ap (λ r. parts_from f false r ts) (append_assoc before (t ∷ []) held))
 
   through_unseen : (before gap ts : List Tree) → IsUnseen gap → parts_from f true before (gap ++ ts) ≡ parts_from f true (before ++ gap) ts
-  through_unseen before [] ts n = ap (λ r. parts_from f true r ts) (sym (no_more before))
+  through_unseen before [] ts n = ap (λ r. parts_from f true r ts) (sym (append-nil before))
   through_unseen before (t ∷ gap) ts n =
       skip_unseen before t (gap ++ ts) n.0 n.1
-      ∙ (through_unseen (before ++ t ∷ []) gap ts n.2 ∙ ap (λ r. parts_from f true r ts) (assoc before (t ∷ []) gap))
+      ∙ (through_unseen (before ++ t ∷ []) gap ts n.2 ∙ ap (λ r. parts_from f true r ts) (append_assoc before (t ∷ []) gap))
 
   through_break : (held blocks ts : List Tree) → IsBreak blocks
       → parts_from f false held (blocks ++ ts) ≡ part_of held ∷ filter is_no_text_box blocks ++ parts_from f true [] ts
@@ -93,7 +94,7 @@ module _ (f : Facts) where
   ended held ts (behind_unseen t us h u e) = skip_unseen held t us h u ∙ (ended (held ++ t ∷ []) us e ∙ sym (skip held t us h))
 
   only : (ts us : List Tree) → IsBroken f ts us → us ≡ parts_from f false [] ts
-  only ts us (last held n) = sym (ap (parts_from f false []) (sym (no_more held)) ∙ through_held [] held [] n)
+  only ts us (last held n) = sym (ap (parts_from f false []) (sym (append-nil held)) ∙ through_held [] held [] n)
   only ts us (break held blocks xs ys n b e r) =
       ap (λ r. part_of held ∷ filter is_no_text_box blocks ++ r) (only xs ys r ∙ sym (ended [] xs e))
       ∙ sym (through_held [] held (blocks ++ xs) n ∙ through_break held blocks xs b)
@@ -128,7 +129,7 @@ module _ (f : Facts) where
       (ap (λ r. part_of held ∷ r ++ parts_from f true [] ts) (one_left t h) ∙ sym (first_block held t ts h))
       (ih.1 held (t ∷ []) [] n (one t h) tt)
   part_by t ts ih held n false h =
-      subst (λ r. IsBroken f r (parts_from f false held (t ∷ ts))) (assoc held (t ∷ []) ts)
+      subst (λ r. IsBroken f r (parts_from f false held (t ∷ ts))) (append_assoc held (t ∷ []) ts)
       (subst (IsBroken f ((held ++ t ∷ []) ++ ts)) (sym (skip held t ts h)) (ih.0 (held ++ t ∷ []) (longer_held held t n h)))
 
   break_by : (t : Tree) (ts : List Tree) → Both ts → (held blocks gap : List Tree) → HasNoBlock held → IsBreak blocks → IsUnseen gap
@@ -140,17 +141,17 @@ module _ (f : Facts) where
       (ap (λ r. part_of held ∷ r) (longer blocks gap t h (parts_from f true [] ts) ∙ ap (λ r. filter is_no_text_box blocks ++ r) (sym (next_block gap t ts h))))
       (ih.1 held (blocks ++ gap ++ t ∷ []) [] n (further blocks gap t b g h) tt))
   break_by t ts ih held blocks gap n b g false true h v =
-      subst (λ r. IsBroken f (held ++ (blocks ++ r)) (part_of held ∷ filter is_no_text_box blocks ++ parts_from f true gap (t ∷ ts))) (assoc gap (t ∷ []) ts)
+      subst (λ r. IsBroken f (held ++ (blocks ++ r)) (part_of held ∷ filter is_no_text_box blocks ++ parts_from f true gap (t ∷ ts))) (append_assoc gap (t ∷ []) ts)
       (subst (IsBroken f (held ++ (blocks ++ ((gap ++ t ∷ []) ++ ts))))
       (ap (λ r. part_of held ∷ filter is_no_text_box blocks ++ r) (sym (skip_unseen gap t ts h v)))
       (ih.1 held blocks (gap ++ t ∷ []) n b (longer_gap gap t g h v)))
   break_by t ts ih held blocks gap n b g false false h v =
       break held blocks (gap ++ t ∷ ts) (parts_from f true gap (t ∷ ts)) n b (gap_ends gap (t ∷ ts) g (other t ts h v))
-      (subst (λ r. IsBroken f r (parts_from f true gap (t ∷ ts))) (assoc gap (t ∷ []) ts)
+      (subst (λ r. IsBroken f r (parts_from f true gap (t ∷ ts))) (append_assoc gap (t ∷ []) ts)
       (subst (IsBroken f ((gap ++ t ∷ []) ++ ts)) (sym (skip_seen gap t ts h v)) (ih.0 (gap ++ t ∷ []) (longer_held gap t (held_gap gap g) h))))
 
   part_end : (held : List Tree) → HasNoBlock held → IsBroken f (held ++ []) (part_of held ∷ [])
-  part_end held n = subst (λ r. IsBroken f r (part_of held ∷ [])) (sym (no_more held)) (last held n)
+  part_end held n = subst (λ r. IsBroken f r (part_of held ∷ [])) (sym (append-nil held)) (last held n)
 
   break_end : (held blocks gap : List Tree) → HasNoBlock held → IsBreak blocks → IsUnseen gap
       → IsBroken f (held ++ (blocks ++ (gap ++ []))) (part_of held ∷ filter is_no_text_box blocks ++ part_of gap ∷ [])

@@ -2,13 +2,14 @@
 use Rattle.std.proofs.Common.{rules, ◌≡◌, Bool, true, false, not, List, [], ◌∷◌, ◌++◌, refl, ap, sym, ◌∙◌, IsTrue, Option, None, Some}
 use Rattle.std.specs.List.{list_any}
 use Rattle.std.proofs.lemmas.Bool.{and_right, or_parts}
+use Rattle.std.proofs.lemmas.List.{append_assoc, append-nil}
 use Rattle.lay_boxgen.specs.Boxes.{Tree, tree, trees_of, facts_of, in_box, remade, all_remade}
 use Rattle.lay_boxgen.specs.Forms.{is_tabular_container, is_in_flow}
 use Rattle.lay_boxgen.specs.Irrelevant.{kept_from, kept_gap, is_table_part_box, is_table_part_there, without_white_space}
 use Rattle.lay_boxgen.specs.Runs.{gathered, is_faulty_box, is_white_box}
 use Rattle.lay_boxgen.specs.declared.facts.Facts.{Facts}
 use Rattle.lay_boxgen.specs.declared.facts.Form.{Form}
-use Rattle.lay_boxgen.proofs.Replaced.{stays, assoc, no_more}
+use Rattle.lay_boxgen.proofs.Replaced.{stays}
 
 pub isnt : (a : Bool) → IsTrue (not a) → a ≡ false
 isnt true h = cc
@@ -50,16 +51,16 @@ module _ (parent : Form) (c : is_tabular_container parent ≡ false) where
       → kept_from parent before gap (t ∷ ts) ≡ gap ++ t ∷ ts
   one_more before gap t ts rest true w b p =
       let step : kept_from parent before gap (t ∷ ts) ≡ kept_from parent before (gap ++ t ∷ []) ts = simp w refl in
-      step ∙ (rest before (gap ++ t ∷ []) b ∙ assoc gap (t ∷ []) ts)
+      step ∙ (rest before (gap ++ t ∷ []) b ∙ append_assoc gap (t ∷ []) ts)
   one_more before gap t ts rest false w b p =
       let step : kept_from parent before gap (t ∷ ts) ≡ (kept_gap parent before gap (Some (facts_of t)) ++ t ∷ []) ++ kept_from parent (Some (facts_of t)) [] ts = simp w refl in
       step
       ∙ (ap (λ r. (r ++ t ∷ []) ++ kept_from parent (Some (facts_of t)) [] ts) (gap_kept parent before (Some (facts_of t)) gap c b)
       ∙ (ap (λ r. (gap ++ t ∷ []) ++ r) (rest (Some (facts_of t)) [] (and_right (is_in_flow (facts_of t).flow) (is_table_part_box t) p))
-      ∙ assoc gap (t ∷ []) ts))
+      ∙ append_assoc gap (t ∷ []) ts))
 
   all_kept : (ts : List Tree) → list_any is_table_part_box ts ≡ false → (before : Option Facts) (gap : List Tree) → is_table_part_there before ≡ false → kept_from parent before gap ts ≡ gap ++ ts
-  all_kept [] h before gap b = gap_kept parent before None gap c b ∙ sym (no_more gap)
+  all_kept [] h before gap b = gap_kept parent before None gap c b ∙ sym (append-nil gap)
   all_kept (t ∷ ts) h before gap b =
       one_more before gap t ts (all_kept ts (or_parts (is_table_part_box t) (list_any is_table_part_box ts) h).1) (is_white_box t) refl b
       (or_parts (is_table_part_box t) (list_any is_table_part_box ts) h).0

@@ -3,6 +3,7 @@ use Rattle.std.proofs.Common.{◌≡◌, Bool, true, false, ◌||◌, ◌&&◌, 
 use Rattle.std.proofs.Math.Bool.{and-false}
 use Rattle.std.specs.List.{list_any}
 use Rattle.std.proofs.lemmas.Bool.{or_parts}
+use Rattle.std.proofs.lemmas.List.{append_assoc, append-nil}
 use Rattle.lay_boxgen.specs.Boxes.{Tree, facts_of}
 use Rattle.lay_boxgen.specs.BrokenInlines.{is_block_box, is_no_text_box, is_unseen}
 use Rattle.lay_boxgen.specs.Forms.{is_in_flow, is_inline_level, is_text, is_white}
@@ -11,7 +12,6 @@ use Rattle.lay_boxgen.specs.Runs.{gathered, gathered_from, is_some, is_white_box
 use Rattle.lay_boxgen.specs.declared.facts.Facts.{Facts}
 use Rattle.lay_boxgen.specs.declared.facts.Form.{Form}
 use Rattle.lay_boxgen.specs.declared.facts.Form.TheVariants.{Text}
-use Rattle.lay_boxgen.proofs.Replaced.{assoc, no_more}
 
 -- a float or an anchor
 abbrev IsFree : Tree → Type 0
@@ -46,7 +46,7 @@ module _ (f : Facts) where
 
   over : (run : List Tree) → AreFree run → run_over (block_round f) run [] ≡ run
   over [] h = refl
-  over (t ∷ ts) h = ap (λ r. r ++ []) (left (t ∷ ts) h) ∙ no_more (t ∷ ts)
+  over (t ∷ ts) h = ap (λ r. r ++ []) (left (t ∷ ts) h) ∙ append-nil (t ∷ ts)
 
   longer : (run : List Tree) (t : Tree) → AreFree run → IsFree t → AreFree (run ++ t ∷ [])
   longer [] t h k = (k, tt)
@@ -66,16 +66,16 @@ module _ (f : Facts) where
       step
       ∙ (ap (λ r. (r ++ t ∷ []) ++ gathered_from is_no_block (block_round f) [] [] ts) (over run h)
       ∙ (ap (λ r. (run ++ t ∷ []) ++ r) (rest [] tt)
-      ∙ assoc run (t ∷ []) ts))
+      ∙ append_assoc run (t ∷ []) ts))
   one_more t ts rest run h false b l =
       let step : gathered_from is_no_block (block_round f) run [] (t ∷ ts) ≡ gathered_from is_no_block (block_round f) ((run ++ []) ++ t ∷ []) [] ts = simp b refl in
       step
-      ∙ (ap (λ r. gathered_from is_no_block (block_round f) (r ++ t ∷ []) [] ts) (no_more run)
+      ∙ (ap (λ r. gathered_from is_no_block (block_round f) (r ++ t ∷ []) [] ts) (append-nil run)
       ∙ (rest (run ++ t ∷ []) (longer run t h (free t b l))
-      ∙ assoc run (t ∷ []) ts))
+      ∙ append_assoc run (t ∷ []) ts))
 
   from : (ts : List Tree) → list_any is_loose_box ts ≡ false → (run : List Tree) → AreFree run → gathered_from is_no_block (block_round f) run [] ts ≡ run ++ ts
-  from [] l run h = over run h ∙ sym (no_more run)
+  from [] l run h = over run h ∙ sym (append-nil run)
   from (t ∷ ts) l run h =
       one_more t ts (from ts (or_parts (is_loose_box t) (list_any is_loose_box ts) l).1) run h (is_block_box t) refl (or_parts (is_loose_box t) (list_any is_loose_box ts) l).0
 

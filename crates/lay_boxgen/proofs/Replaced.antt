@@ -1,21 +1,14 @@
 -- Gathering replaces each longest run, and nothing else does.
 use Rattle.std.proofs.Common.{◌≡◌, Bool, true, false, List, [], ◌∷◌, ◌++◌, refl, ap, sym, subst, ◌∙◌}
+use Rattle.std.proofs.lemmas.List.{append_assoc, append-nil}
 use Rattle.lay_boxgen.specs.Boxes.{Tree, facts_of}
 use Rattle.lay_boxgen.specs.Runs.{gathered, gathered_from, run_over, is_some, is_white_box}
 use Rattle.lay_boxgen.specs.RunLaws.{IsGap, IsRun, one, further, EndsRun, nothing_follows, other, behind_white, IsReplaced, none, kept, replaced, RunsAreReplaced}
 use Rattle.lay_boxgen.specs.declared.facts.Facts.{Facts}
 
-pub assoc : (xs ys zs : List Tree) → (xs ++ ys) ++ zs ≡ xs ++ (ys ++ zs)
-assoc [] ys zs = refl
-assoc (x ∷ xs) ys zs = ap (λ r. x ∷ r) (assoc xs ys zs)
-
-pub no_more : (xs : List Tree) → xs ++ [] ≡ xs
-no_more [] = refl
-no_more (x ∷ xs) = ap (λ r. x ∷ r) (no_more xs)
-
 -- three lists and a box between
 pub seam : (xs ys : List Tree) (t : Tree) (zs : List Tree) → (xs ++ ys ++ t ∷ []) ++ zs ≡ xs ++ (ys ++ t ∷ zs)
-seam xs ys t zs = assoc (xs ++ ys) (t ∷ []) zs ∙ assoc xs ys (t ∷ zs)
+seam xs ys t zs = append_assoc (xs ++ ys) (t ∷ []) zs ∙ append_assoc xs ys (t ∷ zs)
 
 some-append : (xs : List Tree) (t : Tree) (zs : List Tree) → is_some (xs ++ t ∷ zs) ≡ true
 some-append [] t zs = refl
@@ -36,10 +29,10 @@ module _ (fault : Facts → Bool) (close : List Tree → List Tree) where
 
   -- a gap behind an open run
   through_gap : (run before gap ts : List Tree) → is_some run ≡ true → IsGap fault gap → gathered_from fault close run before (gap ++ ts) ≡ gathered_from fault close run (before ++ gap) ts
-  through_gap run before [] ts s g = ap (λ r. gathered_from fault close run r ts) (sym (no_more before))
+  through_gap run before [] ts s g = ap (λ r. gathered_from fault close run r ts) (sym (append-nil before))
   through_gap run before (t ∷ gap) ts s g =
       let step : gathered_from fault close run before (t ∷ gap ++ ts) ≡ gathered_from fault close run (before ++ t ∷ []) (gap ++ ts) = simp (g.0, g.1, s) refl in
-      step ∙ (through_gap run (before ++ t ∷ []) gap ts s g.2 ∙ ap (λ r. gathered_from fault close run r ts) (assoc before (t ∷ []) gap))
+      step ∙ (through_gap run (before ++ t ∷ []) gap ts s g.2 ∙ ap (λ r. gathered_from fault close run r ts) (append_assoc before (t ∷ []) gap))
 
   through_fault : (run gap : List Tree) (t : Tree) (ts : List Tree) → fault (facts_of t) ≡ true → gathered_from fault close run gap (t ∷ ts) ≡ gathered_from fault close (run ++ gap ++ t ∷ []) [] ts
   through_fault run gap t ts h = simp h refl
@@ -55,19 +48,19 @@ module _ (fault : Facts → Bool) (close : List Tree → List Tree) where
 
   -- and over where siblings end it
   ended : (run gap ts : List Tree) → is_some run ≡ true → EndsRun fault ts → gathered_from fault close run gap ts ≡ close run ++ (gap ++ gathered fault close ts)
-  ended run gap ts s nothing_follows = over run gap s ∙ ap (λ r. close run ++ r) (sym (no_more gap))
+  ended run gap ts s nothing_follows = over run gap s ∙ ap (λ r. close run ++ r) (sym (append-nil gap))
   ended run gap ts s (other t us h w) =
       let step : gathered_from fault close run gap (t ∷ us) ≡ (run_over close run gap ++ t ∷ []) ++ gathered fault close us = simp (h, w, s) refl in
       step
-      ∙ (assoc (run_over close run gap) (t ∷ []) (gathered fault close us)
+      ∙ (append_assoc (run_over close run gap) (t ∷ []) (gathered fault close us)
       ∙ (ap (λ r. r ++ t ∷ gathered fault close us) (over run gap s)
-      ∙ (assoc (close run) gap (t ∷ gathered fault close us)
+      ∙ (append_assoc (close run) gap (t ∷ gathered fault close us)
       ∙ ap (λ r. close run ++ (gap ++ r)) (sym (stays t us h)))))
   ended run gap ts s (behind_white t us h w e) =
       let step : gathered_from fault close run gap (t ∷ us) ≡ gathered_from fault close run (gap ++ t ∷ []) us = simp (h, w, s) refl in
       step
       ∙ (ended run (gap ++ t ∷ []) us s e
-      ∙ (ap (λ r. close run ++ r) (assoc gap (t ∷ []) (gathered fault close us))
+      ∙ (ap (λ r. close run ++ r) (append_assoc gap (t ∷ []) (gathered fault close us))
       ∙ ap (λ r. close run ++ (gap ++ r)) (sym (stays t us h))))
 
   only : (ts us : List Tree) → IsReplaced fault close ts us → us ≡ gathered fault close ts
@@ -106,7 +99,7 @@ module _ (fault : Facts → Bool) (close : List Tree → List Tree) where
       (ih.1 (run ++ gap ++ t ∷ []) [] (further run gap t i g h) tt))
   opened_by t ts ih run gap i g false true h v =
       let step : gathered_from fault close run gap (t ∷ ts) ≡ gathered_from fault close run (gap ++ t ∷ []) ts = simp (h, v, some_run run i) refl in
-      subst (λ r. IsReplaced fault close (run ++ r) (gathered_from fault close run gap (t ∷ ts))) (assoc gap (t ∷ []) ts)
+      subst (λ r. IsReplaced fault close (run ++ r) (gathered_from fault close run gap (t ∷ ts))) (append_assoc gap (t ∷ []) ts)
       (subst (IsReplaced fault close (run ++ ((gap ++ t ∷ []) ++ ts))) (sym step) (ih.1 run (gap ++ t ∷ []) i (longer_gap gap t g h v)))
   opened_by t ts ih run gap i g false false h v =
       subst (IsReplaced fault close (run ++ (gap ++ t ∷ ts)))
@@ -116,7 +109,7 @@ module _ (fault : Facts → Bool) (close : List Tree → List Tree) where
 
   at_end : (run gap : List Tree) → IsRun fault run → IsGap fault gap → IsReplaced fault close (run ++ (gap ++ [])) (gathered_from fault close run gap [])
   at_end run gap i g =
-      subst (IsReplaced fault close (run ++ (gap ++ []))) (ap (λ r. close run ++ r) (no_more gap) ∙ sym (over run gap (some_run run i)))
+      subst (IsReplaced fault close (run ++ (gap ++ []))) (ap (λ r. close run ++ r) (append-nil gap) ∙ sym (over run gap (some_run run i)))
       (replaced run (gap ++ []) (gap ++ []) i (gap_ends gap [] g nothing_follows) (gap_kept gap [] [] g none))
 
   both : (ts : List Tree) → Both ts

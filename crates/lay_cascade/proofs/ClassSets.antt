@@ -1,5 +1,5 @@
 -- The sets of classes.
-use Rattle.std.proofs.Common.{◌≡◌, ◌∙◌, ℕ, ◌+◌, ◌<◌, ◌≤◌, ◌⊎◌, inl, inr, List, [], ◌∷◌, ◌++◌, Bool, true, false, length, take, refl, sym, ap, subst, arith}
+use Rattle.std.proofs.Common.{◌≡◌, ◌∙◌, ℕ, ◌+◌, ◌<◌, ◌≤◌, ◌⊎◌, inl, inr, List, [], ◌∷◌, ◌++◌, true, false, length, take, refl, sym, ap, subst, arith}
 use Rattle.std.specs.Prelude.{slice_index_or, Option, Some, None, is_some, ◌||◌}
 use Rattle.std.specs.List.{list_any}
 use Rattle.std.specs.Map.{update}
@@ -9,6 +9,7 @@ use Rattle.std.proofs.lemmas.Bool.{cases_Bool, cases_lt, or_right}
 use Rattle.std.proofs.lemmas.Grind.{common_steps}
 use Rattle.std.proofs.lemmas.List.{take_more, length-append, get_or_append_left, get_or_push, get_or_default}
 use Rattle.std.proofs.lemmas.List.Folds.{list_any-append}
+use Rattle.std.proofs.Math.Bool.{or-false}
 use Rattle.lay_cascade.specs.declared.node_names.names.Names.{Names}
 use Rattle.lay_cascade.specs.declared.class_sets.ClassSet.{ClassSet}
 use Rattle.lay_cascade.specs.ClassSets.{MaySetOf, AreSetsTo}
@@ -17,10 +18,6 @@ use Rattle.lay_cascade.specs.ClassSets.{MaySetOf, AreSetsTo}
 pub compared : (name : List ℕ) (classes : List (List ℕ)) → list_any (λ class. bytes_eq name class) classes ≡ list_any (λ class. bytes_eq class name) classes
 compared name [] = refl
 compared name (c ∷ cs) = ap (λ z. z || list_any (λ class. bytes_eq name class) cs) (nat_list_eq_equiv.symm name c) ∙ ap (λ z. bytes_eq c name || z) (compared name cs)
-
-or_end : (a : Bool) → (a || false) ≡ a
-or_end true = refl
-or_end false = refl
 
 -- a set with one more class
 pub one_more : (q class : List ℕ) (before : List (List ℕ)) (old new : Option ℕ) (place : ℕ) → new ≡ update bytes_eq (λ ds. old) class (Some place) q → is_some old ≡ list_any (λ c. bytes_eq q c) before →
@@ -38,7 +35,7 @@ one_more q class before old new place is was = of_cases (cases_Bool (bytes_eq cl
     of_cases (inr f) =
         let n : new ≡ old = rw f at is in
         let e : list_any (λ c. bytes_eq q c) (class ∷ []) ≡ false = ap (λ z. z || false) (same ∙ f) in
-        ap is_some n ∙ was ∙ sym (ap (λ z. list_any (λ c. bytes_eq q c) before || z) e ∙ or_end (list_any (λ c. bytes_eq q c) before))
+        ap is_some n ∙ was ∙ sym (ap (λ z. list_any (λ c. bytes_eq q c) before || z) e ∙ or-false (list_any (λ c. bytes_eq q c) before))
 
 pub more_classes : (classes : List (List ℕ)) (i : ℕ) (class : List ℕ) → i < length classes → class ≡ slice_index_or classes i class → take i classes ++ class ∷ [] ≡ take (i + 1) classes
 more_classes classes i class here is = ap (λ z. take i classes ++ z ∷ []) is ∙ sym (take_more classes i class here)

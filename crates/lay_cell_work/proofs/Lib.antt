@@ -1,4 +1,3 @@
-pub mod SameInputLemmas
 pub mod CellLawsLemmas
 pub mod ClaimListsLemmas
 pub mod OutcomeLawsLemmas

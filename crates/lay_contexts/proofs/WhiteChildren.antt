@@ -1,5 +1,6 @@
 -- White space goes by itself.
 use Rattle.std.proofs.Common.{◌≡◌, Bool, true, false, List, [], ◌∷◌, ◌++◌, refl, ap, sym, ◌∙◌, if◌then◌else◌, Option, None, Some}
+use Rattle.std.proofs.lemmas.List.{append-nil, append_assoc}
 use Rattle.lay_boxgen.specs.Boxes.{Tree, facts_of}
 use Rattle.lay_boxgen.specs.Irrelevant.{is_irrelevant, kept_from, kept_gap}
 use Rattle.lay_boxgen.specs.Runs.{is_white_box}
@@ -10,14 +11,6 @@ use Rattle.lay_contexts.specs.WhiteSpaceLaws.{WhiteSpaceGoesByItself, child_kept
 abbrev AllWhite : List Tree → Type 0
 AllWhite [] = Unit {0}
 AllWhite (t ∷ ts) = (is_white_box t ≡ true) × AllWhite ts
-
-no_more : (xs : List Tree) → xs ++ [] ≡ xs
-no_more [] = refl
-no_more (x ∷ xs) = ap (λ r. x ∷ r) (no_more xs)
-
-assoc : (xs ys zs : List Tree) → (xs ++ ys) ++ zs ≡ xs ++ (ys ++ zs)
-assoc [] ys zs = refl
-assoc (x ∷ xs) ys zs = ap (λ r. x ∷ r) (assoc xs ys zs)
 
 else-none : (o : Option Facts) → or_else o None ≡ o
 else-none None = refl
@@ -54,17 +47,17 @@ module _ (p : Form) where
   through-gap : (before gap rest : List Tree) → AllWhite gap
       → children_kept p before (gap ++ rest) ≡ kept_gap p (last_seen before) gap (first_seen rest) ++ children_kept p (before ++ gap) rest
   through-gap before [] rest h =
-      ap (λ r. children_kept p r rest) (sym (no_more before)) ∙ ap (λ r. r ++ children_kept p (before ++ []) rest) (sym (gap-none (last_seen before) (first_seen rest)))
+      ap (λ r. children_kept p r rest) (sym (append-nil before)) ∙ ap (λ r. r ++ children_kept p (before ++ []) rest) (sym (gap-none (last_seen before) (first_seen rest)))
   through-gap before (t ∷ gap) rest h =
       let first : child_kept p before t (gap ++ rest) ≡ (if is_irrelevant p (last_seen before) (first_seen rest) then [] else (t ∷ [])) =
       simp h.0 (ap (λ a. if is_irrelevant p (last_seen before) a then [] else (t ∷ [])) (white-first gap rest h.1)) in
       let later : children_kept p (before ++ t ∷ []) (gap ++ rest) ≡ kept_gap p (last_seen before) gap (first_seen rest) ++ children_kept p (before ++ t ∷ gap) rest =
       through-gap (before ++ t ∷ []) gap rest h.1
       ∙ (ap (λ o. kept_gap p o gap (first_seen rest) ++ children_kept p ((before ++ t ∷ []) ++ gap) rest) (white-last before t h.0)
-      ∙ ap (λ r. kept_gap p (last_seen before) gap (first_seen rest) ++ children_kept p r rest) (assoc before (t ∷ []) gap)) in
+      ∙ ap (λ r. kept_gap p (last_seen before) gap (first_seen rest) ++ children_kept p r rest) (append_assoc before (t ∷ []) gap)) in
       ap (λ r. r ++ children_kept p (before ++ t ∷ []) (gap ++ rest)) first
       ∙ (ap (λ r. (if is_irrelevant p (last_seen before) (first_seen rest) then [] else (t ∷ [])) ++ r) later
-      ∙ (sym (assoc (if is_irrelevant p (last_seen before) (first_seen rest) then [] else (t ∷ [])) (kept_gap p (last_seen before) gap (first_seen rest)) (children_kept p (before ++ t ∷ gap) rest))
+      ∙ (sym (append_assoc (if is_irrelevant p (last_seen before) (first_seen rest) then [] else (t ∷ [])) (kept_gap p (last_seen before) gap (first_seen rest)) (children_kept p (before ++ t ∷ gap) rest))
       ∙ ap (λ r. r ++ children_kept p (before ++ t ∷ gap) rest) (sym (gap-cons (last_seen before) (first_seen rest) t gap))))
 
   longer : (gap : List Tree) (t : Tree) → AllWhite gap → is_white_box t ≡ true → AllWhite (gap ++ t ∷ [])
@@ -73,17 +66,17 @@ module _ (p : Form) where
 
   kept : (ts before gap : List Tree) (b : Option Facts) → AllWhite gap → last_seen before ≡ b → kept_from p b gap ts ≡ children_kept p before (gap ++ ts)
   kept [] before gap b h e =
-      ap (λ o. kept_gap p o gap None) (sym e) ∙ (sym (no_more (kept_gap p (last_seen before) gap None)) ∙ sym (through-gap before gap [] h))
+      ap (λ o. kept_gap p o gap None) (sym e) ∙ (sym (append-nil (kept_gap p (last_seen before) gap None)) ∙ sym (through-gap before gap [] h))
   kept (t ∷ ts) before gap b h e = by (kept ts) (is_white_box t) refl
     where
       by : ((bs gap : List Tree) (b : Option Facts) → AllWhite gap → last_seen bs ≡ b → kept_from p b gap ts ≡ children_kept p bs (gap ++ ts)) → (c : Bool) → is_white_box t ≡ c
           → (if c then kept_from p b (gap ++ t ∷ []) ts else kept_gap p b gap (Some (facts_of t)) ++ t ∷ [] ++ kept_from p (Some (facts_of t)) [] ts) ≡ children_kept p before (gap ++ t ∷ ts)
-      by rest true w = rest before (gap ++ t ∷ []) b (longer gap t h w) e ∙ ap (children_kept p before) (assoc gap (t ∷ []) ts)
+      by rest true w = rest before (gap ++ t ∷ []) b (longer gap t h w) e ∙ ap (children_kept p before) (append_assoc gap (t ∷ []) ts)
       by rest false w =
           let seen : first_seen (t ∷ ts) ≡ Some (facts_of t) = simp w refl in
           let stays : child_kept p (before ++ gap) t ts ≡ t ∷ [] = simp w refl in
           let r = rest ((before ++ gap) ++ t ∷ []) [] (Some (facts_of t)) tt (seen-last (before ++ gap) t w) in
-          assoc (kept_gap p b gap (Some (facts_of t))) (t ∷ []) (kept_from p (Some (facts_of t)) [] ts)
+          append_assoc (kept_gap p b gap (Some (facts_of t))) (t ∷ []) (kept_from p (Some (facts_of t)) [] ts)
           ∙ (ap (λ o. kept_gap p o gap (Some (facts_of t)) ++ (t ∷ kept_from p (Some (facts_of t)) [] ts)) (sym e)
           ∙ (ap (λ xs. kept_gap p (last_seen before) gap (Some (facts_of t)) ++ (t ∷ xs)) r
           ∙ (ap (λ xs. kept_gap p (last_seen before) gap (Some (facts_of t)) ++ (xs ++ children_kept p ((before ++ gap) ++ t ∷ []) ts)) (sym stays)

@@ -3,6 +3,7 @@ use Rattle.std.proofs.Common.{◌≡◌, ℕ, ◌+◌, ◌&&◌, ◌||◌, Bool,
 use Rattle.std.proofs.lemmas.Option.{option_and_then_some}
 use Rattle.std.proofs.lemmas.List.Folds.{list_any-append}
 use Rattle.std.proofs.lemmas.List.Elements.{All-push}
+use Rattle.std.proofs.Math.Bool.{or-false}
 use Rattle.lay_drawing.specs.declared.line.Line.{Line}
 use Rattle.lay_drawing.specs.declared.line.Line.TheVariants.{Edit, Publish, Latest, Sync, Final, Laid, Piece}
 use Rattle.lay_drawing.specs.declared.places.Place.{Place}
@@ -17,12 +18,8 @@ place_more : (from : Place) (lines : List Line) (line : Line) (p q : Place) → 
 place_more from [] line p q e n = let same : from ≡ p = cc in let k : next_place line from ≡ Some q = rw same n in rw k refl
 place_more from (x ∷ xs) line p q e n = option_and_then_some _ (next_place x from) p e (λ next a e1. rw a (place_more next xs line p q e1 n))
 
-or_false : (b : Bool) → b || false ≡ b
-or_false true = refl
-or_false false = refl
-
 shown_more : (wanted : Option ℕ) (lines : List Line) (line : Line) → is_shown wanted (lines ++ line ∷ []) ≡ is_shown wanted lines || shows wanted line
-shown_more wanted lines line = list_any-append (shows wanted) lines (line ∷ []) ∙ ap (λ (b : Bool). is_shown wanted lines || b) (or_false (shows wanted line))
+shown_more wanted lines line = list_any-append (shows wanted) lines (line ∷ []) ∙ ap (λ (b : Bool). is_shown wanted lines || b) (or-false (shows wanted line))
 
 all_more : (lines : List Line) (line : Line) → all_pieces (lines ++ line ∷ []) ≡ all_pieces lines && is_piece line
 all_more [] line = and_true (is_piece line)

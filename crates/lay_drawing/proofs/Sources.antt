@@ -1,6 +1,6 @@
 -- Bytes of a source that are read one piece after the other.
-use Rattle.std.proofs.Common.{◌≡◌, ℕ, List, [], ◌++◌, take, drop, refl, sym, ap, ◌∙◌, arith, Option, Some, None, IfSome, subst, append_assoc, append-nil}
-use Rattle.std.proofs.lemmas.Grind.{common_steps}
+use Rattle.std.proofs.Common.{◌≡◌, ℕ, List, [], ◌++◌, take, drop, refl, sym, ap, ◌∙◌, Option, Some, None, IfSome, subst, append_assoc, append-nil}
+use Rattle.std.proofs.lemmas.List.{take-append-drop}
 use Rattle.lay_outside.specs.Outside.{GivesNext}
 use Rattle.lay_drawing.specs.declared.state.Reading.{Reading}
 use Rattle.lay_drawing.specs.declared.state.Stop.{Stop}
@@ -8,9 +8,6 @@ use Rattle.lay_drawing.specs.declared.state.Stop.TheVariants.{BadLine, NoMemory}
 use Rattle.lay_drawing.specs.Reports.{IsBadLine}
 use Rattle.lay_drawing.specs.States.{HasRead, WasReport, StopsAtEnd, Reads, Stops}
 use Rattle.lay_drawing.specs.Input.{HasReadFirst, HasReport, IsDrained, IsCause, fault_of}
-
-take-all : (xs : List ℕ) (n : ℕ) → take n xs ++ drop n xs ≡ xs
-take-all xs n = grind (arith, common_steps)
 
 pub first_none : (left : Option (List ℕ)) (s : Reading) → HasRead s [] → HasReadFirst left left s
 first_none None s has = tt
@@ -22,7 +19,7 @@ first_more (Some all) now new s t given n first next reads =
     let front : List ℕ = first.0 in
     let rest : List ℕ = first.1 in
     let next' = subst (λ (o : Option (List ℕ)). GivesNext o new given n) first.2 next in
-    let e : take n given ++ drop n rest ≡ rest = ap (λ (ys : List ℕ). ys ++ drop n rest) next'.front ∙ take-all rest n in
+    let e : take n given ++ drop n rest ≡ rest = ap (λ (ys : List ℕ). ys ++ drop n rest) next'.front ∙ take-append-drop n rest in
     (front ++ take n given, drop n rest, next'.rest, first.3 ∙ ap (λ (ys : List ℕ). front ++ ys) (sym e) ∙ sym (append_assoc front (take n given) (drop n rest)), reads.reads front first.4)
 
 -- all was read where nothing is left
@@ -54,6 +51,6 @@ bad_piece old fall (Some all) now new s (BadLine number) given n first next stop
     let front : List ℕ = first.0 in
     let rest : List ℕ = first.1 in
     let next' = subst (λ (o : Option (List ℕ)). GivesNext o new given n) first.2 next in
-    let e : take n given ++ drop n rest ≡ rest = ap (λ (ys : List ℕ). ys ++ drop n rest) next'.front ∙ take-all rest n in
+    let e : take n given ++ drop n rest ≡ rest = ap (λ (ys : List ℕ). ys ++ drop n rest) next'.front ∙ take-append-drop n rest in
     let whole : (front ++ take n given) ++ drop n rest ≡ all = append_assoc front (take n given) (drop n rest) ∙ ap (λ (ys : List ℕ). front ++ ys) e ∙ sym first.3 in
     subst (λ (ys : List ℕ). IsBadLine ys number) whole (stops front (drop n rest) first.4)

@@ -2,6 +2,7 @@
 use Rattle.std.proofs.Common.{◌≡◌, true, false, ℕ, zero, suc, ◌<◌, ◌≤◌, ℤ, List, [], ◌++◌, refl, sym, ap, arith, inl, inr, Option, Some, None, subst}
 use Rattle.std.proofs.lemmas.Bool.{cases_lt}
 use Rattle.std.proofs.lemmas.Int.{ints}
+use Rattle.std.proofs.lemmas.List.{append-nil}
 use Rattle.lay_flow.specs.declared.blocks.flow_box.FlowBox.{FlowBox}
 use Rattle.lay_units.specs.declared.length.Unit.{Unit as Length}
 use Rattle.lay_floats.specs.declared.placed.Placed.{Placed}
@@ -15,14 +16,13 @@ use Rattle.lay_flow.proofs.BlocksLemmas.Truths.{true_false}
 use Rattle.lay_floats.specs.ClearEdge.{Clears, IsClearEdge}
 use Rattle.lay_flow.specs.Blocks.BlockFloats.{Spot, float_of, floats_after, floats_before, place_at, spot_at, shape_at}
 use Rattle.lay_flow.specs.Blocks.Clearance.{IsAbove}
-use Rattle.lay_flow.proofs.BlocksLemmas.FloatLists.{nothing_more}
 use Rattle.lay_flow.proofs.BlocksLemmas.FloatLists.{Has, has_there, has_back}
 
 has_nothing : (xs : List Placed) (f : Placed) → Has (xs ++ []) f → Has xs f
-has_nothing xs f w = subst (λ (zs : List Placed). Has zs f) (nothing_more xs) w
+has_nothing xs f w = subst (λ (zs : List Placed). Has zs f) (append-nil xs) w
 
 nothing_has : (xs : List Placed) (f : Placed) → Has xs f → Has (xs ++ []) f
-nothing_has xs f w = subst (λ (zs : List Placed). Has zs f) (sym (nothing_more xs)) w
+nothing_has xs f w = subst (λ (zs : List Placed). Has zs f) (sym (append-nil xs)) w
 
 module _ (boxes : List FlowBox) (places : List Spot) where
   -- no box from the one at n to before that at m holds lines

@@ -6,6 +6,7 @@ use Rattle.std.specs.Int.{int_max}
 use Rattle.lay_units.specs.Units.{IsPosition}
 use Rattle.std.proofs.lemmas.Grind.{elements}
 use Rattle.std.proofs.lemmas.List.Elements.{All-nil, All-push, All-same, All-weaker}
+use Rattle.std.proofs.lemmas.List.{append-nil}
 use Rattle.lay_flow.specs.declared.blocks.flow_box.FlowBox.{FlowBox}
 use Rattle.lay_units.specs.declared.length.Unit.{Unit as Length}
 use Rattle.lay_floats.specs.declared.placed.Placed.{Placed}
@@ -40,7 +41,7 @@ use Rattle.lay_flow.proofs.BlocksLemmas.BlockKinds.{placed_none, lines_placed, l
 use Rattle.lay_flow.proofs.BlocksLemmas.FlowBoxFacts.{placed_flows}
 use Rattle.lay_flow.proofs.BlocksLemmas.Truths.{true_false}
 use Rattle.lay_flow.proofs.BlocksLemmas.WeightFacts.{weight_up, weight_one_more}
-use Rattle.lay_flow.proofs.BlocksLemmas.FloatLists.{floats_same, nothing_more}
+use Rattle.lay_flow.proofs.BlocksLemmas.FloatLists.{floats_same}
 
 -- an element of which all have a property
 all_at : (P : Placed → Type 0) (floats : List Placed) (i : ℕ) (f : Placed) → All P floats → slice_get floats i ≡ Some f → P f
@@ -320,7 +321,7 @@ module _ (boxes : List FlowBox) (marks : List Length) (now : Placing) (k : ℕ) 
   floats_go solid_inside s more e f = ap (λ (fs : List Placed). now.floats ++ fs) (sym f)
 
   no_more : (shape_at boxes k).float ≡ None → is_lines (block_at boxes k).inside ≡ false → now.floats ≡ floats_after now.floats (block_at boxes k).inside (shape_at boxes k) p
-  no_more none flows = sym (nothing_more now.floats) ∙ floats_go (block_at boxes k).inside (shape_at boxes k) [] flows (rw none refl)
+  no_more none flows = sym (append-nil now.floats) ∙ floats_go (block_at boxes k).inside (shape_at boxes k) [] flows (rw none refl)
 
   pub knows_other : (shape_at boxes k).float ≡ None → is_placed (block_at boxes k).inside ≡ false → p ≡ no_spot → PlacesTo boxes marks (record { extents = now.extents; floats = now.floats; places = now.places ++ p ∷ [] }) (k + 1)
   knows_other none blocks is =

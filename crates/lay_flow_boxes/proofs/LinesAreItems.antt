@@ -1,7 +1,7 @@
 -- The boxes that stand in the lines of a block container are the items of these lines, each once.
 use Rattle.std.proofs.Common.{◌≡◌, ℕ, zero, suc, ◌+◌, ◌<◌, ◌==◌, ◌&&◌, not, Bool, true, false, List, [], ◌∷◌, ◌++◌, length, drop, slice_index_or, All, refl, sym, ap, subst, ◌∙◌, arith, inl, inr, if◌then◌else◌}
 use Rattle.std.proofs.lemmas.Bool.{cases_lt, eqb-true, or_parts, both_ways}
-use Rattle.std.proofs.lemmas.List.{drop_all}
+use Rattle.std.proofs.lemmas.List.{drop_all, append-nil}
 use Rattle.std.proofs.lemmas.List.Elements.{All-append, All-cons, All-nil}
 use Rattle.lay_box_tree.specs.Containers.{IsContainer, box_containers, box_parent, counts, further as at_further, parent as at_parent}
 use Rattle.lay_box_tree.specs.Kinds.{is_block_container}
@@ -53,10 +53,6 @@ open_sorts r ss as_left_float e = absurd cc
 open_sorts r ss as_right_float e = absurd cc
 open_sorts r ss as_anchor e = absurd cc
 
-no_more : (os : List Sort) → os ++ [] ≡ os
-no_more [] = refl
-no_more (o ∷ os) = ap (λ r. o ∷ r) (no_more os)
-
 pub not_first : (boxes : List BoxNode) (p : ℕ) → counts boxes p ≡ false → 0 < p
 not_first boxes zero e = absurd cc
 not_first boxes (suc p) e = omega arith
@@ -92,7 +88,7 @@ module _ (boxes : List BoxNode) (c : ℕ) (are : AreContextBoxes boxes) (lines :
           let opened = open_sorts (role_at boxes p) (own_sorts (role_at boxes p)) (role_in_lines p there) (held k is.behind is.within) in
           follows boxes are.tree k is.behind is.within c (c + 1) (drop (c + 1) boxes) refl (λ same. both_ways (counts boxes c) (subst (λ (p : ℕ). counts boxes p ≡ false) same e) (counted k is))
           ∙ ap (spread (own_sorts (role_at boxes k))) (earlier p (omega (arith, before, lt)) there ∙ opened)
-          ∙ no_more (own_sorts (role_at boxes k))
+          ∙ append-nil (own_sorts (role_at boxes k))
 
 pub boxes_in_lines_lem : BoxesInLinesAreItems
 boxes_in_lines_lem boxes c k are held lines is =

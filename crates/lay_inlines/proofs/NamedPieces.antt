@@ -3,6 +3,7 @@ use Rattle.std.proofs.Common.{◌≡◌, ◌∙◌, ◌⊎◌, inl, inr, ℕ, ze
 use Rattle.std.specs.List.{list_any}
 use Rattle.std.proofs.lemmas.Bool.{cases_Bool, eq-eqb, eqb-true, or_right}
 use Rattle.std.proofs.lemmas.List.Folds.{list_any-append}
+use Rattle.std.proofs.Math.Bool.{or-false}
 use Rattle.lay_units.specs.declared.length.Unit.{Unit}
 use Rattle.lay_lines.specs.declared.content.content.InlineArea.{InlineArea}
 use Rattle.lay_lines.specs.declared.content.content.Part.{Part}
@@ -109,10 +110,6 @@ texts_of_line c areas fr row ns xs =
     pieces_of_spans is_text areas (origin_of c row end) (baseline_of row) (line_spans areas fr row ns xs)
     ∙ open_texts (start_of fr row.reach.start.0) end edges (behind_strut row.shifts) ns (spans_of areas end (line_strokes fr row ns xs))
 
-or_none : (b : Bool) → (b || false) ≡ b
-or_none true = refl
-or_none false = refl
-
 or_twice : (b c : Bool) → (b || (b || c)) ≡ (b || c)
 or_twice true c = refl
 or_twice false c = refl
@@ -153,7 +150,7 @@ among_text q t raise from to (s ∷ ss) = among_joined q t s.node raise s.raise 
 
 among_shown : (q : ℕ) (areas : List InlineArea) (shown : Shown) (raise : Unit) (from to edge : ℤ) (ss : List Span)
     → is_among q (texts (with_shown areas shown raise from to edge ss)) ≡ (is_among q (shown_text shown) || is_among q (texts ss))
-among_shown q areas (OfText t) raise from to edge ss = among_text q t raise from to ss ∙ ap (λ (b : Bool). b || is_among q (texts ss)) (sym (or_none (q == t)))
+among_shown q areas (OfText t) raise from to edge ss = among_text q t raise from to ss ∙ ap (λ (b : Bool). b || is_among q (texts ss)) (sym (or-false (q == t)))
 among_shown q areas (OfAtomic n) raise from to edge ss = refl
 among_shown q areas (Opens n) raise from to edge ss = refl
 among_shown q areas (Closes n) raise from to edge ss = refl
@@ -171,10 +168,10 @@ started_is : (fr : Frame) (p : Pen) (x : Part) → (over fr p x).started ≡ (p.
 started_is fr p (Space w) = started_if p.started p _ refl refl
 started_is fr p (PreservedSpace w) = sym (or_right p.started true refl)
 started_is fr p (Tab t) = sym (or_right p.started true refl)
-started_is fr p Linefeed = sym (or_none p.started)
+started_is fr p Linefeed = sym (or-false p.started)
 started_is fr p (Text w) = sym (or_right p.started true refl)
-started_is fr p (Start b) = sym (or_none p.started)
-started_is fr p (End b) = sym (or_none p.started)
+started_is fr p (Start b) = sym (or-false p.started)
+started_is fr p (End b) = sym (or-false p.started)
 started_is fr p (Atomic b) = sym (or_right p.started true refl)
 
 among_spans : (q : ℕ) (areas : List InlineArea) (end : ℤ) (fr : Frame) (p : Pen) (r : RaisesValue) (xs : List Part)
@@ -201,7 +198,7 @@ each_text_lem c areas fr row ns xs t =
 -- Texts: none has two pieces.
 
 single_is : (q t : ℕ) → IsTrue (is_among q (t ∷ [])) → t ∷ [] ≡ q ∷ []
-single_is q t h = ap (λ (n : ℕ). n ∷ []) (sym (eqb-true q t (sym (or_none (q == t)) ∙ h)))
+single_is q t h = ap (λ (n : ℕ). n ∷ []) (sym (eqb-true q t (sym (or-false (q == t)) ∙ h)))
 
 single : (q : ℕ) (x : Part) → IsTrue (is_among q (text_of x)) → text_of x ≡ q ∷ []
 single q (Space w) h = single_is q w.text h
@@ -317,7 +314,7 @@ starts t areas end fr p r (y ∷ ys) behind h =
           keeps_start t areas y (stays s followed) s.raise from to edge rest own
           (starts t areas end fr (over fr p y) (raises_after r y) ys (λ j k a b lt e f of. behind (suc j) (suc k) a b (omega (arith, lt)) e f of) some))
       | inr none ↦ start_shown t areas shown s.raise from to edge rest
-          (sym (or_none (is_among t (shown_text shown))) ∙ sym (ap (λ (b : Bool). is_among t (shown_text shown) || b) none) ∙ sym (among_shown t areas shown s.raise from to edge rest) ∙ h)
+          (sym (or-false (is_among t (shown_text shown))) ∙ sym (ap (λ (b : Bool). is_among t (shown_text shown) || b) none) ∙ sym (among_shown t areas shown s.raise from to edge rest) ∙ h)
     ]
 
 once_joined : (t n : ℕ) (raise r f u : Unit) (from to : ℤ) (kind : LinePieceKind) (same : Bool) (ss : List Span) → (same ≡ true → n ≡ t) → EachOnce (texts (made kind n r f u ∷ ss))

@@ -3,6 +3,7 @@ use Rattle.std.proofs.Common.{◌≡◌, ℕ, zero, suc, pos, Bool, true, false,
 use Rattle.std.specs.List.{list_any}
 use Rattle.std.proofs.lemmas.List.{take-append-drop}
 use Rattle.std.proofs.lemmas.List.Folds.{list_any-append}
+use Rattle.std.proofs.Math.Bool.{or-false}
 use Rattle.lay_lines.specs.declared.content.content.Stretch.{Stretch}
 use Rattle.lay_lines.specs.Content.Extents.{any_shows}
 use Rattle.lay_lines.specs.Content.Pens.{seen_to}
@@ -11,7 +12,7 @@ use Rattle.lay_lines.specs.Rows.{Laid, Row, RowsTo, after_row, ended_of}
 use Rattle.lay_line_measures.specs.Laws.{SeenLinesAreSeen}
 use Rattle.lay_line_measures.specs.SeenLines.{is_seen, has_seen_line}
 use Rattle.lay_line_measures.specs.Stretches.{stretches_of}
-use Rattle.lay_line_measures.proofs.Disjunctions.{or_false, or_kept, or_last}
+use Rattle.lay_line_measures.proofs.Disjunctions.{or_kept, or_last}
 use Rattle.lay_line_measures.proofs.SeenPens.{pen_seen}
 use Rattle.lay_line_measures.proofs.ShownBoxes.{AllAreSeen, dropped, reading_shows, stretches_seen}
 
@@ -65,4 +66,4 @@ seen_lines_lem m c segments left right top before v lines =
     let all = all_rows (has_seen_line ss) lines.are.count _ lines.laid lines.are.rows
     (record { same = refl; opened = λ e. no_box e false; are = stretches_seen m c true segments }) in
     ap (list_any (λ (r : Ended). r.seen)) (sym lines.rows) ∙ ended_seen lines.laid.rows
-    ∙ sym (or_false (any_row lines.laid.rows)) ∙ ap (λ rest. any_row lines.laid.rows || has_seen_line rest) (sym lines.are.all) ∙ all.same
+    ∙ sym (or-false (any_row lines.laid.rows)) ∙ ap (λ rest. any_row lines.laid.rows || has_seen_line rest) (sym lines.are.all) ∙ all.same

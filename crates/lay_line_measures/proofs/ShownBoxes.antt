@@ -3,6 +3,7 @@ use Rattle.std.proofs.Common.{◌≡◌, ℕ, zero, suc, Bool, true, false, ◌|
 use Rattle.std.specs.Bool.{⊤}
 use Rattle.std.specs.List.{list_any, slice_get}
 use Rattle.std.proofs.lemmas.Bool.{or_left}
+use Rattle.std.proofs.Math.Bool.{or-false}
 use Rattle.lay_units.specs.declared.length.Unit.{Unit as Length}
 use Rattle.lay_units.specs.declared.records.ClusterWidth.{ClusterWidth}
 use Rattle.lay_space.specs.declared.item.Item.{Item}
@@ -26,7 +27,7 @@ use Rattle.lay_line_measures.specs.SeenLines.{is_seen, has_seen_line}
 use Rattle.lay_line_measures.specs.Stretches.{parts_at, parts_of, stretches_of}
 use Rattle.lay_line_measures.specs.declared.text_parts.TextBox.{TextBox}
 use Rattle.lay_line_measures.specs.TextParts.{cluster_parts, parts_between, text_parts}
-use Rattle.lay_line_measures.proofs.Disjunctions.{or_false, or_assoc, or_more, or_through}
+use Rattle.lay_line_measures.proofs.Disjunctions.{or_assoc, or_more, or_through}
 use Rattle.lay_line_measures.proofs.SeenPens.{seen_at, take_more}
 
 abbrev pub shows : Part → Bool
@@ -57,7 +58,7 @@ some_are (s ∷ ss) zero are = are.0
 some_are (s ∷ ss) (suc k) are = some_are ss k are.1
 
 one_more : (bs : List InlineStart) (b : InlineStart) → any_shows (bs ++ b ∷ []) ≡ (any_shows bs || b.shows)
-one_more [] b = or_false b.shows
+one_more [] b = or-false b.shows
 one_more (c ∷ bs) b = ap (λ x. c.shows || x) (one_more bs b) ∙ sym (or_assoc c.shows (any_shows bs) b.shows)
 
 some_left : (n : ℕ) (bs : List InlineStart) → any_shows (take n bs) ≡ true → any_shows bs ≡ true

@@ -1,6 +1,7 @@
 -- Chains of steps.
-use Rattle.std.proofs.Common.{◌≡◌, ◌∙◌, inl, inr, ℕ, zero, suc, ◌+◌, ◌<◌, List, [], ◌∷◌, ◌++◌, refl, sym, ap, subst, arith, add-one}
+use Rattle.std.proofs.Common.{◌≡◌, ◌∙◌, inl, inr, ℕ, zero, suc, ◌+◌, ◌<◌, List, [], ◌++◌, refl, sym, ap, subst, arith, add-one}
 use Rattle.std.proofs.lemmas.Bool.{cases_lt}
+use Rattle.std.proofs.lemmas.List.{append-nil, append_assoc}
 use Rattle.lay_floats.specs.declared.placed.Placed.{Placed}
 use Rattle.lay_lines.specs.Meeting.{Chain, IsFront}
 
@@ -23,19 +24,11 @@ chain_front {S} Step (suc n) k a b lt c = elim (cases_lt k n) [
   | inr least ↦ (let e : n ≡ k = omega arith in subst (λ (m : ℕ). (mid : S) × (after : S) × Chain Step m a mid × Step m mid after) e (c.0, b, c.1, c.2))
 ]
 
-append_none : (xs : List Placed) → xs ++ [] ≡ xs
-append_none [] = refl
-append_none (x ∷ xs) = ap (λ (ys : List Placed). x ∷ ys) (append_none xs)
-
-append_twice : (xs ys zs : List Placed) → (xs ++ ys) ++ zs ≡ xs ++ (ys ++ zs)
-append_twice [] ys zs = refl
-append_twice (x ∷ xs) ys zs = ap (λ (us : List Placed). x ∷ us) (append_twice xs ys zs)
-
 pub all_front : (a b : List Placed) → a ≡ b → IsFront a b
-all_front a b e = ([], sym e ∙ sym (append_none a))
+all_front a b e = ([], sym e ∙ sym (append-nil a))
 
 pub front_trans : (a b c : List Placed) → IsFront a b → IsFront b c → IsFront a c
-front_trans a b c p q = (p.0 ++ q.0, q.1 ∙ ap (λ (xs : List Placed). xs ++ q.0) p.1 ∙ append_twice a p.0 q.0)
+front_trans a b c p q = (p.0 ++ q.0, q.1 ∙ ap (λ (xs : List Placed). xs ++ q.0) p.1 ∙ append_assoc a p.0 q.0)
 
 -- a chain whose steps keep what stands, cut at a step
 pub chain_cut : {S : Type 0} (at : S → List Placed) (Step : ℕ → S → S → Type 0) → ((k : ℕ) (a b : S) → Step k a b → IsFront (at a) (at b)) → (n k : ℕ) (a b : S) → k < n → Chain Step n a b

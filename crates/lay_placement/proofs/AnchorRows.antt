@@ -3,6 +3,7 @@ use Rattle.std.proofs.Common.{◌≡◌, ℕ, ◌||◌, Bool, true, false, List,
 use Rattle.std.specs.List.{list_any}
 use Rattle.std.specs.Option.{option_or}
 use Rattle.std.proofs.lemmas.List.Folds.{list_any-append}
+use Rattle.std.proofs.Math.Bool.{or-false}
 use Rattle.lay_units.specs.declared.length.Unit.{Unit as Length}
 use Rattle.lay_space.specs.declared.item.Item.{Item}
 use Rattle.lay_space.specs.declared.segment.Segment.{Segment}
@@ -10,12 +11,8 @@ use Rattle.lay_lines.specs.declared.row.Ended.{Ended}
 use Rattle.lay_placement.specs.AnchorLines.{top_in_line, top_in_segment, top_of_item}
 use Rattle.lay_placement.specs.StaticPositions.{holds_anchor, is_anchor_of, line_top}
 
-or_false : (b : Bool) → (b || false) ≡ b
-or_false true = refl
-or_false false = refl
-
 any_more : {X : Type 0} (f : X → Bool) (xs : List X) (x : X) → list_any f (xs ++ x ∷ []) ≡ (list_any f xs || f x)
-any_more f xs x = list_any-append f xs (x ∷ []) ∙ ap (λ b. list_any f xs || b) (or_false (f x))
+any_more f xs x = list_any-append f xs (x ∷ []) ∙ ap (λ b. list_any f xs || b) (or-false (f x))
 
 by_or : (a b : Bool) (top : Length) → (if a || b then Some top else None) ≡ option_or (if a then Some top else None) (if b then Some top else None)
 by_or true b top = refl

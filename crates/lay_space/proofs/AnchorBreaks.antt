@@ -1,6 +1,7 @@
 -- Breaks stand where they stand without anchors.
 use Rattle.std.proofs.Common.{◌≡◌, ℕ, ◌++◌, Bool, true, false, if◌then◌else◌, ◌&&◌, ◌||◌, not, List, [], ◌∷◌, Option, Some, None, refl, ap, ◌∙◌, append-nil}
 use Rattle.std.proofs.lemmas.Bool.{true≢false}
+use Rattle.std.proofs.Math.Bool.{or-false}
 use Rattle.lay_space.specs.declared.tokens.ClusterKind.{ClusterKind}
 use Rattle.lay_space.specs.declared.tokens.ClusterKind.TheVariants.{CollapsibleSpace, PreservedSpace, Linefeed, Tab, ZeroWidthSpace, Other}
 use Rattle.lay_space.specs.declared.tokens.Cluster.{Cluster}
@@ -168,15 +169,11 @@ float_kept : (f : ℕ → ℕ) (n : ℕ) (es : List Entry) → SettledKept f es 
 float_kept f n es rest true started held = wait_kept f true (started || false) held (token.Float n) (token.Float n) es (λ a. refl) rest
 float_kept f n es rest false started held = ap (λ a. Content (token.Float n) ∷ a) (rest.some false started held)
 
-or_off : (b : Bool) → (b || false) ≡ b
-or_off true = refl
-or_off false = refl
-
 anchor_gone : (f : ℕ → ℕ) (n : ℕ) (es : List Entry) → SettledKept f es → One f (token.Anchor n) es
 anchor_gone f n es rest true started held =
     rest.some true (started || false) (held ++ Content (token.Anchor n) ∷ [])
     ∙ ap (λ h. settled (Some true) (started || false) h (kept_entries f es)) (kept_append f held (Content (token.Anchor n) ∷ []) ∙ append-nil (kept_entries f held))
-    ∙ ap (λ b. settled (Some true) b (kept_entries f held) (kept_entries f es)) (or_off started)
+    ∙ ap (λ b. settled (Some true) b (kept_entries f held) (kept_entries f es)) (or-false started)
 anchor_gone f n es rest false started held = rest.some false started held
 
 settled_kept : (f : ℕ → ℕ) (es : List Entry) → SettledKept f es

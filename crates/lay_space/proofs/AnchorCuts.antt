@@ -3,6 +3,7 @@ use Rattle.std.proofs.Common.{◌≡◌, ℕ, ◌+◌, ◌++◌, Bool, true, fal
 use Rattle.std.specs.List.{filter}
 use Rattle.std.proofs.lemmas.List.Elements.{filter-append}
 use Rattle.std.proofs.lemmas.Bool.{true≢false}
+use Rattle.std.proofs.Math.Bool.{or-false}
 use Rattle.lay_space.specs.declared.item.Item.{Item}
 use Rattle.lay_space.specs.declared.item.Item.TheVariants as item
 use Rattle.lay_space.specs.declared.tokens.Cluster.{Cluster}
@@ -109,10 +110,6 @@ put items es current cs x solid is rest closed full =
     ap (λ a. cut (without_anchors items) a [] (kept_entries (place items) es)) (sym (put_kept items current cs x is))
     ∙ rest (current ++ text_of items cs ++ x ∷ []) [] false solid closed full (λ e. refl) (holds_put items current cs x solid is)
 
-or_off : (b : Bool) → (b || false) ≡ b
-or_off true = refl
-or_off false = refl
-
 cut_kept : (items : List Item) (es : List Entry) → CutKept items es
 cut_kept items [] current cs inside solid closed full empty holds =
     ap last_segment (sym (current_kept items current cs)) ∙ last_kept (current ++ text_of items cs)
@@ -130,7 +127,7 @@ cut_kept items (Content token.TextEnd ∷ es) current cs inside solid closed ful
     let same = without_append current (text_of items cs) ∙ ap (λ a. without_anchors current ++ a) (text_stays items cs) in
     ap (λ a. cut (without_anchors items) a [] (kept_entries (place items) es)) (sym (current_kept items current cs))
     ∙ cut_kept items es (current ++ text_of items cs) [] false (solid || false) closed full (λ e. refl)
-    (λ e. ap has_any (append-nil (without_anchors (current ++ text_of items cs))) ∙ ap has_any same ∙ holds (sym (or_off solid) ∙ e))
+    (λ e. ap has_any (append-nil (without_anchors (current ++ text_of items cs))) ∙ ap has_any same ∙ holds (sym (or-false solid) ∙ e))
 cut_kept items (Content (token.Atomic n m) ∷ es) current cs inside solid closed full empty holds = put items es current cs (item.Atomic n m) (solid || true) refl (cut_kept items es) closed full
 cut_kept items (Content (token.Start n takes) ∷ es) current cs inside solid closed full empty holds =
     put items es current cs (item.Start n takes) (solid || false) refl (cut_kept items es) closed full
@@ -146,7 +143,7 @@ cut_kept items (Content (token.Anchor n) ∷ es) current cs inside solid closed 
     ap (λ a. cut (without_anchors items) (without_anchors current) (moved_all items a) (kept_entries (place items) es)) none
     ∙ ap (λ a. cut (without_anchors items) a [] (kept_entries (place items) es)) (sym same)
     ∙ cut_kept items es next [] false (solid || false) closed.1 full (λ e. refl)
-    (λ e. ap has_any (append-nil (without_anchors next)) ∙ ap has_any gone ∙ holds (sym (or_off solid) ∙ e))
+    (λ e. ap has_any (append-nil (without_anchors next)) ∙ ap has_any gone ∙ holds (sym (or-false solid) ∙ e))
 
 pub anchors_move_no_break_lem : AnchorsMoveNoBreak
 anchors_move_no_break_lem items =

@@ -1,6 +1,7 @@
 -- Anchors stand behind texts that have ended, and each break behind a cluster or an atomic.
 use Rattle.std.proofs.Common.{◌≡◌, ℕ, ◌++◌, Bool, true, false, cond, if◌then◌else◌, ◌||◌, List, [], ◌∷◌, Some, None, refl, sym, ap, ◌∙◌, subst, append-nil}
 use Rattle.std.proofs.lemmas.Bool.{true≢false, or_right}
+use Rattle.std.proofs.Math.Bool.{or-false}
 use Rattle.lay_space.specs.declared.tokens.Token.{Token}
 use Rattle.lay_space.specs.declared.tokens.Token.TheVariants as token
 use Rattle.lay_space.specs.declared.breaks.Entry.{Entry}
@@ -167,14 +168,10 @@ Full solid [] = Unit {0}
 Full solid (Break g ∷ es) = (solid ≡ true) × Full false es
 Full solid (Content x ∷ es) = Full (solid || is_cluster_or_atomic x) es
 
-or_off : (b : Bool) → (b || false) ≡ b
-or_off true = refl
-or_off false = refl
-
 full_one : (solid b : Bool) (x : Token) (es : List Entry) → is_cluster_or_atomic x ≡ b → ((s : Bool) → Full s (marks es) → Full s es)
     → Full solid (cond b (Content x ∷ marks es) (marks es)) → Full (solid || b) es
 full_one solid true x es e rest is = rest (solid || true) (subst (λ a. Full (solid || a) (marks es)) e is)
-full_one solid false x es e rest is = rest (solid || false) (subst (λ a. Full a (marks es)) (sym (or_off solid)) is)
+full_one solid false x es e rest is = rest (solid || false) (subst (λ a. Full a (marks es)) (sym (or-false solid)) is)
 
 full_marks : (es : List Entry) (solid : Bool) → Full solid (marks es) → Full solid es
 full_marks [] solid is = is

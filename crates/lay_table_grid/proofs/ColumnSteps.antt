@@ -1,12 +1,9 @@
 -- The boxes of columns.
-use Rattle.std.proofs.Common.{◌≡◌, ℕ, ◌≤◌, ◌||◌, Bool, true, false, List, [], length, drop, refl, sym, ap, ◌∙◌}
+use Rattle.std.proofs.Common.{◌≡◌, ℕ, ◌≤◌, ◌||◌, Bool, List, [], length, drop, sym, ap, ◌∙◌}
 use Rattle.std.proofs.Math.ListN.{drop_of_length-le}
+use Rattle.std.proofs.Math.Bool.{or-false}
 use Rattle.lay_box_tree.specs.declared.box_tree.BoxNode.{BoxNode}
 use Rattle.lay_table_grid.specs.Pass.ColumnMarks.{AreColumnMarks, ColumnMarksTo, any_in, mark_at}
-
-or_false : (b : Bool) → b || false ≡ b
-or_false true = refl
-or_false false = refl
 
 -- behind the last box no column stands
 pub marks_done : (boxes : List BoxNode) (n : ℕ) (marks : List Bool) → length boxes ≤ n → ColumnMarksTo boxes n marks → AreColumnMarks boxes marks
@@ -15,5 +12,5 @@ marks_done boxes n marks all to = record {
   each = λ p less.
       let none : drop n boxes ≡ [] = drop_of_length-le boxes all in
       let rest = ap (λ (xs : List BoxNode). mark_at marks p || any_in p xs) none in
-      sym (or_false (mark_at marks p)) ∙ sym rest ∙ to.each p less;
+      sym (or-false (mark_at marks p)) ∙ sym rest ∙ to.each p less;
 }

@@ -2,6 +2,7 @@
 use Rattle.std.proofs.Common.{◌≡◌, true, ℕ, zero, suc, ◌<◌, ◌≤◌, List, [], ◌∷◌, ◌++◌, length, slice_get, refl, sym, ap, ◌∙◌, arith, inl, inr, Option, Some, None, subst}
 use Rattle.std.proofs.lemmas.Bool.{cases_lt}
 use Rattle.std.proofs.lemmas.Grind.{elements}
+use Rattle.std.proofs.lemmas.List.{append-nil}
 use Rattle.lay_flow.specs.declared.blocks.flow_box.FlowBox.{FlowBox}
 use Rattle.lay_units.specs.declared.length.Unit.{Unit as Length}
 use Rattle.lay_floats.specs.declared.placed.Placed.{Placed}
@@ -23,10 +24,6 @@ floats_same boxes places others (suc k) same =
     let e = floats_same boxes places others k (λ j lt. same j (omega (arith, lt))) in
     let f = same k (omega arith) in
     rw (e, f) refl
-
-pub nothing_more : (xs : List Placed) → xs ++ [] ≡ xs
-nothing_more [] = refl
-nothing_more (x ∷ xs) = ap (λ (zs : List Placed). x ∷ zs) (nothing_more xs)
 
 -- a float is in the list
 abbrev pub Has : List Placed → Placed → Type 0
@@ -76,8 +73,8 @@ module _ (boxes : List FlowBox) (clear : Clear) where
           → Has (floats_before boxes places n ++ float_of (shape_at boxes n) (place_at places n)) f → Has (floats_before boxes others n ++ float_of (shape_at boxes n) (place_at others n)) f
       go None e earlier w =
           let w' : Has (floats_before boxes places n ++ []) f = rw e at w in
-          let back = earlier (subst (λ (xs : List Placed). Has xs f) (nothing_more (floats_before boxes places n)) w') in
-          rw e (subst (λ (xs : List Placed). Has xs f) (sym (nothing_more (floats_before boxes others n))) back)
+          let back = earlier (subst (λ (xs : List Placed). Has xs f) (append-nil (floats_before boxes places n)) w') in
+          rw e (subst (λ (xs : List Placed). Has xs f) (sym (append-nil (floats_before boxes others n))) back)
       go (Some side) e earlier w =
           let mine : Placed = record { side = side; x = (place_at places n).x; y = (place_at places n).y; width = (shape_at boxes n).width; height = (shape_at boxes n).height } in
           let other : Placed = record { side = side; x = (place_at others n).x; y = (place_at others n).y; width = (shape_at boxes n).width; height = (shape_at boxes n).height } in

@@ -5,6 +5,7 @@ use Rattle.std.specs.List.{list_any, slice_get}
 use Rattle.std.proofs.lemmas.List.Folds.{list_any-append}
 use Rattle.std.proofs.lemmas.List.Elements.{All-head, All-tail}
 use Rattle.std.proofs.lemmas.Bool.{or_left}
+use Rattle.std.proofs.Math.Bool.{or-false}
 use Rattle.lay_units.specs.declared.length.Unit.{Unit as Length}
 use Rattle.lay_units.specs.declared.records.ClusterWidth.{ClusterWidth}
 use Rattle.lay_space.specs.declared.item.Item.{Item}
@@ -22,7 +23,6 @@ use Rattle.lay_line_measures.specs.BoxMeasuresValue.{BoxMeasuresValue}
 use Rattle.lay_line_measures.specs.SeenLines.{has_seen_line, is_seen as is_seen_part}
 use Rattle.lay_line_measures.specs.Stretches.{parts_at as line_parts_at, parts_of as line_parts_of, stretches_of}
 use Rattle.lay_line_measures.specs.TextParts.{advance, cluster_parts, linefeed_parts, text_parts as line_text_parts}
-use Rattle.lay_line_measures.proofs.Disjunctions.{or_false}
 use Rattle.lay_line_measures.proofs.SeenPens.{seen_at, take_more}
 use Rattle.lay_measure.specs.declared.line_parts.LinePart.{LinePart}
 use Rattle.lay_measure.specs.declared.line_parts.LinePart.TheVariants as part
@@ -78,7 +78,7 @@ text_seen node m text (w ∷ ws) h =
 
 edge_seen : (x : LinePart) (w : Length) (b seen : Bool) → x ≡ part.Edge w b → (IsTrue seen → IsTrue b)
     → (seen || false) ≡ true → list_any is_seen (x ∷ []) ≡ true
-edge_seen x w b seen e means h = ap (λ (y : LinePart). list_any is_seen (y ∷ [])) e ∙ or_left b false (means (sym (or_false seen) ∙ h))
+edge_seen x w b seen e means h = ap (λ (y : LinePart). list_any is_seen (y ∷ [])) e ∙ or_left b false (means (sym (or-false seen) ∙ h))
 
 item_seen : (how : Breaking) (m : BoxMeasuresValue) (by : MeasureInValue) (x : Item) → IsAsMeasured how m by x
     → list_any is_seen_part (line_parts_at m x) ≡ true → list_any is_seen (parts_at by x) ≡ true
@@ -105,7 +105,7 @@ first_seen how m by c begins [] are h = absurd cc
 first_seen how m by c begins (s ∷ ss) are h =
     let here = items_seen how m
     by s.items (All-head (λ (t : Segment). All (IsAsMeasured how m by) t.items) s ss are)
-    (sym (or_false (list_any is_seen_part (line_parts_of m s.items))) ∙ h) in
+    (sym (or-false (list_any is_seen_part (line_parts_of m s.items))) ∙ h) in
     list_any-append is_seen (parts_of by s.items) (part.Break s.forced ∷ line_parts by ss)
     ∙ or_left (list_any is_seen (parts_of by s.items)) (list_any is_seen (part.Break s.forced ∷ line_parts by ss)) here
 

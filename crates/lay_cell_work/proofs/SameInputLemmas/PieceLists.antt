@@ -1,1 +1,0 @@
--- Lists of which each entry stands for a value.
