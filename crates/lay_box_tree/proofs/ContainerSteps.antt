@@ -38,7 +38,7 @@ pub container_is : (boxes : List BoxNode) (containers : List ℕ) (k : ℕ) → 
 container_is boxes containers k are found within =
     one_container boxes k (slice_index containers k) (container_of boxes k) (found.each k within) (containers_are_nearest_lem boxes k are within)
 
-some_before : (boxes : List BoxNode) (p : ℕ) → counts boxes p ≡ false → 0 < p
+pub some_before : (boxes : List BoxNode) (p : ℕ) → counts boxes p ≡ false → 0 < p
 some_before boxes zero is = absurd cc
 some_before boxes (suc p) is = omega arith
 

@@ -18,7 +18,6 @@ pub mod ListedContexts
 pub mod ListedForests
 pub mod ListedKinds
 pub mod ListedLeaves
-pub mod NodeColumns
 pub mod NodeForms
 pub mod Putting
 pub mod Settled

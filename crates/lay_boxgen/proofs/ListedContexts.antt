@@ -3,6 +3,7 @@ use Rattle.std.proofs.Common.{◌≡◌, ◌<◌, ℕ, zero, suc, ◌+◌, ◌==
 use Rattle.lay_style.specs.declared.style.Style.{Style}
 use Rattle.lay_style.specs.Places.{place_of}
 use Rattle.lay_doc.specs.Document.{Document, IsDocument, ids_of}
+use Rattle.lay_doc.proofs.NodeColumns.{length-ids}
 use Rattle.lay_boxgen.specs.Boxes.{Tree, Trees, tree, no_trees, also, trees_of, facts_of}
 use Rattle.lay_boxgen.specs.Contexts.{IsContextAt, IsContextThere}
 use Rattle.lay_boxgen.specs.InnerBoxes.{AllBoxes, AllIn, AllOf, IsInnerContext, LeadsOn, IsBehind, BoxesLeadOn}
@@ -11,7 +12,6 @@ use Rattle.lay_boxgen.specs.Parts.{is_closed, put, all_put, put_list, nothing, w
 use Rattle.lay_box_tree.specs.declared.box_tree.BoxNode.{BoxNode}
 use Rattle.lay_boxgen.specs.declared.facts.Facts.{Facts}
 use Rattle.lay_boxgen.proofs.InnerContexts.{inner_boxes_are_contexts}
-use Rattle.lay_boxgen.proofs.NodeColumns.{length-ids}
 
 module _ (P : Facts → Type 0) where
   part_by : (us : Trees) → AllIn P us → AllIn P (all_put nothing us) → (b : Bool) → AllIn P (if b then no_trees else all_put nothing us)

@@ -33,7 +33,7 @@ context_is_one_box nodes styles k f us h i =
     ∙ ((stays_one (as_own f) false us i).0
     ∙ ap (λ r. tree (as_own f) r ∷ []) ((stays_one f false us i).1 ∙ ap (inside f) (sym (below-own nodes styles f us s))))
 
-no_flow : (f : Flow) → is_absolute f ≡ true → is_in_flow f ≡ false
+pub no_flow : (f : Flow) → is_absolute f ≡ true → is_in_flow f ≡ false
 no_flow flow.InFlow h = cc
 no_flow flow.Floating h = cc
 no_flow flow.Absolute h = refl

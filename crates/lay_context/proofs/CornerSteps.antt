@@ -1,10 +1,10 @@
 -- A column of corners on the page that grows, from outer to inner formatting contexts.
 use Rattle.std.proofs.Common.{◌≡◌, ℕ, ◌<◌, ◌≤◌, List, [], ◌∷◌, ◌++◌, length, length-append, refl, sym, ◌∙◌, arith, inl, inr}
 use Rattle.std.proofs.lemmas.Bool.{cases_lt}
-use Rattle.std.proofs.lemmas.Grind.{elements}
 use Rattle.lay_contexts.specs.FormattingContexts.{FormattingContext, AreFormattingContexts, formatting_context_at}
-use Rattle.lay_placements.specs.Corners.{AreNearCorners, IsCornerNear, corner_at}
+use Rattle.lay_placements.specs.Corners.{corner_at}
 use Rattle.lay_placements.specs.declared.corner.Corner.{Corner}
+use Rattle.lay_placements.proofs.CornerColumns.{read_before, read_last}
 use Rattle.lay_context.specs.PlacedContexts.{PlacedContext, placed_in}
 use Rattle.lay_context.specs.PageCorners.{HasPageCorners, inner_corner}
 
@@ -12,12 +12,6 @@ use Rattle.lay_context.specs.PageCorners.{HasPageCorners, inner_corner}
 pub record PageCornersTo (contexts : List FormattingContext) (places : List PlacedContext) (corners : List Corner) : Type 0 where
   pub first : 0 < length corners → corner_at corners 0 ≡ (placed_in places 0).offset
   pub inner : (i : ℕ) → 0 < i → i < length corners → corner_at corners i ≡ inner_corner contexts places corners i
-
-read_before : (cs : List Corner) (c : Corner) (k : ℕ) → k < length cs → corner_at (cs ++ c ∷ []) k ≡ corner_at cs k
-read_before cs c k lt = grind (arith, elements)
-
-read_last : (cs : List Corner) (c : Corner) (k : ℕ) → k ≡ length cs → corner_at (cs ++ c ∷ []) k ≡ c
-read_last cs c k is = grind (arith, elements)
 
 inner_before : (contexts : List FormattingContext) (places : List PlacedContext) (cs : List Corner) (c : Corner) → AreFormattingContexts contexts
     → (i : ℕ) → 0 < i → i < length contexts → i ≤ length cs → inner_corner contexts places (cs ++ c ∷ []) i ≡ inner_corner contexts places cs i
@@ -41,12 +35,6 @@ one_more contexts places cs c are within so_far first inner =
             rw q (read_last cs c (length cs) refl ∙ inner more ∙ sym (inner_before contexts places cs c are (length cs) more within (omega arith))))
       ];
     }
-
-pub one_more_near : (cs : List Corner) (c : Corner) → AreNearCorners cs → IsCornerNear c → AreNearCorners (cs ++ c ∷ [])
-one_more_near cs c near more i lt = elim (cases_lt i (length cs)) [
-  | inl low ↦ rw (read_before cs c i low) (near i low)
-  | inr high ↦ (let counted = length-append cs (c ∷ []) in rw (read_last cs c i (omega (arith, high, lt, counted))) more)
-]
 
 pub all_corners : (contexts : List FormattingContext) (places : List PlacedContext) (cs : List Corner) → length cs ≡ length contexts
     → PageCornersTo contexts places cs → HasPageCorners contexts places cs

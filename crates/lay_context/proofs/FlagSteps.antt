@@ -4,10 +4,10 @@ use Rattle.std.proofs.lemmas.Bool.{cases_lt}
 use Rattle.std.proofs.lemmas.Grind.{elements}
 use Rattle.lay_flow.specs.Blocks.Children.{flag_at}
 
-read_before : (flags : List Bool) (b : Bool) (k : ℕ) → k < length flags → flag_at (flags ++ b ∷ []) k ≡ flag_at flags k
+pub read_before : (flags : List Bool) (b : Bool) (k : ℕ) → k < length flags → flag_at (flags ++ b ∷ []) k ≡ flag_at flags k
 read_before flags b k lt = grind (arith, elements)
 
-read_last : (flags : List Bool) (b : Bool) (k : ℕ) → k ≡ length flags → flag_at (flags ++ b ∷ []) k ≡ b
+pub read_last : (flags : List Bool) (b : Bool) (k : ℕ) → k ≡ length flags → flag_at (flags ++ b ∷ []) k ≡ b
 read_last flags b k e = grind (arith, elements)
 
 pub one_more : (f : ℕ → Bool) (flags : List Bool) (b : Bool) (i : ℕ) → length flags ≡ i → ((j : ℕ) → j < i → flag_at flags j ≡ f j) → b ≡ f i

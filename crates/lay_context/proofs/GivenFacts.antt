@@ -1,9 +1,9 @@
 -- What a formatting context is given by the one around it, and where it stands.
-use Rattle.std.proofs.Common.{◌≡◌, ◌<◌, ℕ, zero, suc, ◌+◌, ◌≤◌, List, [], ◌∷◌, ◌++◌, length, length-append, map, take, slice_index, refl, arith, inl, inr}
+use Rattle.std.proofs.Common.{◌≡◌, ◌<◌, ℕ, zero, suc, ◌+◌, List, [], ◌∷◌, ◌++◌, length, length-append, map, take, slice_index, refl, arith, inl, inr}
 use Rattle.std.proofs.lemmas.Bool.{cases_lt}
-use Rattle.std.proofs.Math.ListN.{get_or-eq_default}
 use Rattle.std.proofs.lemmas.Grind.{elements}
 use Rattle.std.proofs.lemmas.List.{map-append, take_more}
+use Rattle.lay_placement.proofs.PieceSteps.{none_beyond}
 use Rattle.lay_frag.specs.declared.frag.Frag.{Frag}
 use Rattle.lay_sizes.specs.declared.own_boxes.OwnBox.{OwnBox}
 use Rattle.lay_sizes.specs.OwnBoxes.{OwnBoxFits, OwnBoxesFit, own_box_at}
@@ -45,9 +45,6 @@ pieces_before all p k lt = grind (arith, elements)
 pieces_last : (all : List (List Frag)) (p : List Frag) (k : ℕ) → k ≡ length all → inner_pieces_at (all ++ p ∷ []) k ≡ p
 pieces_last all p k e = grind (arith, elements)
 
-pieces_behind : (all : List (List Frag)) (k : ℕ) → length all ≤ k → inner_pieces_at all k ≡ []
-pieces_behind all k le = get_or-eq_default all [] le
-
 pub no_pieces_are_near : AreNearPieces []
 no_pieces_are_near k lt = absurd (omega (arith, lt))
 
@@ -58,7 +55,7 @@ pub one_more_near : (all : List (List Frag)) (p : List Frag) → AreNearInnerPie
 one_more_near all p near more k = elim (cases_lt k (length all)) [
   | inl low ↦ rw (pieces_before all p k low) (near k)
   | inr high ↦ elim (cases_lt (length all) k) [
-    | inl behind ↦ (let counted = length-append all (p ∷ []) in rw (pieces_behind (all ++ p ∷ []) k (omega (arith, behind, counted))) no_pieces_are_near)
+    | inl behind ↦ (let counted = length-append all (p ∷ []) in rw (none_beyond (all ++ p ∷ []) k (omega (arith, behind, counted))) no_pieces_are_near)
     | inr here ↦ rw (pieces_last all p k (omega (arith, high, here))) more
   ]
 ]

@@ -4,7 +4,7 @@ use Rattle.std.proofs.lemmas.List.{ext_get_or}
 use Rattle.lay_doc.specs.Document.{Document, IsDocument, parents_of, declarations_of}
 use Rattle.lay_face.specs.FaceValue.{FaceValue}
 use Rattle.lay_doc.proofs.OneStyles.{one_style_column_lem}
-use Rattle.lay_boxgen.proofs.NodeColumns.{length-parents}
+use Rattle.lay_doc.proofs.NodeColumns.{length-parents}
 use Rattle.lay_frag.specs.Pieces.{Context as PageContext}
 use Rattle.lay_contexts.specs.ContextList.{AreContextsOf}
 use Rattle.lay_contexts.proofs.ContextNumbers.{are_contexts, one_context_list_lem}

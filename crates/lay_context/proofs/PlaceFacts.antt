@@ -3,9 +3,8 @@ use Rattle.std.proofs.Common.{◌≡◌, ℕ, zero, suc, Bool, true, false, [], 
 use Rattle.lay_context_sizes.specs.MeasuredContexts.{MeasuredContext}
 use Rattle.lay_placements.specs.Placements.{Placement}
 use Rattle.lay_flow_boxes.specs.PlaceInputs.{PlaceInput}
-use Rattle.lay_placement.specs.BoxStandings.{standing_of_box, standings_to}
 use Rattle.lay_placement.specs.ContextPlacements.{IsPlacement}
-use Rattle.lay_placement.specs.ContextPlaces.{ContextPlaces}
+use Rattle.lay_placement.proofs.StandingCounts.{length_standings}
 use Rattle.lay_table.specs.TableInputs.{TableInput}
 use Rattle.lay_table.specs.TablePlacements.{IsTablePlacement, standings_to as table_standings_to}
 use Rattle.lay_table.specs.TableStandings.{TablePlaces, standing_of}
@@ -36,18 +35,13 @@ pub not_sized : (flow : PlaceInput) (table : Option TableInput) (at : StandInput
 not_sized flow None at sized local = local
 not_sized flow (Some table) at sized local = local
 
-flow_count : (i : PlaceInput) (p : ContextPlaces) (n : ℕ) → length (standings_to i p n) ≡ n
-flow_count i p zero = refl
-flow_count i p (suc n) =
-    let rest = flow_count i p n in omega (arith, rest, length-append (standings_to i p n) (standing_of_box i p n ∷ []))
-
 table_count : (i : TableInput) (p : TablePlaces) (n : ℕ) → length (table_standings_to i p n) ≡ n
 table_count i p zero = refl
 table_count i p (suc n) =
     let rest = table_count i p n in omega (arith, rest, length-append (table_standings_to i p n) (standing_of i p n ∷ []))
 
 flow_stands : (i : PlaceInput) (p : Placement) → IsPlacement i p → length p.standings ≡ length i.boxes
-flow_stands i p is = ap (λ (a : Placement). length a.standings) is.answer_is ∙ flow_count i is.places (length i.boxes)
+flow_stands i p is = ap (λ (a : Placement). length a.standings) is.answer_is ∙ length_standings i is.places (length i.boxes)
 
 table_stands : (i : TableInput) (p : Placement) → IsTablePlacement i p → length p.standings ≡ length i.boxes
 table_stands i p is = ap (λ (a : Placement). length a.standings) is.answer_is ∙ table_count i is.places (length i.boxes)

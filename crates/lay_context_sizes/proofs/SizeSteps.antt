@@ -3,6 +3,7 @@ use Rattle.std.proofs.Common.{◌≡◌, ℕ, ◌+◌, ◌<◌, ◌≤◌, true,
 use Rattle.std.proofs.lemmas.Bool.{cases_lt}
 use Rattle.std.proofs.lemmas.Int.{ints}
 use Rattle.std.proofs.lemmas.Grind.{elements}
+use Rattle.lay_table_sizes.proofs.SizeSteps.{read_before, read_last}
 use Rattle.lay_units.specs.Units.{IsPosition}
 use Rattle.lay_box_tree.specs.declared.box_tree.BoxNode.{BoxNode}
 use Rattle.lay_sizes.specs.declared.sizing.BoxSizes.{BoxSizes}
@@ -24,12 +25,6 @@ pub record SizesTo (own : BoxSizes) (boxes : List BoxNode) (sizes : List BoxSize
   pub each : (k : ℕ) → 0 < k → k < n → is_inner boxes k ≡ false → IsBoxSized boxes sizes k (sizes_at sizes k)
   pub inner : (k : ℕ) → 0 < k → k < n → is_inner boxes k ≡ true → sizes_at sizes k ≡ no_sizes
   pub bounds : HaveSizeBounds sizes
-
-read_before : (sizes : List BoxSizes) (z : BoxSizes) (k : ℕ) → k < length sizes → sizes_at (sizes ++ z ∷ []) k ≡ sizes_at sizes k
-read_before sizes z k lt = grind (arith, elements)
-
-read_last : (sizes : List BoxSizes) (z : BoxSizes) (k : ℕ) → k ≡ length sizes → sizes_at (sizes ++ z ∷ []) k ≡ z
-read_last sizes z k e = grind (arith, elements)
 
 around_before : (boxes : List BoxNode) → AreContextBoxes boxes → (sizes : List BoxSizes) (z : BoxSizes) (k : ℕ) → 0 < k → k < length boxes → k ≤ length sizes
     → block_around boxes (sizes ++ z ∷ []) k ≡ block_around boxes sizes k

@@ -8,11 +8,11 @@ use Rattle.lay_style.specs.InitialStyle.{initial_style}
 use Rattle.lay_doc.specs.declared.node.Node.{Node}
 use Rattle.lay_doc.specs.Document.{parents_of}
 use Rattle.lay_doc.specs.Tree.{IsTree}
+use Rattle.lay_doc.proofs.NodeColumns.{length-parents}
 use Rattle.lay_boxgen.specs.Contexts.{box_at, box_of_node}
 use Rattle.lay_boxgen.specs.NodeBoxes.{node_box}
 use Rattle.lay_boxgen.specs.NodeTrees.{and_child, as_child, box_with, children_of, first_tree, node_trees, others_than_children, tree_at}
 use Rattle.lay_boxgen.specs.declared.node_trees.NodeTree.{NodeTree}
-use Rattle.lay_boxgen.proofs.NodeColumns.{length-parents}
 use Rattle.lay_contexts.specs.NodeTreeLaws.{ChildrenStandInOrder, child_trees, children_places, places_from}
 
 -- What stands at a place of a list.

@@ -89,10 +89,10 @@ pub record AreBlankTo (spots : List ContextSpot) (boxes : List (List BoxNode)) (
   pub count : length contexts ≡ n
   pub each : (i : ℕ) → i < n → IsNumberedTo spots boxes (context_at contexts i) 0 i
 
-blank_before : (cs : List Context) (c : Context) (k : ℕ) → k < length cs → context_at (cs ++ c ∷ []) k ≡ context_at cs k
+pub blank_before : (cs : List Context) (c : Context) (k : ℕ) → k < length cs → context_at (cs ++ c ∷ []) k ≡ context_at cs k
 blank_before cs c k lt = grind (arith, elements)
 
-blank_last : (cs : List Context) (c : Context) (k : ℕ) → k ≡ length cs → context_at (cs ++ c ∷ []) k ≡ c
+pub blank_last : (cs : List Context) (c : Context) (k : ℕ) → k ≡ length cs → context_at (cs ++ c ∷ []) k ≡ c
 blank_last cs c k e = grind (arith, elements)
 
 -- a context in which no number stands

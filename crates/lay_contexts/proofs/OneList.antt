@@ -5,8 +5,8 @@ use Rattle.lay_style.specs.declared.style.Style.{Style}
 use Rattle.lay_doc.specs.declared.node.Node.{Node}
 use Rattle.lay_doc.specs.Document.{parents_of}
 use Rattle.lay_doc.specs.Tree.{IsTree}
+use Rattle.lay_doc.proofs.NodeColumns.{length-parents}
 use Rattle.lay_boxgen.specs.Contexts.{IsContextAt, box_at, is_marked}
-use Rattle.lay_boxgen.proofs.NodeColumns.{length-parents}
 use Rattle.lay_contexts.specs.ContextTree.{IsAround, StandsIn, StandsOnce, further, parent, parent_of}
 use Rattle.lay_contexts.specs.DocumentContexts.{AreDocumentContexts, ContextsStandInOrder, OneListOfContexts, spot_at}
 use Rattle.lay_contexts.specs.declared.context_spot.ContextSpot.{ContextSpot}

@@ -7,13 +7,13 @@ use Rattle.lay_style.specs.ComputedStyle.{style_at}
 use Rattle.lay_doc.specs.declared.node.Node.{Node}
 use Rattle.lay_doc.specs.Document.{ids_of, is_element_at, parents_of}
 use Rattle.lay_doc.specs.Tree.{IsTree}
+use Rattle.lay_doc.proofs.NodeColumns.{length-parents}
 use Rattle.lay_boxgen.specs.Boxes.{tree, trees_of}
 use Rattle.lay_boxgen.specs.Contexts.{GeneratesBox, IsContextAt, box_at, box_of_node, has_box, is_marked, root, below}
 use Rattle.lay_boxgen.specs.NodeBoxes.{facts_with, form_of}
 use Rattle.lay_boxgen.specs.NodeTrees.{as_child, box_with, children_of, tree_at}
 use Rattle.lay_boxgen.specs.declared.facts.Facts.{Facts}
 use Rattle.lay_boxgen.specs.declared.facts.Form.{Form}
-use Rattle.lay_boxgen.proofs.NodeColumns.{length-parents}
 use Rattle.lay_contexts.specs.ContextTree.{ContextsStandOnce, IsAround, StandsIn, StandsOnce, boxes_of_place, further, parent, parent_of}
 use Rattle.lay_contexts.proofs.Apart.{Below, IsBelow, child, cut-below, deeper, inner-below}
 use Rattle.lay_contexts.proofs.Counted.{IsThere, count, find, least, most, named-once, two}

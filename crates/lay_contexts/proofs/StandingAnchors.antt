@@ -93,7 +93,7 @@ both_ways x r e = (
   (λ anchor. absolute_flow x (sym e ∙ ap is_anchor_role anchor)),
 )
 
-flow_of : (boxes : List BoxNode) (k : ℕ) → flow_at boxes k ≡ (box_at boxes k).flow
+pub flow_of : (boxes : List BoxNode) (k : ℕ) → flow_at boxes k ≡ (box_at boxes k).flow
 flow_of [] k = refl
 flow_of (b ∷ bs) zero = refl
 flow_of (b ∷ bs) (suc k) = flow_of bs k

@@ -23,7 +23,7 @@ changed_is (x ∷ xs) zero n f lt is = ap (λ (m : Node). f m ∷ xs) is
 changed_is (x ∷ xs) (suc k) n f lt is = ap (λ (r : List Node). x ∷ r) (changed_is xs k n f (omega arith) is)
 
 -- a column that the change leaves as it is
-column_stays : {X : Type 0} (g : Node → X) (f : Node → Node) → ((n : Node) → g (f n) ≡ g n) → (k : ℕ) (nodes : List Node) → map g (changed_at k f nodes) ≡ map g nodes
+pub column_stays : {X : Type 0} (g : Node → X) (f : Node → Node) → ((n : Node) → g (f n) ≡ g n) → (k : ℕ) (nodes : List Node) → map g (changed_at k f nodes) ≡ map g nodes
 column_stays g f same k [] = refl
 column_stays g f same zero (x ∷ xs) = rw (same x) refl
 column_stays g f same (suc k) (x ∷ xs) = rw (column_stays g f same k xs) refl
@@ -33,7 +33,7 @@ sum_stays g f same k [] = refl
 sum_stays g f same zero (x ∷ xs) = sum_by-cons g (f x) xs ∙ ap (λ (m : ℕ). m + sum_by g xs) (same x) ∙ sym (sum_by-cons g x xs)
 sum_stays g f same (suc k) (x ∷ xs) = sum_by-cons g x (changed_at k f xs) ∙ ap (λ (m : ℕ). g x + m) (sum_stays g f same k xs) ∙ sym (sum_by-cons g x xs)
 
-length-changed : (f : Node → Node) (k : ℕ) (nodes : List Node) → length (changed_at k f nodes) ≡ length nodes
+pub length-changed : (f : Node → Node) (k : ℕ) (nodes : List Node) → length (changed_at k f nodes) ≡ length nodes
 length-changed f k [] = refl
 length-changed f zero (x ∷ xs) = refl
 length-changed f (suc k) (x ∷ xs) = ap suc (length-changed f k xs)

@@ -24,7 +24,7 @@ use Rattle.lay_doc.proofs.NodeColumns.{length-parents, length-ids}
 use Rattle.lay_doc.proofs.Removed.{removed_document}
 use Rattle.lay_doc.proofs.Subtrees.{end_is_slot}
 
-there : (nodes : List Node) (id p : ℕ) → place_of id (ids_of nodes) ≡ Some p → p < length nodes
+pub there : (nodes : List Node) (id p : ℕ) → place_of id (ids_of nodes) ≡ Some p → p < length nodes
 there nodes id p e = let h = place_within id (ids_of nodes) p e in omega (arith, h, length-ids nodes)
 
 -- a change of declarations

@@ -45,7 +45,7 @@ texts_inserted nodes at node = same_column (λ n. length n.text) nodes at node (
 elements_inserted : (nodes : List Node) (at : ℕ) (node : Node) → elements_of (inserted nodes at node) ≡ insert (elements_of nodes) at (is_element node.kind)
 elements_inserted nodes at node = same_column (λ n. is_element n.kind) nodes at node (λ _. refl)
 
-parents_inserted : (nodes : List Node) (at : ℕ) (node : Node) → parents_of (inserted nodes at node) ≡ map (shifted at) (insert (parents_of nodes) at node.parent)
+pub parents_inserted : (nodes : List Node) (at : ℕ) (node : Node) → parents_of (inserted nodes at node) ≡ map (shifted at) (insert (parents_of nodes) at node.parent)
 parents_inserted nodes at node = map-map (λ n. n.parent) (moved at) (insert nodes at node) ∙ sym (map-map (shifted at) (λ n. n.parent) (insert nodes at node)) ∙ ap (map (shifted at)) (map-insert (λ n. n.parent) nodes at node)
 
 pub text_size_inserted : (nodes : List Node) (at : ℕ) (node : Node) → text_size (inserted nodes at node) ≡ text_size nodes + length node.text
@@ -63,7 +63,7 @@ above_read xs at x d k over within =
     let q : k - 1 + 1 ≡ k = omega arith in
     ap (λ (m : ℕ). get_or (insert xs at x) m d) (sym q) ∙ get_or-insert_above xs at x d (k - 1) (omega arith) within
 
-moved_read : {X : Type 0} (xs : List X) (at : ℕ) (x d : X) (u : ℕ) → at ≤ length xs → get_or (insert xs at x) (shifted at u) d ≡ get_or xs u d
+pub moved_read : {X : Type 0} (xs : List X) (at : ℕ) (x d : X) (u : ℕ) → at ≤ length xs → get_or (insert xs at x) (shifted at u) d ≡ get_or xs u d
 moved_read xs at x d u within = elim (cases_lt u at) [
   | inl low ↦ ap (λ (m : ℕ). get_or (insert xs at x) m d) (shifted_low at u low) ∙ get_or-insert_below xs at x d u low within
   | inr high ↦ ap (λ (m : ℕ). get_or (insert xs at x) m d) (shifted_high at u high) ∙ get_or-insert_above xs at x d u high within

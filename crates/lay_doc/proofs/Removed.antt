@@ -17,13 +17,13 @@ use Rattle.lay_doc.proofs.Inserted.{map-map}
 use Rattle.lay_doc.proofs.Subtrees.{parent_outside}
 use Rattle.lay_doc.proofs.Cut.{length-cut, map-cut, old_place, old_low, old_high, cut_read, old_less, old_inside, old_more, old_outside, old_less_back, old_le_back, distinct_cut}
 
-closed_low : (i j u : ℕ) → u < i → closed_up i j u ≡ u
+pub closed_low : (i j u : ℕ) → u < i → closed_up i j u ≡ u
 closed_low i j u low = let t = lt-ltb u i low in rw t refl
 
-closed_high : (i j u : ℕ) → i ≤ u → closed_up i j u ≡ u - (j - i)
+pub closed_high : (i j u : ℕ) → i ≤ u → closed_up i j u ≡ u - (j - i)
 closed_high i j u high = let t = le-ltb u i high in rw t refl
 
-old_closed : (i j u : ℕ) → i ≤ j → (i ≤ u → j ≤ u) → old_place i j (closed_up i j u) ≡ u
+pub old_closed : (i j u : ℕ) → i ≤ j → (i ≤ u → j ≤ u) → old_place i j (closed_up i j u) ≡ u
 old_closed i j u le outside = elim (cases_lt u i) [
   | inl low ↦ ap (old_place i j) (closed_low i j u low) ∙ old_low i j u low
   | inr high ↦ (let h = outside high in let q : (u - (j - i)) + (j - i) ≡ u = omega arith in
@@ -58,7 +58,7 @@ texts_removed nodes i j = same_column (λ n. length n.text) nodes i j (λ _. ref
 elements_removed : (nodes : List Node) (i j : ℕ) → elements_of (removed_between nodes i j) ≡ remove_range (elements_of nodes) i j
 elements_removed nodes i j = same_column (λ n. is_element n.kind) nodes i j (λ _. refl)
 
-parents_removed : (nodes : List Node) (i j : ℕ) → parents_of (removed_between nodes i j) ≡ map (closed_up i j) (remove_range (parents_of nodes) i j)
+pub parents_removed : (nodes : List Node) (i j : ℕ) → parents_of (removed_between nodes i j) ≡ map (closed_up i j) (remove_range (parents_of nodes) i j)
 parents_removed nodes i j = map-map (λ n. n.parent) (moved_back i j) (remove_range nodes i j) ∙ sym (map-map (closed_up i j) (λ n. n.parent) (remove_range nodes i j)) ∙ ap (map (closed_up i j)) (map-cut (λ n. n.parent) nodes i j)
 
 pub text_size_removed : (nodes : List Node) (i j : ℕ) → text_size (removed_between nodes i j) ≡ text_size (remove_range nodes i j)

@@ -1,11 +1,11 @@
 -- What calls answer of a document with its cells.
 use Rattle.std.proofs.Common.{◌≡◌, ℕ, ◌+◌, ◌*◌, ◌≤◌, ◌<◌, Bool, true, false, not, List, [], length, slice_get, Option, None, Some, Result, Ok, Err, IfOk, IfSome, IfNone, OnOk, OnErr, IsErr, IsTrue, is_some, refl, arith, ap, sym, subst, ◌∙◌}
 use Rattle.std.proofs.lemmas.Bool.{false≢true}
-use Rattle.lay_boxgen.proofs.NodeColumns.{length-parents}
 use Rattle.lay_doc.specs.Document.{Document, IsDocument}
 use Rattle.lay_doc.specs.declared.edit.Edit.{Edit}
 use Rattle.lay_doc.specs.Edits.{after, fault}
 use Rattle.lay_doc.specs.Laws.{PutsNode}
+use Rattle.lay_doc.proofs.NodeColumns.{length-parents}
 use Rattle.lay_face.specs.FaceValue.{FaceValue}
 use Rattle.lay_frag.specs.Pieces.{Context as PageContext}
 use Rattle.lay_contexts.specs.Contexts.{AreContexts, Context}

@@ -7,13 +7,8 @@ use Rattle.lay_contexts.specs.Contexts.{Context}
 use Rattle.lay_contexts.specs.FormattingContexts.{FormattingContext}
 use Rattle.lay_contexts.specs.FormattingContextList.{first_number}
 use Rattle.lay_context.specs.Measured.{is_measured}
+use Rattle.lay_context.proofs.FlagSteps.{read_before, read_last}
 use Rattle.lay_shape.specs.Touched.ContextFlags.{AreContextFlagsTo}
-
-flag_before : (flags : List Bool) (b : Bool) (k : ℕ) → k < length flags → flag_at (flags ++ b ∷ []) k ≡ flag_at flags k
-flag_before flags b k lt = grind (arith, elements)
-
-flag_last : (flags : List Bool) (b : Bool) (k : ℕ) → k ≡ length flags → flag_at (flags ++ b ∷ []) k ≡ b
-flag_last flags b k e = grind (arith, elements)
 
 length_more : (flags : List Bool) (b : Bool) → length (flags ++ b ∷ []) ≡ length flags + 1
 length_more flags b = grind (arith, elements)
@@ -32,7 +27,7 @@ one_flag_more contexts all flags new b n known is more = record {
     each i lt =
         ap (λ (xs : List Bool). flag_at xs i) more
         ∙ ⊎_elim
-        (λ low. flag_before flags b i (let e = known.count in omega (arith, e, low)) ∙ known.each i low)
+        (λ low. read_before flags b i (let e = known.count in omega (arith, e, low)) ∙ known.each i low)
         (λ high. (let at : i ≡ n = omega (arith, lt, high) in
-        flag_last flags b i (at ∙ sym known.count) ∙ is ∙ ap (λ m. is_measured all (first_number contexts m)) (sym at)))
+        read_last flags b i (at ∙ sym known.count) ∙ is ∙ ap (λ m. is_measured all (first_number contexts m)) (sym at)))
         (cases_lt i n)

@@ -5,13 +5,14 @@ use Rattle.std.proofs.lemmas.Bool.{cases_eq, cases_lt}
 use Rattle.lay_face.specs.FaceValue.{FaceValue}
 use Rattle.lay_box_tree.specs.declared.box_tree.BoxNode.{BoxNode}
 use Rattle.lay_flow.specs.Blocks.Children.{flag_at}
+use Rattle.lay_flow.proofs.PassEnds.{flags_at}
 use Rattle.lay_box_tree.specs.Containing.{container_of}
 use Rattle.lay_line_items.specs.InlineContents.{AreContents, AreMarkedContents, KeptSegments, kept_at, kept_where}
 use Rattle.lay_line_items.specs.InlineSegments.{segments_in}
 use Rattle.lay_space.specs.declared.segment.Segment.{Segment}
 use Rattle.lay_flow_boxes.specs.declared.asked_contents.Asked.{Asked}
 use Rattle.lay_flow_boxes.specs.AskedContents.{AreAskedContents, AreHolders, HoldsAsked, is_any_asked, is_asked, is_asked_at}
-use Rattle.lay_flow_boxes.proofs.InlineContainerSteps.{none_count, none_set, set_count, set_here, set_other}
+use Rattle.lay_flow_boxes.proofs.InlineContainerSteps.{none_count, set_count, set_here, set_other}
 
 -- these say it of the boxes before n
 pub record HoldersTo (asked : Asked) (boxes : List BoxNode) (flags : List Bool) (n : ℕ) : Type 0 where
@@ -57,7 +58,7 @@ module _ (asked : Asked) (boxes : List BoxNode) where
   none_any none = no_test (is_asked asked) boxes none
 
   pub none_held : HoldersTo asked boxes (replicate (length boxes) false) 0
-  none_held = record { count = none_count (length boxes); are = λ c e. (let f = none_set (length boxes) c in absurd cc); all = λ j lt e. absurd (omega (arith, lt)) }
+  none_held = record { count = none_count (length boxes); are = λ c e. (let f = flags_at (length boxes) c in absurd cc); all = λ j lt e. absurd (omega (arith, lt)) }
 
   module _ (flags : List Bool) (n : ℕ) (so_far : HoldersTo asked boxes flags n) where
     pub none_more : is_asked_at asked boxes n ≡ false → HoldersTo asked boxes flags (n + 1)

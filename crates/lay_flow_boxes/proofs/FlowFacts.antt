@@ -45,7 +45,7 @@ use Rattle.lay_flow_boxes.specs.PlaceInputs.{HeightRuleFits}
 use Rattle.lay_box_tree.proofs.ContainerSteps.{container_before, container_within, containers_are_nearest_lem}
 
 -- a height that is given is a used size
-given_fits : (height : Len) → IsUsedSizeOrAuto height → IsUsedSize (given_or_auto height (pos 0))
+pub given_fits : (height : Len) → IsUsedSizeOrAuto height → IsUsedSize (given_or_auto height (pos 0))
 given_fits len.Auto fits = (omega (arith, ints), omega (arith, ints))
 given_fits (len.Of v) fits = fits
 

@@ -5,6 +5,7 @@ use Rattle.std.proofs.lemmas.Bool.Decides.{nat_tests}
 use Rattle.std.proofs.lemmas.Grind.{elements}
 use Rattle.lay_box_tree.specs.declared.box_tree.BoxNode.{BoxNode}
 use Rattle.lay_flow.specs.Blocks.Children.{flag_at}
+use Rattle.lay_flow.proofs.PassEnds.{flags_at}
 use Rattle.lay_flow_boxes.specs.declared.inline_containers.Level.{Level}
 use Rattle.lay_box_tree.specs.Containing.{container_of}
 use Rattle.lay_flow_boxes.specs.InlineContainers.{holds, is_of}
@@ -18,17 +19,12 @@ none_read : (k : ℕ) → flag_at [] k ≡ false
 none_read zero = refl
 none_read (suc k) = refl
 
-pub none_set : (n k : ℕ) → flag_at (replicate n false) k ≡ false
-none_set zero k = none_read k
-none_set (suc n) zero = refl
-none_set (suc n) (suc k) = none_set n k
-
 pub none_count : (n : ℕ) → length (replicate n false) ≡ n
 none_count n = grind (arith, elements)
 
 -- none stands in any before the first one
 pub none : (level : Level) (boxes : List BoxNode) → HoldersTo level boxes (replicate (length boxes) false) 1
-none level boxes = record { count = none_count (length boxes); each = λ c lt. none_set (length boxes) c }
+none level boxes = record { count = none_count (length boxes); each = λ c lt. flags_at (length boxes) c }
 
 pub set_here : (flags : List Bool) (k : ℕ) → k < length flags → flag_at (slice_set flags k true) k ≡ true
 set_here flags k lt = grind (arith, elements, lt)

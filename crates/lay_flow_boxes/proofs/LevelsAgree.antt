@@ -16,14 +16,14 @@ use Rattle.lay_measure.specs.LineParts.{contribution}
 use Rattle.lay_measure.specs.declared.preferred_widths.PreferredWidths.{PreferredWidths}
 use Rattle.lay_box_tree.specs.Containing.{container_of}
 use Rattle.lay_box_tree.specs.ContextBoxes.{AreContextBoxes}
-use Rattle.lay_box_tree.proofs.ContainerSteps.{containers_are_nearest_lem}
+use Rattle.lay_box_tree.proofs.ContainerSteps.{containers_are_nearest_lem, some_before}
 use Rattle.lay_flow_boxes.specs.declared.inline_containers.Level.TheVariants.{Block as block_level, Inline as inline_level}
 use Rattle.lay_flow_boxes.specs.InlineContainers.{holds, is_beside_lines, is_block_box, is_of, is_own_container, stands_in}
 use Rattle.lay_flow_boxes.specs.LineItems.{AreHeldByOthers, IsIn, holds_nothing}
 use Rattle.lay_flow_boxes.specs.OneLevel.{WidthsAgreeOnLines}
 use Rattle.lay_flow_boxes.proofs.FlowFacts.{beside_by, not_held, positive_lt}
 use Rattle.lay_flow_boxes.proofs.ItemSorts.{behind, parent_is, role_is, some_behind}
-use Rattle.lay_flow_boxes.proofs.LinesAreItems.{block_counts, not_first, within}
+use Rattle.lay_flow_boxes.proofs.LinesAreItems.{block_counts, within}
 
 -- an inline-level child of the box at c
 record HasInlineChild (boxes : List BoxNode) (c from : ℕ) : Type 0 where
@@ -189,7 +189,7 @@ module _ (boxes : List BoxNode) (are : AreContextBoxes boxes) (c : ℕ) where
       by further before false e =
           let p : ℕ = box_parent boxes k in
           let up = one_container boxes k (container_of boxes p) c (at_further k (container_of boxes p) is.behind e (containers_are_nearest_lem boxes p are (omega (arith, before, is.within)))) (nearest k is) in
-          let there : IsIn boxes c p = record { behind = not_first boxes p e; within = omega (arith, before, is.within); container = up } in
+          let there : IsIn boxes c p = record { behind = some_before boxes p e; within = omega (arith, before, is.within); container = up } in
           further p (omega (arith, before, lt)) there (opened (role_at boxes p) (not_beside none p there) (others k is.behind is.within))
 
   -- an inline-level child is such a box

@@ -24,7 +24,7 @@ use Rattle.lay_line_items.specs.InlineStarts.{takes_room}
 use Rattle.lay_line_items.specs.OpenBoxes.{is_inline}
 use Rattle.lay_box_tree.specs.Containing.{container_of}
 use Rattle.lay_box_tree.specs.ContextBoxes.{AreContextBoxes}
-use Rattle.lay_box_tree.proofs.ContainerSteps.{containers_are_nearest_lem}
+use Rattle.lay_box_tree.proofs.ContainerSteps.{containers_are_nearest_lem, some_before}
 use Rattle.lay_flow_boxes.specs.declared.inline_containers.Level.TheVariants.{Block as block_level, Inline as inline_level}
 use Rattle.lay_flow_boxes.specs.InlineContainers.{holds, is_beside_lines, is_block_box, is_inline_container, is_own_container}
 use Rattle.lay_flow_boxes.specs.LineItems.{AreHeldByOthers, BoxesInLinesAreItems, IsIn, IsInLinesAs, ItemsAreBoxesInLines, Sort, as_anchor, as_atomic, as_inline, as_left_float, as_right_float, as_text, end, holds_nothing, named, sorts_of, start}
@@ -53,10 +53,6 @@ open_sorts r ss as_left_float e = absurd cc
 open_sorts r ss as_right_float e = absurd cc
 open_sorts r ss as_anchor e = absurd cc
 
-pub not_first : (boxes : List BoxNode) (p : ℕ) → counts boxes p ≡ false → 0 < p
-not_first boxes zero e = absurd cc
-not_first boxes (suc p) e = omega arith
-
 -- One block container that holds lines.
 module _ (boxes : List BoxNode) (c : ℕ) (are : AreContextBoxes boxes) (lines : is_inline_container boxes c ≡ true) where
   -- a box in them
@@ -84,7 +80,7 @@ module _ (boxes : List BoxNode) (c : ℕ) (are : AreContextBoxes boxes) (lines :
           let p : ℕ = box_parent boxes k in
           let nearest = containers_are_nearest_lem boxes p are (omega (arith, before, is.within)) in
           let up = one_container boxes k (container_of boxes p) c (at_further k (container_of boxes p) is.behind e nearest) container in
-          let there : IsIn boxes c p = record { behind = not_first boxes p e; within = omega (arith, before, is.within); container = up } in
+          let there : IsIn boxes c p = record { behind = some_before boxes p e; within = omega (arith, before, is.within); container = up } in
           let opened = open_sorts (role_at boxes p) (own_sorts (role_at boxes p)) (role_in_lines p there) (held k is.behind is.within) in
           follows boxes are.tree k is.behind is.within c (c + 1) (drop (c + 1) boxes) refl (λ same. both_ways (counts boxes c) (subst (λ (p : ℕ). counts boxes p ≡ false) same e) (counted k is))
           ∙ ap (spread (own_sorts (role_at boxes k))) (earlier p (omega (arith, before, lt)) there ∙ opened)

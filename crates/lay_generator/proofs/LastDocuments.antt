@@ -1,6 +1,5 @@
 -- No edit of a generated run has a fault, and its document comes to the same whatever order its editors take.
 use Rattle.std.proofs.Common.{◌≡◌, ℕ, zero, suc, ◌+◌, ◌*◌, ◌%◌, ◌<◌, ◌≤◌, List, [], ◌∷◌, ◌++◌, length, fold, slice_get, take, refl, sym, ap, ◌∙◌, subst, arith, Option, Some, None, All}
-use Rattle.std.proofs.lemmas.List.{take_all}
 use Rattle.std.proofs.lemmas.List.Elements.{All-cons, All-head, All-nil, All-tail, All-take}
 use Rattle.lay_doc.specs.declared.edit.Edit.{Edit as Change}
 use Rattle.lay_doc.specs.declared.edit.EditFault.{EditFault}
@@ -17,6 +16,7 @@ use Rattle.lay_history.specs.Calls.{AnswersScripts, Call, calls, calls_of}
 use Rattle.lay_history.specs.Histories.{list_if_accepted, lists}
 use Rattle.lay_history.specs.Legal.{IsLegal, doc_after}
 use Rattle.lay_history.proofs.Lists.{all_at}
+use Rattle.lay_history.proofs.OneMore.{doc_whole}
 use Rattle.lay_generator.specs.Nodes.{sections_end}
 use Rattle.lay_generator.specs.Generated.{generated}
 use Rattle.lay_generator.specs.LastDocuments.{after_lists, last_document, lists_of}
@@ -27,9 +27,6 @@ use Rattle.lay_generator.proofs.Faultless.{generated_sections}
 use Rattle.lay_generator.proofs.Paddings.{ArePaddings, IsPadding, OfOne, each_of_one, script_calls_give}
 use Rattle.lay_generator.proofs.Placed.{may_be_styled}
 use Rattle.lay_generator.proofs.StyledNodes.{SameNodes, fault_stays, nodes_same, same_on, styled_same, styles_exchanged}
-
-doc_whole : (init : Document) (h : List Entry) → doc_after init h ≡ fold after_all init (lists h)
-doc_whole init h = ap (fold after_all init) (take_all (length (lists h)) (lists h) (omega arith))
 
 -- the block of each section may be styled
 abbrev HasBlocks : ℕ → Document → Type 0

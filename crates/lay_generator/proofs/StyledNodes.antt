@@ -1,10 +1,9 @@
 -- A declaration that is set on a node leaves ids, kinds and the number of nodes as they are, and so the faults of such edits; and two of
 -- different nodes come to the same whichever is first.
-use Rattle.std.proofs.Common.{◌≡◌, ℕ, zero, suc, List, [], ◌∷◌, length, get_or, refl, sym, ap, ◌∙◌, inl, inr, Option, Some, None}
-use Rattle.std.proofs.lemmas.Bool.{cases_eq}
+use Rattle.std.proofs.Common.{◌≡◌, ℕ, zero, suc, List, [], ◌∷◌, length, refl, sym, ap, ◌∙◌, Option, Some, None}
+use Rattle.lay_run.proofs.GatheredLemmas.Gathers.{place_is}
 use Rattle.lay_style.specs.Values.{Declaration}
 use Rattle.lay_style.specs.Places.{place_of}
-use Rattle.lay_style.proofs.Places.{map_some, place_here, place_later}
 use Rattle.lay_doc.specs.declared.node.Node.{Node}
 use Rattle.lay_doc.specs.Document.{Document, ids_of, is_text_at}
 use Rattle.lay_doc.specs.Changes.{after_change, changed_at, style_fault, with_style}
@@ -64,13 +63,6 @@ fault_stays d e id same = by (place_of id (ids_of d.nodes)) refl
     by None at = rw (same.ids, at) refl
     by (Some p) at = rw (same.ids, at, same.texts p) refl
 
-place_names : (id : ℕ) (ids : List ℕ) (p : ℕ) → place_of id ids ≡ Some p → get_or ids p 0 ≡ id
-place_names id [] p e = absurd cc
-place_names id (x ∷ ids) p e = elim (cases_eq x id) [
-  | inl same ↦ (let h = sym (place_here id x ids same) ∙ e in let z : p ≡ 0 = cc in rw z same)
-  | inr other ↦ (let m = map_some (place_of id ids) p (sym (place_later id x ids other) ∙ e) in rw m.next (place_names id ids m.before m.is))
-]
-
 exchanged : (x y : Declaration) (p q : ℕ) (nodes : List Node) → (p ≡ q → ⊥)
     → changed_at q (with_style y) (changed_at p (with_style x) nodes) ≡ changed_at p (with_style x) (changed_at q (with_style y) nodes)
 exchanged x y p q [] other = refl
@@ -99,5 +91,5 @@ pub styles_exchanged : (d : Document) (i j : ℕ) (x y : Declaration) → (i ≡
 styles_exchanged d i j x y other =
     twice_set d i j x y
     ∙ (both_set x y (place_of i (ids_of d.nodes)) (place_of j (ids_of d.nodes)) d
-    (λ p at_i at_j. other (sym (place_names i (ids_of d.nodes) p at_i) ∙ place_names j (ids_of d.nodes) p at_j))
+    (λ p at_i at_j. other (sym (place_is i (ids_of d.nodes) p at_i) ∙ place_is j (ids_of d.nodes) p at_j))
     ∙ sym (twice_set d j i y x))

@@ -30,7 +30,7 @@ call_count_more h e = rw (calls_more h e) (length-append (calls h) (call_in e))
 pub doc_before : (init : Document) (h : List Entry) (e : Entry) (v : ℕ) → v ≤ accepted h → doc_at init (h ++ e ∷ []) v ≡ doc_at init h v
 doc_before init h e v le = ap (fold after_all init) (ap (take v) (lists_more h e) ∙ take-append-le v (lists h) (list_in e) le)
 
-doc_whole : (init : Document) (h : List Entry) → doc_after init h ≡ fold after_all init (lists h)
+pub doc_whole : (init : Document) (h : List Entry) → doc_after init h ≡ fold after_all init (lists h)
 doc_whole init h = ap (fold after_all init) (take_whole (lists h))
 
 pub doc_after_more : (init : Document) (h : List Entry) (e : Entry) → doc_after init (h ++ e ∷ []) ≡ fold after_all (doc_after init h) (list_in e)

@@ -14,8 +14,9 @@ use Rattle.lay_doc.specs.declared.edit.EditFault.{EditFault}
 use Rattle.lay_doc.specs.declared.edit.EditFault.TheVariants.{NoNode}
 use Rattle.lay_doc.specs.declared.edit.BadDeclaration.{BadDeclaration}
 use Rattle.lay_doc.specs.NewNodes.{NewNodeValue}
-use Rattle.lay_doc.specs.Document.{Document, ids_of, moved, inserted, root_document}
+use Rattle.lay_doc.specs.Document.{Document, ids_of, moved, root_document}
 use Rattle.lay_doc.specs.Edits.{insert_fault, after_insert, last_index, root_fault}
+use Rattle.lay_doc.proofs.Inserted.{ids_inserted}
 use Rattle.lay_json.specs.declared.fault.Field.{Field}
 use Rattle.lay_json.specs.declared.fault.Field.TheVariants.{Id, Parent, Nodes, Text as in_text}
 use Rattle.lay_json.specs.declared.fault.Spot.{Spot}
@@ -107,9 +108,6 @@ map-insert f xs i x = map-append f (take i xs) (x ∷ drop i xs) ∙ rw (take-ma
 ids_moved : (at : ℕ) (nodes : List Node) → ids_of (map (moved at) nodes) ≡ ids_of nodes
 ids_moved at [] = refl
 ids_moved at (n ∷ ns) = ap (λ (ids : List ℕ). n.id.0 ∷ ids) (ids_moved at ns)
-
-ids_inserted : (nodes : List Node) (at : ℕ) (node : Node) → ids_of (inserted nodes at node) ≡ insert (ids_of nodes) at node.id.0
-ids_inserted nodes at node = ids_moved at (insert nodes at node) ∙ map-insert (λ n. n.id.0) nodes at node
 
 listed_more : (listed : List NodeId) (id : NodeId) (ids : List ℕ) (at : ℕ) → IsPermutation (map (λ i. i.0) listed) ids → IsPermutation (map (λ i. i.0) (listed ++ id ∷ [])) (insert ids at id.0)
 listed_more listed id ids at is =

@@ -89,7 +89,7 @@ same_kind m xs a ys b l same =
 no_kind : (m : Mode) (xs : List ℕ) (a : ℕ) → kind_of m xs a (a + 0) ≡ Other
 no_kind m xs a = rw (ne_eqb (a + 0) (a + 1) (omega arith), ne_eqb (a + 0) (a + 2) (omega arith), ne_eqb (a + 0) (a + 3) (omega arith)) refl
 
-within : (text : List ℕ) (at : ℕ) → is_boundary text at ≡ true → at ≤ length text
+pub within : (text : List ℕ) (at : ℕ) → is_boundary text at ≡ true → at ≤ length text
 within text at is = by (or_cases (at == length text) (nat_lt at (length text) && (nat_lt (slice_index text at) 128 || nat_lt 191 (slice_index text at))) is)
   where
     by : ((at == length text) ≡ true) ⊎ ((nat_lt at (length text) && (nat_lt (slice_index text at) 128 || nat_lt 191 (slice_index text at))) ≡ true) → at ≤ length text

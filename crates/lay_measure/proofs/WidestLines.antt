@@ -20,7 +20,7 @@ max_from_zero a v h = omega (arith, ints, clamps, h)
 max_of_zero : (v : ℤ) → pos 0 ≤ℤ v → int_max (pos 0) v ≡ v
 max_of_zero v h = omega (arith, ints, clamps, h)
 
-from_zero : (how : Breaking) (tab : ℤ) (start : Length) (ls : List (List LinePart)) → pos 0 ≤ℤ widest how tab start ls
+pub from_zero : (how : Breaking) (tab : ℤ) (start : Length) (ls : List (List LinePart)) → pos 0 ≤ℤ widest how tab start ls
 from_zero how tab start [] = omega (arith, ints)
 from_zero how tab start (l ∷ ls) = max_from_zero (line_width how tab start l) (widest how tab no_length ls) (from_zero how tab no_length ls)
 

@@ -1,20 +1,14 @@
 -- A block in which nothing stands.
 use Rattle.std.proofs.Common.{◌≡◌, ℤ, pos, ◌-ℤ◌, ◌+ℤ◌, arith}
 use Rattle.std.proofs.lemmas.Int.{ints}
-use Rattle.lay_units.specs.Units.{IsUsedSize}
-use Rattle.lay_units.specs.declared.records.Len.{Len}
 use Rattle.lay_units.specs.declared.records.Len.TheVariants as len
 use Rattle.lay_flow.specs.declared.blocks.flow_box.HeightRule.{HeightRule}
-use Rattle.lay_flow.specs.Blocks.BlockPositions.{given_or_auto}
 use Rattle.lay_flow.specs.Blocks.BlockSizes.{BlockFits}
 use Rattle.lay_sizes.specs.declared.sizing.BoxSizes.{BoxSizes}
-use Rattle.lay_sizes.specs.SizeBounds.{IsUsedSizeOrAuto, SizeFits}
+use Rattle.lay_sizes.specs.SizeBounds.{SizeFits}
 use Rattle.lay_flow_boxes.specs.PlaceInputs.{HeightRuleFits}
+use Rattle.lay_flow_boxes.proofs.FlowFacts.{given_fits}
 use Rattle.lay_placement.specs.OneBox.{empty_block}
-
-given_fits : (height : Len) → IsUsedSizeOrAuto height → IsUsedSize (given_or_auto height (pos 0))
-given_fits len.Auto fits = (omega (arith, ints), omega (arith, ints))
-given_fits (len.Of v) fits = fits
 
 -- it is within the bounds of blocks
 pub empty_fits : (z : BoxSizes) (height : HeightRule) → SizeFits z → HeightRuleFits height → BlockFits (empty_block z height)

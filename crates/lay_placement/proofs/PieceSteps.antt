@@ -35,7 +35,7 @@ none_read : (k : ℕ) → inner_pieces_at [] k ≡ []
 none_read zero = refl
 none_read (suc k) = refl
 
-none_beyond : (all : List (List Frag)) (k : ℕ) → length all ≤ k → inner_pieces_at all k ≡ []
+pub none_beyond : (all : List (List Frag)) (k : ℕ) → length all ≤ k → inner_pieces_at all k ≡ []
 none_beyond [] k beyond = none_read k
 none_beyond (x ∷ xs) zero beyond = absurd (omega arith)
 none_beyond (x ∷ xs) (suc k) beyond = none_beyond xs k (omega arith)

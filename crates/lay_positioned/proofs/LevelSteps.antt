@@ -40,7 +40,7 @@ one_more contexts xs n x are within so_far is small = record {
   ];
 }
 
-one_at_most : (b : Bool) → one_if b ≤ 1
+pub one_at_most : (b : Bool) → one_if b ≤ 1
 one_at_most true = omega arith
 one_at_most false = omega arith
 

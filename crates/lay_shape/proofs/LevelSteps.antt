@@ -1,13 +1,10 @@
 -- The level of a context beside that of the one around it.
-use Rattle.std.proofs.Common.{◌≡◌, ℕ, zero, suc, ◌+◌, ◌<◌, ◌≤◌, Bool, true, false, List, length, refl, ap, arith}
+use Rattle.std.proofs.Common.{◌≡◌, ℕ, zero, suc, ◌+◌, ◌<◌, ◌≤◌, List, length, refl, ap, arith}
 use Rattle.lay_contexts.specs.Contexts.{AreContexts, Context, context_at}
 use Rattle.lay_positioned.specs.Levels.{one_if}
+use Rattle.lay_positioned.proofs.LevelSteps.{one_at_most}
 use Rattle.lay_shape.specs.Levels.{level_in, level_of}
 use Rattle.lay_shape.specs.Ways.{is_absolute}
-
-one_few : (b : Bool) → one_if b ≤ 1
-one_few true = omega arith
-one_few false = omega arith
 
 module _ (contexts : List Context) (are : AreContexts contexts) where
   -- more turns than needed count the same
@@ -30,11 +27,11 @@ module _ (contexts : List Context) (are : AreContexts contexts) where
       ap (λ l. l + one_if (is_absolute contexts (suc i))) (level_same i o o (omega (arith, out)) (omega arith) (omega (arith, out, within)))
 
   few_in : (t i : ℕ) → i ≤ t → i < length contexts → level_in t contexts i ≤ i + 1
-  few_in zero i a within = let l = one_few (is_absolute contexts i) in omega (arith, l)
-  few_in (suc t) zero a within = one_few (is_absolute contexts 0)
+  few_in zero i a within = let l = one_at_most (is_absolute contexts i) in omega (arith, l)
+  few_in (suc t) zero a within = one_at_most (is_absolute contexts 0)
   few_in (suc t) (suc i) a within =
       let out = are.outer (suc i) (omega arith) within in
-      let l = one_few (is_absolute contexts (suc i)) in
+      let l = one_at_most (is_absolute contexts (suc i)) in
       let h = few_in t (context_at contexts (suc i)).outer (omega (arith, a, out)) (omega (arith, out, within)) in
       omega (arith, l, h, out)
 

@@ -20,7 +20,7 @@ use Rattle.lay_sizes.specs.Laws.{OneBoxSizes}
 abbrev widths_of : ℤ → ℤ → ℤ → BlockOut
 widths_of left width right = record { margin_left = record { 0 = left }; width = record { 0 = width }; margin_right = record { 0 = right } }
 
-held_same : (used : UsedWidths) (x y : BlockOut) → IsHeld used x → IsHeld used y → x ≡ y
+pub held_same : (used : UsedWidths) (x y : BlockOut) → IsHeld used x → IsHeld used y → x ≡ y
 held_same used x y p q =
     let left = p.margin_left ∙ sym q.margin_left in
     let width = p.width ∙ sym q.width in

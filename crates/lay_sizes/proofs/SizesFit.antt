@@ -39,7 +39,7 @@ solved_of r = sizes_for r r.width r.height
 pub used_is_size : (v : ℤ) → IsUsedSize v → IsSize v
 used_is_size v is = (is.0, omega (arith, ints, is.1))
 
-zero_is_size : IsUsedSize (pos 0)
+pub zero_is_size : IsUsedSize (pos 0)
 zero_is_size = (omega (arith, ints), omega (arith, ints))
 
 -- margins and a width that are held within the bounds of used lengths

@@ -1,9 +1,8 @@
 -- The borders that meet at an edge are used sizes wide.
-use Rattle.std.proofs.Common.{◌≡◌, ℕ, zero, suc, ◌==◌, ℤ, pos, Bool, true, false, Option, Some, None, List, [], ◌∷◌, ◌++◌, length, slice_get, subst, arith}
+use Rattle.std.proofs.Common.{◌≡◌, ℕ, zero, suc, ◌==◌, ℤ, Bool, true, false, Option, Some, None, List, [], ◌∷◌, ◌++◌, length, slice_get, subst}
 use Rattle.std.specs.Prelude.{⊤}
-use Rattle.std.proofs.lemmas.Int.{ints}
 use Rattle.lay_units.specs.Units.{IsUsedSize}
-use Rattle.lay_sizes.proofs.SizesFit.{size_is_used}
+use Rattle.lay_sizes.proofs.SizesFit.{size_is_used, zero_is_size}
 use Rattle.lay_style.specs.declared.style.Style.{Style}
 use Rattle.lay_box_tree.specs.declared.box_tree.BoxNode.{BoxNode}
 use Rattle.lay_borders.specs.declared.candidate.Cand.{Cand}
@@ -97,12 +96,9 @@ used_left p r c =
     used_at (meeting_left p r c)
     (used_unless (are_one (place_of left) (place_of right)) (cells_left p left right ++ (lines_left p c ++ rim_left p r c)) all)
 
-zero_used : IsUsedSize (pos 0)
-zero_used = (omega (arith, ints), omega (arith, ints))
-
 drawn_used : (s : BorderStyle) (width : ℤ) → IsUsedSize width → IsUsedSize (drawn_width s width)
-drawn_used style.None width used = zero_used
-drawn_used style.Hidden width used = zero_used
+drawn_used style.None width used = zero_is_size
+drawn_used style.Hidden width used = zero_is_size
 drawn_used style.Dotted width used = used
 drawn_used style.Dashed width used = used
 drawn_used style.Solid width used = used
@@ -113,5 +109,5 @@ drawn_used style.Inset width used = used
 drawn_used style.Outset width used = used
 
 pub edge_used : (borders : List Cand) (edge : Option Cand) → AreUsed borders → IsEdge borders edge → IsUsedSize (edge_width edge)
-edge_used borders None used is = zero_used
+edge_used borders None used is = zero_is_size
 edge_used borders (Some border) used is = let at = is.one_of in drawn_used border.style border.width.0 (used at.0 border at.1)

@@ -1,10 +1,10 @@
 -- What columns are asked for by cells and groups, one after another; all of it is sizes.
-use Rattle.std.proofs.Common.{◌≡◌, ℕ, zero, suc, ◌+◌, ◌^◌, ◌<◌, ◌≤◌, ◌==◌, ℤ, Bool, true, false, Option, None, Some, List, [], ◌∷◌, ◌++◌, map, drop, length, length-append, slice_get, if◌then◌else◌, append_assoc, append-nil, refl, sym, ap, subst, ◌∙◌, arith}
+use Rattle.std.proofs.Common.{◌≡◌, ℕ, zero, suc, ◌+◌, ◌^◌, ◌<◌, ◌≤◌, ◌==◌, Bool, true, false, Option, None, Some, List, [], ◌∷◌, ◌++◌, map, drop, length, length-append, slice_get, if◌then◌else◌, append_assoc, append-nil, refl, sym, ap, subst, ◌∙◌, arith}
 use Rattle.std.specs.List.{All}
-use Rattle.std.proofs.lemmas.Int.{clamps, ints}
+use Rattle.std.proofs.lemmas.Int.{ints}
 use Rattle.std.proofs.lemmas.List.{length-map}
 use Rattle.std.proofs.lemmas.List.Elements.{All-append, All-cons, All-nil}
-use Rattle.lay_units.specs.Units.{IsUsedSize, clamp_size_of}
+use Rattle.lay_sizes.proofs.SizesFit.{size_is_used}
 use Rattle.lay_units.specs.declared.length.Unit.{Unit as Length}
 use Rattle.lay_style.specs.declared.style.Style.{Style}
 use Rattle.lay_style.specs.declared.style_lengths.LengthPercentageOrAuto.{LengthPercentageOrAuto}
@@ -23,9 +23,6 @@ use Rattle.lay_table_sizes.specs.CellBounds.{span_cells}
 use Rattle.lay_table_sizes.specs.ColumnBounds.{bounds_in}
 use Rattle.lay_table_sizes.specs.GivenWidths.{column_width_by, column_width_of, column_widths, group_width_by, group_width_of, length_or_none, width_at_place}
 use Rattle.lay_table_sizes.specs.GroupWidths.{goes_on, group_spans, run_of, span_at, span_with, spans_from}
-
-size_is_used : (v : ℤ) → IsUsedSize (clamp_size_of v)
-size_is_used v = (omega (arith, ints, clamps), omega (arith, ints, clamps))
 
 drop_step : {A : Type 0} (xs : List A) (k : ℕ) (x : A) → slice_get xs k ≡ Some x → drop k xs ≡ x ∷ drop (k + 1) xs
 drop_step [] k x is = absurd cc

@@ -18,7 +18,7 @@ use Rattle.lay_box_tree.specs.declared.box_tree.BoxKind.TheVariants as kind
 use Rattle.lay_box_tree.specs.declared.box_tree.BoxNode.{BoxNode}
 use Rattle.lay_box_tree.specs.BoxColumns.{style_of_box}
 use Rattle.lay_sizes.specs.SizeBounds.{IsUsedSizeOrAuto}
-use Rattle.lay_sizes.proofs.SizesFit.{size_is_used, used_size_is_used}
+use Rattle.lay_sizes.proofs.SizesFit.{size_is_used, used_size_is_used, zero_is_size}
 use Rattle.lay_grid.specs.ColumnsFit.{CellFits, ColumnsFit}
 use Rattle.lay_grid.specs.Lengths.{ArePositions, MayBePosition}
 use Rattle.lay_grid.specs.Shares.{own_width}
@@ -32,7 +32,6 @@ use Rattle.lay_table_grid.specs.declared.grid.TableCell.{TableCell}
 use Rattle.lay_table_sizes.specs.Bounds.{IsEdge, most_columns}
 use Rattle.lay_table_sizes.specs.ColumnWidths.{cell_edges, cell_width, columns_in, element_widths, first_cell, first_cells, given_padding, given_width, left_for_columns, or_none, width_by_box, width_by_kind, width_by_place, with_edges}
 use Rattle.lay_table_sizes.proofs.ColumnSteps.{element_widths_count}
-use Rattle.lay_table_sizes.proofs.SizeSteps.{zero_is_used_size}
 
 -- no column of a document is given more: a used size, and the edges beside it
 abbrev most : ℕ
@@ -62,7 +61,7 @@ given_width_is (Some table) (or_auto.Percent h) = size_is_used (percentage_of h.
 
 given_padding_is : (table : Option Length) (padding : LengthPercentage) → IsUsedSize (given_padding table padding).0
 given_padding_is None (measure.Length u) = size_is_used u.0
-given_padding_is None (measure.Percent h) = zero_is_used_size
+given_padding_is None (measure.Percent h) = zero_is_size
 given_padding_is (Some table) padding = used_size_is_used table padding
 
 cell_edges_is : (table : Option Length) (borders : Sides) (s : Style) → AreUsedSides borders → IsEdge (cell_edges table borders s)

@@ -4,14 +4,13 @@ use Rattle.std.proofs.lemmas.List.{ext_get_or}
 use Rattle.lay_units.specs.declared.length.Unit.{Unit as Length}
 use Rattle.lay_style.specs.declared.style.Style.{Style}
 use Rattle.lay_box_tree.specs.declared.box_tree.BoxNode.{BoxNode}
-use Rattle.lay_widths.specs.BlockWidths.{IsHeld}
 use Rattle.lay_widths.specs.declared.widths.BlockOut.{BlockOut}
-use Rattle.lay_widths.specs.declared.widths.UsedWidths.{UsedWidths}
 use Rattle.lay_widths.proofs.Unique.{one_block_width_lem}
 use Rattle.lay_sizes.specs.BoxSizes.{widths_beside}
 use Rattle.lay_sizes.specs.SizeColumns.{no_sizes}
 use Rattle.lay_sizes.specs.declared.sizing.BoxSizes.{BoxSizes}
 use Rattle.lay_sizes.specs.declared.sizing.ContainingBlock.{ContainingBlock}
+use Rattle.lay_sizes.proofs.OneSizes.{held_same}
 use Rattle.lay_grid.specs.Columns.{AreColumns}
 use Rattle.lay_grid.proofs.OneColumns.{one_columns_lem}
 use Rattle.lay_grid.specs.Automatic.AutoColumns.{AreAutoColumns}
@@ -59,14 +58,6 @@ one_widths_as false containing boxes g t x y v w p q =
 
 abbrev out_of : Length → Length → Length → BlockOut
 out_of left width right = record { margin_left = left; width = width; margin_right = right }
-
-held_same : (used : UsedWidths) (x y : BlockOut) → IsHeld used x → IsHeld used y → x ≡ y
-held_same used x y p q =
-    let left = ap length_of (p.margin_left ∙ sym q.margin_left) in
-    let width = ap length_of (p.width ∙ sym q.width) in
-    let right = ap length_of (p.margin_right ∙ sym q.margin_right) in
-    let e : out_of x.margin_left x.width x.margin_right ≡ out_of y.margin_left y.width y.margin_right = rw (left, width, right) refl in
-    e
 
 one_wrapper_width : (rule : TableRule) (containing : Length) (s : Style) (width : Length) (x y : BlockOut) → AreWrapperWidths rule containing s width x → AreWrapperWidths rule containing s width y → x ≡ y
 one_wrapper_width Block containing s width x y p q = one_block_width_lem (wrapper_block containing s width) x y p q

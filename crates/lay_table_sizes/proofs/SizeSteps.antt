@@ -25,9 +25,6 @@ use Rattle.lay_table_sizes.proofs.CellSteps.{drop_step}
 pub zero_is_used : IsUsed (pos 0)
 zero_is_used = (omega (arith, ints), omega (arith, ints))
 
-pub zero_is_used_size : IsUsedSize (pos 0)
-zero_is_used_size = (omega (arith, ints), omega (arith, ints))
-
 pub zero_is_inset : IsInset (pos 0)
 zero_is_inset = (omega (arith, ints), omega (arith, ints))
 
@@ -41,10 +38,10 @@ pub record SizesTo (place : ℕ) (wrapper table : BoxSizes) (sizes : List BoxSiz
   pub each : (k : ℕ) → k < n → sizes_at sizes k ≡ sizes_of_box place wrapper table k
   pub bounds : HaveSizeBounds sizes
 
-read_before : (sizes : List BoxSizes) (z : BoxSizes) (k : ℕ) → k < length sizes → sizes_at (sizes ++ z ∷ []) k ≡ sizes_at sizes k
+pub read_before : (sizes : List BoxSizes) (z : BoxSizes) (k : ℕ) → k < length sizes → sizes_at (sizes ++ z ∷ []) k ≡ sizes_at sizes k
 read_before sizes z k lt = grind (arith, elements)
 
-read_last : (sizes : List BoxSizes) (z : BoxSizes) (k : ℕ) → k ≡ length sizes → sizes_at (sizes ++ z ∷ []) k ≡ z
+pub read_last : (sizes : List BoxSizes) (z : BoxSizes) (k : ℕ) → k ≡ length sizes → sizes_at (sizes ++ z ∷ []) k ≡ z
 read_last sizes z k e = grind (arith, elements)
 
 pub one_more : (place : ℕ) (wrapper table : BoxSizes) (sizes : List BoxSizes) (n : ℕ) (z : BoxSizes) → SizesTo place wrapper table sizes n → z ≡ sizes_of_box place wrapper table n → SizeFits z

@@ -12,6 +12,7 @@ use Rattle.lay_contexts.specs.Contexts.{Context, boxes_in, context_at}
 use Rattle.lay_contexts.specs.ContextTree.{StandsIn, boxes_of_place}
 use Rattle.lay_contexts.specs.DocumentContexts.{AreDocumentContexts, root_spot, spot_at}
 use Rattle.lay_contexts.specs.declared.context_spot.ContextSpot.{ContextSpot}
+use Rattle.lay_contexts.proofs.ContextNumbers.{blank_before, blank_last}
 use Rattle.lay_after_edits.specs.Contexts.Building.{AreBuiltTo, IsBuilt}
 use Rattle.lay_after_edits.specs.Contexts.Links.{AreRestyled, HasLinks, is_made}
 use Rattle.lay_after_edits.specs.Contexts.Reach.{ArePlacesOf}
@@ -111,22 +112,15 @@ restyled-are contexts nodes styles places items made flags built = record {
   kept = λ i lt e. (built.each i lt).kept e;
 }
 
--- one more
-before-last : (cs : List Context) (c : Context) (k : ℕ) → k < length cs → context_at (cs ++ c ∷ []) k ≡ context_at cs k
-before-last cs c k lt = grind (arith, elements)
-
-the-last : (cs : List Context) (c : Context) (k : ℕ) → k ≡ length cs → context_at (cs ++ c ∷ []) k ≡ c
-the-last cs c k e = grind (arith, elements)
-
 pub one-more : (contexts : List Context) (nodes : List Node) (styles : List Style) (places : List ℕ) (items : List Context) (made : List Bool) (c : Context) (n : ℕ)
     → AreBuiltTo contexts nodes styles places items made n → IsBuilt contexts nodes styles places c (is_made made n) n
     → AreBuiltTo contexts nodes styles places (items ++ c ∷ []) made (n + 1)
 one-more contexts nodes styles places items made c n built is = record {
   count = grind (arith, elements, built.count);
   each = λ i lt. elim (cases_lt i n) [
-    | inl low ↦ (let e = before-last items c i (omega (arith, low, built.count)) in rw e (built.each i low))
+    | inl low ↦ (let e = blank_before items c i (omega (arith, low, built.count)) in rw e (built.each i low))
     | inr high ↦ (let z : i ≡ n = omega (arith, lt, high) in
-        let e = the-last items c i (omega (arith, z, built.count)) in
+        let e = blank_last items c i (omega (arith, z, built.count)) in
         rw (e, z) is)
   ];
 }

@@ -6,9 +6,9 @@ use Rattle.lay_style.specs.declared.style.Style.{Style}
 use Rattle.lay_style.specs.ComputedStyle.{style_at}
 use Rattle.lay_doc.specs.declared.node.Node.{Node}
 use Rattle.lay_doc.specs.Document.{Document, IsDocument, parents_of}
+use Rattle.lay_doc.proofs.NodeColumns.{length-parents}
 use Rattle.lay_boxgen.specs.declared.facts.Facts.{Facts}
 use Rattle.lay_boxgen.specs.Contexts.{GeneratesBox, IsContextAt, below, box_at, has_box, is_marked, keeps, root}
-use Rattle.lay_boxgen.proofs.NodeColumns.{length-parents}
 use Rattle.lay_contexts.specs.ContextTree.{IsAround, boxes_of_place, further, parent, parent_of}
 use Rattle.lay_contexts.specs.OwnNodes.{AreOwnNodes, IsOwnNode, OwnNode, own_at}
 use Rattle.lay_contexts.proofs.OwnBoxes.{own_nodes_decide}

@@ -1,5 +1,5 @@
 -- Edits of declarations and texts leave the nodes of a document where they stand, and change none but those that they name.
-use Rattle.std.proofs.Common.{◌≡◌, ℕ, zero, suc, ◌<◌, Bool, true, false, All, List, [], ◌∷◌, length, map, refl, ap, sym, subst, ◌∙◌, arith, Some, slice_get}
+use Rattle.std.proofs.Common.{◌≡◌, ℕ, zero, suc, ◌<◌, Bool, true, false, All, List, [], ◌∷◌, length, refl, ap, sym, subst, ◌∙◌, arith, Some, slice_get}
 use Rattle.std.proofs.lemmas.List.Elements.{All-head, All-tail, All-weaker}
 use Rattle.lay_style.specs.Places.{place_of}
 use Rattle.lay_doc.specs.declared.edit.Edit.{Edit}
@@ -9,6 +9,7 @@ use Rattle.lay_doc.specs.Changes.{changed_at, with_style, with_text, without_sty
 use Rattle.lay_doc.specs.Document.{Document, ids_of}
 use Rattle.lay_doc.specs.Edits.{after}
 use Rattle.lay_doc.proofs.NodeColumns.{length-ids}
+use Rattle.lay_doc.proofs.Changed.{column_stays}
 use Rattle.lay_history.specs.Edits.EditLists.{after_all}
 use Rattle.lay_contexts.proofs.EditedLemmas.EditedContexts.{restyled}
 use Rattle.lay_contexts.proofs.EditedLemmas.OwnList.{got}
@@ -36,11 +37,6 @@ other-same zero (suc k) f (x ∷ xs) other = refl
 other-same (suc p) zero f (x ∷ xs) other = refl
 other-same (suc p) (suc k) f (x ∷ xs) other = other-same p k f xs (λ e. other (ap suc e))
 
-column : {X : Type 0} (g : Node → X) (f : Node → Node) → ((n : Node) → g (f n) ≡ g n) → (p : ℕ) (ns : List Node) → map g (changed_at p f ns) ≡ map g ns
-column g f same p [] = refl
-column g f same zero (x ∷ xs) = ap (λ y. y ∷ map g xs) (same x)
-column g f same (suc p) (x ∷ xs) = ap (λ ys. g x ∷ ys) (column g f same p xs)
-
 keeps-form : (p : ℕ) (f : Node → Node) → ((n : Node) → n.id ≡ (f n).id) → ((n : Node) → n.kind ≡ (f n).kind) → (ns : List Node) (k : ℕ) → k < length ns
     → HasForm ns (changed_at p f ns) k
 keeps-form p f i q [] k lt = absurd (omega (arith, lt))
@@ -57,8 +53,8 @@ one-stays : (ns : List Node) (flags : List Bool) (p : ℕ) (f : Node → Node) �
     → ((n : Node) → n.id ≡ (f n).id) → ((n : Node) → n.kind ≡ (f n).kind) → ((n : Node) → (f n).parent ≡ n.parent) → AreStaying ns (changed_at p f ns) flags
 one-stays ns flags p f count flag i q up = record {
   count = count;
-  parents = column (λ n. n.parent) f up p ns;
-  ids = column (λ n. n.id.0) f (λ n. ap (λ x. x.0) (sym (i n))) p ns;
+  parents = column_stays (λ n. n.parent) f up p ns;
+  ids = column_stays (λ n. n.id.0) f (λ n. ap (λ x. x.0) (sym (i n))) p ns;
   form = λ k lt. keeps-form p f i q ns k lt;
   same = λ k lt is_not. other-same p k f ns (λ e. absurd (let z : true ≡ false = sym flag ∙ (ap (is_made flags) (sym e) ∙ is_not) in cc));
 }

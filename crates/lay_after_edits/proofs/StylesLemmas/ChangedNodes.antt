@@ -1,5 +1,5 @@
 -- A change of one node leaves the parents of all, and the declarations of all others.
-use Rattle.std.proofs.Common.{◌≡◌, ℕ, zero, suc, ◌<◌, ◌≤◌, List, [], ◌∷◌, length, get_or, map, refl, sym, ap, ◌∙◌, arith, inl, inr}
+use Rattle.std.proofs.Common.{◌≡◌, ℕ, zero, suc, ◌<◌, ◌≤◌, List, [], ◌∷◌, length, get_or, refl, sym, ap, ◌∙◌, arith, inl, inr}
 use Rattle.std.proofs.lemmas.Bool.{cases_lt}
 use Rattle.lay_style.specs.Values.{Declaration}
 use Rattle.lay_style.specs.ComputedStyle.{declarations_at}
@@ -9,16 +9,11 @@ use Rattle.lay_doc.specs.Document.{declarations_of, parents_of}
 use Rattle.lay_doc.specs.Tree.{IsTree, end_of}
 use Rattle.lay_doc.proofs.NodeColumns.{length-parents}
 use Rattle.lay_doc.proofs.Subtrees.{end_is_slot, parent_behind}
+use Rattle.lay_doc.proofs.Changed.{column_stays}
 use Rattle.lay_after_edits.specs.declared.styles.stretch.Stretch.{Stretch}
 use Rattle.lay_after_edits.specs.Styles.Stretches.{earlier, none_of, subtree_at}
 use Rattle.lay_after_edits.proofs.StylesLemmas.MovedStyles.{IsMoved}
 use Rattle.lay_after_edits.proofs.StylesLemmas.StyleLists.{earlier_high, earlier_low}
-
--- a column that the change leaves as it is
-pub column_stays : {X : Type 0} (g : Node → X) (f : Node → Node) → ((n : Node) → g (f n) ≡ g n) → (k : ℕ) (ns : List Node) → map g (changed_at k f ns) ≡ map g ns
-column_stays g f same k [] = refl
-column_stays g f same zero (x ∷ xs) = ap (λ y. y ∷ map g xs) (same x)
-column_stays g f same (suc k) (x ∷ xs) = ap (λ ys. g x ∷ ys) (column_stays g f same k xs)
 
 declared_other : (p k : ℕ) (f : Node → Node) (ns : List Node) → (p ≡ k → ⊥)
     → declarations_at (declarations_of (changed_at p f ns)) k ≡ declarations_at (declarations_of ns) k

@@ -1,10 +1,10 @@
 -- An edit keeps the styles outside of its stretch.
-use Rattle.std.proofs.Common.{◌≡◌, ℕ, zero, suc, ◌+◌, ◌<◌, List, length, refl, sym, ap, ◌∙◌, arith, subst, Option, None, Some, option_map, slice_index}
+use Rattle.std.proofs.Common.{◌≡◌, ℕ, zero, suc, ◌+◌, List, length, refl, sym, ap, ◌∙◌, arith, subst, Option, None, Some, option_map, slice_index}
 use Rattle.std.proofs.lemmas.Option.{same_Some}
+use Rattle.lay_contexts.proofs.EditedLemmas.EditedContexts.{put-in}
 use Rattle.lay_style.specs.declared.style.Style.{Style}
 use Rattle.lay_style.specs.Places.{place_of}
 use Rattle.lay_style.specs.ComputedStyle.{HasStyles}
-use Rattle.lay_style.proofs.Places.{place_within}
 use Rattle.lay_doc.specs.declared.edit.Edit.{Edit}
 use Rattle.lay_doc.specs.declared.edit.Edit.TheVariants.{SetStyle, ClearStyle, SetText, Insert, Remove, Bad}
 use Rattle.lay_doc.specs.declared.node.Node.{Node}
@@ -14,18 +14,16 @@ use Rattle.lay_doc.specs.Edits.{after, after_insert, fault, insert_fault, insert
 use Rattle.lay_doc.specs.NewNodes.{NewNodeValue}
 use Rattle.lay_doc.specs.Removal.{after_remove, remove_fault}
 use Rattle.lay_doc.specs.Tree.{slot_of}
-use Rattle.lay_doc.proofs.NodeColumns.{length-ids, length-parents}
+use Rattle.lay_doc.proofs.NodeColumns.{length-parents}
+use Rattle.lay_doc.proofs.EditedDocuments.{there}
 use Rattle.lay_after_edits.specs.declared.styles.stretch.Stretch.{Stretch}
 use Rattle.lay_after_edits.specs.Styles.KeptStyles.{KeepsStyles}
 use Rattle.lay_after_edits.specs.Styles.Stretches.{inserted_at, none_of, removed_at, stretch_of, subtree_at}
 use Rattle.lay_after_edits.proofs.StylesLemmas.ChangedNodes.{all_stay, changed_moved}
 use Rattle.lay_after_edits.proofs.StylesLemmas.InsertedNodes.{inserted_moved}
-use Rattle.lay_after_edits.proofs.StylesLemmas.InsertedPlace.{after_put, put_in}
+use Rattle.lay_after_edits.proofs.StylesLemmas.InsertedPlace.{put_in}
 use Rattle.lay_after_edits.proofs.StylesLemmas.MovedStyles.{IsMoved, moved_keeps}
 use Rattle.lay_after_edits.proofs.StylesLemmas.RemovedNodes.{removed_moved}
-
-there : (nodes : List Node) (id p : ℕ) → place_of id (ids_of nodes) ≡ Some p → p < length nodes
-there nodes id p e = let h = place_within id (ids_of nodes) p e in omega (arith, h, length-ids nodes)
 
 -- the stretch of nodes in a move from these nodes to those
 abbrev Moves : List Node → List Node → Stretch → Type 0
@@ -56,7 +54,7 @@ grown d edit parent index new s is none stretch =
     let w = put.slot.within in
     let moved = inserted_moved d.nodes at (becomes new p (slice_index (depths_of d.nodes) p + 1)) is.tree (omega (arith, a)) (omega (arith, w, length-parents d.nodes)) in
     let same : Some (inserted_at at) ≡ Some s = sym (ap (option_map (λ (q : ℕ). inserted_at (slot_of (parents_of d.nodes) q index))) put.named) ∙ stretch in
-    subst (λ (e : Document). Moves d.nodes e.nodes s) (sym (after_put d parent index new p put.named))
+    subst (λ (e : Document). Moves d.nodes e.nodes s) (sym (put-in d parent index new p put.named))
     (subst (Moves d.nodes (inserted_below d p index new).nodes) (same_Some (inserted_at at) s same) moved)
 
 -- nodes taken out

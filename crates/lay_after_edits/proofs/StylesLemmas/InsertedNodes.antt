@@ -9,7 +9,7 @@ use Rattle.lay_style.specs.ComputedStyle.{declarations_at}
 use Rattle.lay_doc.specs.declared.node.Node.{Node}
 use Rattle.lay_doc.specs.Document.{declarations_of, inserted, moved, parents_of}
 use Rattle.lay_doc.specs.Tree.{IsTree, shifted}
-use Rattle.lay_doc.proofs.Inserted.{map-map}
+use Rattle.lay_doc.proofs.Inserted.{map-map, parents_inserted}
 use Rattle.lay_doc.proofs.NodeColumns.{length-parents}
 use Rattle.lay_doc.proofs.PutTrees.{shifted_high, shifted_low}
 use Rattle.lay_after_edits.specs.Styles.Stretches.{earlier, inserted_at}
@@ -18,11 +18,6 @@ use Rattle.lay_after_edits.proofs.StylesLemmas.StyleLists.{earlier_high, earlier
 
 map_insert : {X Y : Type 0} (f : X → Y) (xs : List X) (i : ℕ) (x : X) → map f (insert xs i x) ≡ insert (map f xs) i (f x)
 map_insert f xs i x = map-append f (take i xs) (x ∷ drop i xs) ∙ rw (take-map f i xs, drop-map f i xs) refl
-
-pub parents_inserted : (nodes : List Node) (at : ℕ) (node : Node) → parents_of (inserted nodes at node) ≡ map (shifted at) (insert (parents_of nodes) at node.parent)
-parents_inserted nodes at node =
-    map-map (λ n. n.parent) (moved at) (insert nodes at node)
-    ∙ (sym (map-map (shifted at) (λ n. n.parent) (insert nodes at node)) ∙ ap (map (shifted at)) (map_insert (λ n. n.parent) nodes at node))
 
 declarations_inserted : (nodes : List Node) (at : ℕ) (node : Node) → declarations_of (inserted nodes at node) ≡ insert (declarations_of nodes) at node.decls
 declarations_inserted nodes at node = map-map (λ n. n.decls) (moved at) (insert nodes at node) ∙ map_insert (λ n. n.decls) nodes at node

@@ -1,6 +1,7 @@
 -- Where a node that is put in stands.
 use Rattle.std.proofs.Common.{◌≡◌, ℕ, ◌+◌, ◌==◌, ◌||◌, slice_index, Bool, true, false, not, refl, ap, ◌∙◌, arith, Option, None, Some, if◌then◌else◌, is_some, nat_lt, option_map, subst}
 use Rattle.std.proofs.lemmas.Bool.{ltb-false, or_parts}
+use Rattle.lay_contexts.proofs.EditedLemmas.EditedContexts.{put-in}
 use Rattle.lay_style.specs.Places.{place_of}
 use Rattle.lay_style.proofs.Places.{place_within}
 use Rattle.lay_doc.specs.declared.edit.Edit.{Edit}
@@ -10,7 +11,7 @@ use Rattle.lay_doc.specs.declared.edit.EditFault.TheVariants.{NotElement, IdTake
 use Rattle.lay_doc.specs.declared.node.Node.{Node}
 use Rattle.lay_doc.specs.declared.node.NodeId.{NodeId}
 use Rattle.lay_doc.specs.Document.{Document, IsDocument, becomes, depths_of, ids_of, is_element_at, parents_of}
-use Rattle.lay_doc.specs.Edits.{after, after_insert, fault, fault_below, insert_fault, inserted_below}
+use Rattle.lay_doc.specs.Edits.{after, after_insert, fault, fault_below, insert_fault}
 use Rattle.lay_doc.specs.NewNodes.{NewNodeValue}
 use Rattle.lay_doc.specs.Tree.{IsSlot, child_count, slot_of}
 use Rattle.lay_doc.proofs.FoundSlots.{slot_found}
@@ -57,10 +58,6 @@ put_in d parent index new is none = by (place_of parent (ids_of d.nodes)) refl
     by None e = absurd (let h = rw e at none in cc)
     by (Some p) e = put_below d parent index p new is e (rw e at none)
 
-pub after_put : (d : Document) (parent index : ℕ) (new : NewNodeValue) (p : ℕ) → place_of parent (ids_of d.nodes) ≡ Some p
-    → after_insert d parent index new ≡ inserted_below d p index new
-after_put d parent index new p e = rw e refl
-
 pub new_place : (d : Document) (parent index : ℕ) (new : NewNodeValue) → (put : IsPutIn d parent index new)
     → place_of new.id.0 (ids_of (after_insert d parent index new).nodes) ≡ Some (slot_of (parents_of d.nodes) put.place index)
 new_place d parent index new put =
@@ -68,7 +65,7 @@ new_place d parent index new put =
     let at : ℕ = slot_of (parents_of d.nodes) p index in
     let node : Node = becomes new p (slice_index (depths_of d.nodes) p + 1) in
     let within = put.slot.within in
-    ap (λ (e : Document). place_of new.id.0 (ids_of e.nodes)) (after_put d parent index new p put.named)
+    ap (λ (e : Document). place_of new.id.0 (ids_of e.nodes)) (put-in d parent index new p put.named)
     ∙ ap (place_of new.id.0) (ids_inserted d.nodes at node)
     ∙ place_insert_here (ids_of d.nodes) at new.id.0 (omega (arith, within, length-ids d.nodes, length-parents d.nodes)) put.fresh
 

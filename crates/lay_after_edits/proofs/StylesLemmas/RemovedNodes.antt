@@ -1,7 +1,7 @@
 -- Nodes that are taken out move those behind them, and are the parents of none of these.
-use Rattle.std.proofs.Common.{◌≡◌, ℕ, ◌+◌, ◌-◌, ◌<◌, ◌≤◌, List, [], length, get_or, map, refl, sym, ap, ◌∙◌, arith, inl, inr}
+use Rattle.std.proofs.Common.{◌≡◌, ℕ, ◌+◌, ◌-◌, ◌<◌, ◌≤◌, List, [], length, get_or, sym, ap, ◌∙◌, arith, inl, inr}
 use Rattle.std.specs.List.{remove_range}
-use Rattle.std.proofs.lemmas.Bool.{cases_lt, le-ltb, lt-ltb}
+use Rattle.std.proofs.lemmas.Bool.{cases_lt}
 use Rattle.std.proofs.lemmas.List.{get_or-map, length-map}
 use Rattle.lay_style.specs.Values.{Declaration}
 use Rattle.lay_style.specs.ComputedStyle.{declarations_at}
@@ -13,20 +13,10 @@ use Rattle.lay_doc.proofs.Cut.{cut_read, length-cut, map-cut, old_high, old_low,
 use Rattle.lay_doc.proofs.Inserted.{map-map}
 use Rattle.lay_doc.proofs.NodeColumns.{length-parents}
 use Rattle.lay_doc.proofs.Subtrees.{end_is_slot, parent_behind}
+use Rattle.lay_doc.proofs.Removed.{closed_low, closed_high, parents_removed}
 use Rattle.lay_after_edits.specs.Styles.Stretches.{earlier, removed_at}
 use Rattle.lay_after_edits.proofs.StylesLemmas.MovedStyles.{IsMoved}
 use Rattle.lay_after_edits.proofs.StylesLemmas.StyleLists.{earlier_high, earlier_low}
-
-closed_low : (i j u : ℕ) → u < i → closed_up i j u ≡ u
-closed_low i j u low = let t = lt-ltb u i low in rw t refl
-
-closed_high : (i j u : ℕ) → i ≤ u → closed_up i j u ≡ u - (j - i)
-closed_high i j u high = let t = le-ltb u i high in rw t refl
-
-parents_removed : (nodes : List Node) (i j : ℕ) → parents_of (removed_between nodes i j) ≡ map (closed_up i j) (remove_range (parents_of nodes) i j)
-parents_removed nodes i j =
-    map-map (λ n. n.parent) (moved_back i j) (remove_range nodes i j)
-    ∙ (sym (map-map (closed_up i j) (λ n. n.parent) (remove_range nodes i j)) ∙ ap (map (closed_up i j)) (map-cut (λ n. n.parent) nodes i j))
 
 declarations_removed : (nodes : List Node) (i j : ℕ) → declarations_of (removed_between nodes i j) ≡ remove_range (declarations_of nodes) i j
 declarations_removed nodes i j = map-map (λ n. n.decls) (moved_back i j) (remove_range nodes i j) ∙ map-cut (λ n. n.decls) nodes i j

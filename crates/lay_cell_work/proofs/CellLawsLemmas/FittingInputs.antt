@@ -61,7 +61,7 @@ unasked (input.Place i at) around spot e = absurd cc
 unasked (input.PlaceTable i at) around spot e = absurd cc
 
 -- a number is that of a root of one context
-same_context : (contexts : List Context) (c e m : ℕ) → IsOf contexts c m → IsOf contexts e m → c ≡ e
+pub same_context : (contexts : List Context) (c e m : ℕ) → IsOf contexts c m → IsOf contexts e m → c ≡ e
 same_context contexts c e m a b = elim (cases_lt c e) [
   | inl low ↦ absurd (let up = first_le contexts (suc c) e (omega (arith, low)) in let until = a.until in let from = b.from in
       let next : first_number contexts (suc c) ≡ first_number contexts c + root_count contexts c = refl in omega (arith, up, until, from, next))

@@ -1,5 +1,6 @@
 -- The nearest holder of a box among the boxes of its context, and among those of the root that it is at home in.
-use Rattle.std.proofs.Common.{◌≡◌, ◌<◌, ℕ, zero, suc, Bool, true, false, List, [], ◌∷◌, length, slice_index, Option, Some, refl, ap, sym, subst, ◌∙◌, arith}
+use Rattle.std.proofs.Common.{◌≡◌, ◌<◌, ℕ, Bool, true, false, List, length, slice_index, Option, Some, refl, ap, sym, subst, ◌∙◌, arith}
+use Rattle.lay_shape.proofs.ShapeLawsLemmas.WayContexts.{holder_of}
 use Rattle.lay_box_tree.specs.BoxColumns.{box_at}
 use Rattle.lay_box_tree.specs.ContextBoxes.{AreContextBoxes}
 use Rattle.lay_box_tree.specs.Containers.{box_parent}
@@ -10,11 +11,6 @@ use Rattle.lay_contexts.proofs.AtHome.{is_home}
 use Rattle.lay_contexts.proofs.NearestRoots.{not_own, parent_low, root_home, same_home}
 use Rattle.lay_contexts.proofs.RootBoxes.{at_rank, parent_of, place_other, place_root, rank_some}
 use Rattle.lay_positioned.specs.Holders.{IsNearestHolder, further, is_holder, is_holder_at, parent}
-
-holder_of : (boxes : List BoxNode) (k : ℕ) → is_holder_at boxes k ≡ is_holder (box_at boxes k)
-holder_of [] k = refl
-holder_of (b ∷ bs) zero = refl
-holder_of (b ∷ bs) (suc k) = holder_of bs k
 
 module _ (boxes : List BoxNode) (homes : List ℕ) (are : AreContextBoxes boxes) (found : AreHomes boxes homes) where
   abbrev Root : ℕ → List BoxNode

@@ -15,11 +15,12 @@ use Rattle.lay_contexts.specs.Homes.{is_root}
 use Rattle.lay_contexts.specs.Laws.{KeepsFlowAround}
 use Rattle.lay_contexts.proofs.AtHome.{home_is, place_there}
 use Rattle.lay_contexts.proofs.RootNumbers.{Numbered, number_lt, roots_lt}
+use Rattle.lay_contexts.proofs.StandingAnchors.{flow_of}
 use Rattle.lay_positioned.specs.Absolute.{is_absolute, is_absolute_flow, is_own_absolute}
 use Rattle.lay_context.specs.DocumentLayout.{flow_number, flow_numbers}
 use Rattle.lay_cell_work.specs.CellColumns.{link_to, links_of, links_or_none, masked}
 use Rattle.lay_cell_work.proofs.CellLawsLemmas.MaskedColumns.{column_is, entry, masked_is, masked_value}
-use Rattle.lay_cell_work.proofs.CellLawsLemmas.RootsOfContexts.{AreCalm, anonymous_flows, flow_of}
+use Rattle.lay_cell_work.proofs.CellLawsLemmas.RootsOfContexts.{AreCalm, anonymous_flows}
 
 -- which root of its context the box at k is
 abbrev pub link_at : List BoxNode → ℕ → Option ℕ

@@ -1,6 +1,7 @@
 -- The roots of a context have the numbers from its first one on. An anonymous formatting context inside another one is of the same context,
 -- and so is the one around it; and it is in flow.
-use Rattle.std.proofs.Common.{◌≡◌, ℕ, zero, suc, nat_lt, ◌+◌, ◌<◌, ◌≤◌, ◌&&◌, Bool, true, false, not, List, [], ◌∷◌, length, slice_index, slice_index_or, refl, ap, sym, subst, ◌∙◌, arith}
+use Rattle.std.proofs.Common.{◌≡◌, ℕ, zero, suc, nat_lt, ◌+◌, ◌<◌, ◌≤◌, ◌&&◌, Bool, true, false, not, List, length, slice_index, refl, ap, sym, subst, ◌∙◌, arith}
+use Rattle.lay_shape.proofs.ShapeLawsLemmas.ShapedNeeds.{root_anonymous as root_flag}
 use Rattle.lay_box_tree.specs.BoxColumns.{box_at}
 use Rattle.lay_box_tree.specs.Containing.{is_anonymous}
 use Rattle.lay_box_tree.specs.declared.box_tree.BoxNode.{BoxNode}
@@ -9,10 +10,11 @@ use Rattle.lay_contexts.specs.Contexts.{AreContexts, Context, boxes_in}
 use Rattle.lay_contexts.specs.FlowLaws.{flow_at}
 use Rattle.lay_contexts.specs.FormattingContexts.{FormattingContext, formatting_context_at}
 use Rattle.lay_contexts.specs.FormattingContextList.{AreFormattingContextsOf, first_number, homes_in, number_at, number_of, spot_of}
-use Rattle.lay_contexts.specs.Homes.{box_roots, is_root, is_wrapper_or_cell}
+use Rattle.lay_contexts.specs.Homes.{is_root}
 use Rattle.lay_contexts.specs.declared.spot.Spot.{Spot}
 use Rattle.lay_contexts.proofs.ContextFacts.{home_root, home_there, is_behind, value_of}
 use Rattle.lay_contexts.proofs.RootNumbers.{Numbered, roots_lt}
+use Rattle.lay_contexts.proofs.StandingAnchors.{flow_of}
 use Rattle.lay_positioned.specs.Absolute.{is_absolute, is_absolute_flow, is_own_absolute}
 use Rattle.lay_cell_work.specs.PresentInputs.{root_count}
 
@@ -35,20 +37,10 @@ some_place : (place : ℕ) → nat_lt 0 place ≡ true → 0 < place
 some_place zero e = absurd cc
 some_place (suc k) e = omega arith
 
-pub flow_of : (boxes : List BoxNode) (k : ℕ) → flow_at boxes k ≡ (box_at boxes k).flow
-flow_of [] k = refl
-flow_of (b ∷ bs) zero = refl
-flow_of (b ∷ bs) (suc k) = flow_of bs k
-
 -- an anonymous root is anonymous
 flag : (anonymous inner kind : Bool) → (anonymous && not inner && kind) ≡ true → anonymous ≡ true
 flag true inner kind e = refl
 flag false inner kind e = absurd cc
-
-root_flag : (boxes : List BoxNode) (k : ℕ) → slice_index_or (box_roots boxes) k false ≡ true → is_anonymous boxes k ≡ true
-root_flag [] k e = absurd cc
-root_flag (b ∷ bs) zero e = flag b.anonymous b.inner (is_wrapper_or_cell b.kind) e
-root_flag (b ∷ bs) (suc k) e = root_flag bs k e
 
 root_anonymous : (boxes : List BoxNode) (k : ℕ) → 0 < k → is_root boxes k ≡ true → is_anonymous boxes k ≡ true
 root_anonymous boxes zero some e = absurd (omega (arith, some))

@@ -1,5 +1,5 @@
 -- A change of one node keeps all nodes but that one and those below it.
-use Rattle.std.proofs.Common.{◌≡◌, ℕ, zero, suc, ◌<◌, List, [], ◌∷◌, length, map, refl, ap, sym, subst, ◌∙◌, arith, Option, Some, slice_get, slice_index}
+use Rattle.std.proofs.Common.{◌≡◌, ℕ, zero, suc, ◌<◌, List, [], ◌∷◌, length, refl, ap, sym, subst, ◌∙◌, arith, Option, Some, slice_get, slice_index}
 use Rattle.lay_style.specs.ComputedStyle.{declarations_at}
 use Rattle.lay_doc.specs.declared.edit.Edit.{Edit}
 use Rattle.lay_doc.specs.declared.node.Node.{Node}
@@ -7,6 +7,7 @@ use Rattle.lay_doc.specs.Changes.{changed_at}
 use Rattle.lay_doc.specs.Document.{Document, IsDocument, declarations_of, ids_of, parents_of}
 use Rattle.lay_doc.specs.Tree.{IsUnder, child, itself}
 use Rattle.lay_doc.proofs.NodeColumns.{length-parents}
+use Rattle.lay_doc.proofs.Changed.{column_stays, length-changed}
 use Rattle.lay_contexts.specs.ContextTree.{parent_of}
 use Rattle.lay_contexts.specs.Edited.Reached.{IsReached, IsUnderThere, place_in, subject_of}
 use Rattle.lay_contexts.proofs.EditedLemmas.KeptContexts.{Keeping}
@@ -20,17 +21,6 @@ changed-other zero (suc k) f (x ∷ xs) other = refl
 changed-other (suc p) zero f (x ∷ xs) other = refl
 changed-other (suc p) (suc k) f (x ∷ xs) other = changed-other p k f xs (λ e. other (ap suc e))
 
--- a column that the change leaves as it is
-column-stays : {X : Type 0} (g : Node → X) (f : Node → Node) → ((n : Node) → g (f n) ≡ g n) → (k : ℕ) (ns : List Node) → map g (changed_at k f ns) ≡ map g ns
-column-stays g f same k [] = refl
-column-stays g f same zero (x ∷ xs) = ap (λ y. y ∷ map g xs) (same x)
-column-stays g f same (suc k) (x ∷ xs) = ap (λ ys. g x ∷ ys) (column-stays g f same k xs)
-
-pub length-changed : (f : Node → Node) (k : ℕ) (ns : List Node) → length (changed_at k f ns) ≡ length ns
-length-changed f k [] = refl
-length-changed f zero (x ∷ xs) = refl
-length-changed f (suc k) (x ∷ xs) = ap suc (length-changed f k xs)
-
 module _ (d : Document) (edit : Edit) (p : ℕ) (f : Node → Node) (doc : IsDocument d) (named : place_in (ids_of d.nodes) (subject_of edit) ≡ Some p)
     (same_id : (n : Node) → (f n).id ≡ n.id) (same_parent : (n : Node) → (f n).parent ≡ n.parent) where
   abbrev pub changed : Document
@@ -41,10 +31,10 @@ module _ (d : Document) (edit : Edit) (p : ℕ) (f : Node → Node) (doc : IsDoc
   Stays k m = (k ≡ m) × (k < length d.nodes) × (IsUnder (parents_of d.nodes) p k → ⊥)
 
   pub parents-stay : parents_of changed.nodes ≡ parents_of d.nodes
-  parents-stay = column-stays (λ n. n.parent) f same_parent p d.nodes
+  parents-stay = column_stays (λ n. n.parent) f same_parent p d.nodes
 
   pub ids-stay : ids_of changed.nodes ≡ ids_of d.nodes
-  ids-stay = column-stays (λ n. n.id.0) f (λ n. ap (λ i. i.0) (same_id n)) p d.nodes
+  ids-stay = column_stays (λ n. n.id.0) f (λ n. ap (λ i. i.0) (same_id n)) p d.nodes
 
   node-stays : (k m : ℕ) → Stays k m → SameNode d.nodes changed.nodes k m
   node-stays k m r =

@@ -3,7 +3,6 @@ use Rattle.std.proofs.Common.{◌≡◌, ◌⊎◌, ◌↔◌, inl, inr, ℕ, �
 use Rattle.std.proofs.lemmas.Bool.{ltb-false}
 use Rattle.lay_style.specs.declared.style.Style.{Style}
 use Rattle.lay_style.specs.Places.{place_of}
-use Rattle.lay_style.proofs.Places.{place_within}
 use Rattle.lay_doc.specs.declared.edit.Edit.{Edit}
 use Rattle.lay_doc.specs.declared.edit.Edit.TheVariants.{SetStyle, ClearStyle, SetText, Insert, Remove, Bad}
 use Rattle.lay_doc.specs.declared.edit.EditFault.{EditFault}
@@ -15,9 +14,9 @@ use Rattle.lay_doc.specs.Edits.{after, after_insert, fault_below, insert_fault, 
 use Rattle.lay_doc.specs.NewNodes.{NewNodeValue}
 use Rattle.lay_doc.specs.Removal.{after_remove, remove_fault, removed}
 use Rattle.lay_doc.specs.Tree.{child_count, slot_of}
-use Rattle.lay_doc.proofs.EditedDocuments.{edits_leave_documents}
+use Rattle.lay_doc.proofs.EditedDocuments.{edits_leave_documents, there}
 use Rattle.lay_doc.proofs.FoundSlots.{slot_found}
-use Rattle.lay_doc.proofs.NodeColumns.{length-ids, length-parents}
+use Rattle.lay_doc.proofs.NodeColumns.{length-parents}
 use Rattle.lay_box_tree.specs.declared.box_tree.BoxKind.{BoxKind}
 use Rattle.lay_box_tree.specs.declared.box_tree.Flow.{Flow}
 use Rattle.lay_boxgen.specs.Contexts.{IsContext, IsContextAt}
@@ -31,9 +30,6 @@ use Rattle.lay_contexts.proofs.EditedLemmas.KeptContexts.{Keeping, Styled, reach
 use Rattle.lay_contexts.proofs.EditedLemmas.KeptNodes.{kept-here, kept-there}
 use Rattle.lay_contexts.proofs.EditedLemmas.KeptShrinking.{context-stays, stays-within}
 use Rattle.lay_contexts.proofs.EditedLemmas.RemovedNodes.{Closes, shrunk-keeping}
-
-there : (nodes : List Node) (id p : ℕ) → place_of id (ids_of nodes) ≡ Some p → p < length nodes
-there nodes id p e = let h = place_within id (ids_of nodes) p e in omega (arith, h, length-ids nodes)
 
 -- a change of declarations or a text
 pub restyled : (d : Document) (id : ℕ) (f : Node → Node) (p : ℕ) → place_of id (ids_of d.nodes) ≡ Some p → after_change d id f ≡ record d { nodes = changed_at p f d.nodes }
@@ -65,7 +61,7 @@ index-fits nodes p index new none =
     let c = passed (nat_lt (child_count (parents_of nodes) p) index) BadIndex _ b.1 in
     ltb-false (child_count (parents_of nodes) p) index c.0
 
-put-in : (d : Document) (parent index : ℕ) (new : NewNodeValue) (p : ℕ) → place_of parent (ids_of d.nodes) ≡ Some p → after_insert d parent index new ≡ inserted_below d p index new
+pub put-in : (d : Document) (parent index : ℕ) (new : NewNodeValue) (p : ℕ) → place_of parent (ids_of d.nodes) ≡ Some p → after_insert d parent index new ≡ inserted_below d p index new
 put-in d parent index new p e = rw e refl
 
 named-by-parent : (d : Document) (parent index : ℕ) (new : NewNodeValue) → insert_fault d parent index new ≡ None

@@ -1,12 +1,13 @@
 -- What stands at a place of a list of nodes after one was put in, or some were taken out.
-use Rattle.std.proofs.Common.{◌≡◌, inl, inr, ℕ, suc, ◌+◌, ◌-◌, ◌<◌, ◌≤◌, List, [], ◌∷◌, length, get_or, ap, sym, ◌∙◌, arith, Some, slice_get}
+use Rattle.std.proofs.Common.{◌≡◌, inl, inr, ℕ, suc, ◌+◌, ◌-◌, ◌<◌, ◌≤◌, List, [], ◌∷◌, length, ap, sym, ◌∙◌, arith, Some, slice_get}
 use Rattle.std.specs.List.{insert, remove_range}
 use Rattle.std.proofs.lemmas.Bool.{cases_lt}
-use Rattle.std.proofs.lemmas.List.Edits.{get_or-insert_above, get_or-insert_below, length-insert}
+use Rattle.std.proofs.lemmas.List.Edits.{length-insert}
 use Rattle.std.proofs.lemmas.Option.{slice_get-get_or}
 use Rattle.lay_doc.specs.Tree.{shifted}
 use Rattle.lay_doc.proofs.Cut.{cut_read, length-cut, old_place}
 use Rattle.lay_doc.proofs.PutTrees.{shifted_high, shifted_low}
+use Rattle.lay_doc.proofs.Inserted.{moved_read}
 
 -- Places before and after a new node.
 pub shifted-less : (at j k : ℕ) → j < k → shifted at j < shifted at k
@@ -39,16 +40,10 @@ shifted-within at k n le lt = elim (cases_lt k at) [
   | inr high ↦ (let a = shifted_high at k high in omega (arith, a, lt))
 ]
 
-moved-read : {X : Type 0} (xs : List X) (at : ℕ) (x d : X) (k : ℕ) → at ≤ length xs → get_or (insert xs at x) (shifted at k) d ≡ get_or xs k d
-moved-read xs at x d k le = elim (cases_lt k at) [
-  | inl low ↦ ap (λ (m : ℕ). get_or (insert xs at x) m d) (shifted_low at k low) ∙ get_or-insert_below xs at x d k low le
-  | inr high ↦ ap (λ (m : ℕ). get_or (insert xs at x) m d) (shifted_high at k high) ∙ get_or-insert_above xs at x d k high le
-]
-
 pub get-shifted : {X : Type 0} (xs : List X) (at : ℕ) (x : X) (k : ℕ) → at ≤ length xs → k < length xs → slice_get (insert xs at x) (shifted at k) ≡ slice_get xs k
 get-shifted xs at x k le lt =
     let inside : shifted at k < length (insert xs at x) = (let a = shifted-within at k (length xs) le lt in let l = length-insert xs at x le in omega (arith, a, l)) in
-    slice_get-get_or (insert xs at x) (shifted at k) x inside ∙ (ap Some (moved-read xs at x x k le) ∙ sym (slice_get-get_or xs k x lt))
+    slice_get-get_or (insert xs at x) (shifted at k) x inside ∙ (ap Some (moved_read xs at x x k le) ∙ sym (slice_get-get_or xs k x lt))
 
 -- Places after some nodes were taken out.
 pub get-old : {X : Type 0} (xs : List X) (i j k : ℕ) → i ≤ j → j ≤ length xs → k + (j - i) < length xs → old_place i j k < length xs → slice_get (remove_range xs i j) k ≡ slice_get xs (old_place i j k)

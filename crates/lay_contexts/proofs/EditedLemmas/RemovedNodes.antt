@@ -1,7 +1,7 @@
 -- A removal keeps all nodes that it doesn't take out.
 use Rattle.std.proofs.Common.{◌≡◌, inl, inr, ℕ, ◌+◌, ◌-◌, ◌<◌, ◌≤◌, length, refl, ap, sym, subst, ◌∙◌, arith, Option, Some, option_map, slice_get}
 use Rattle.std.specs.List.{remove_range}
-use Rattle.std.proofs.lemmas.Bool.{cases_lt, le-ltb, lt-ltb}
+use Rattle.std.proofs.lemmas.Bool.{cases_lt}
 use Rattle.std.proofs.lemmas.Option.{slice_get-map}
 use Rattle.std.proofs.lemmas.List.{length-map}
 use Rattle.lay_style.specs.ComputedStyle.{declarations_at}
@@ -9,28 +9,16 @@ use Rattle.lay_doc.specs.declared.edit.Edit.{Edit}
 use Rattle.lay_doc.specs.Document.{Document, IsDocument, declarations_of, ids_of, parents_of}
 use Rattle.lay_doc.specs.Removal.{closed_up, moved_back, removed_between}
 use Rattle.lay_doc.specs.Tree.{IsSlot, child_count, end_of}
-use Rattle.lay_doc.proofs.Cut.{length-cut, old_high, old_inside, old_less, old_less_back, old_low, old_more, old_outside, old_place}
+use Rattle.lay_doc.proofs.Cut.{length-cut, old_inside, old_less, old_less_back, old_more, old_outside, old_place}
 use Rattle.lay_doc.proofs.NodeColumns.{length-parents}
 use Rattle.lay_doc.proofs.Subtrees.{end_is_slot, has_subtree_lem, parent_outside}
+use Rattle.lay_doc.proofs.Removed.{closed_low, closed_high, old_closed}
 use Rattle.lay_contexts.specs.ContextTree.{parent_of}
 use Rattle.lay_contexts.specs.Edited.Reached.{IsReached, IsUnderThere, place_in, subject_of}
 use Rattle.lay_contexts.proofs.EditedLemmas.KeptContexts.{Keeping}
 use Rattle.lay_contexts.proofs.EditedLemmas.MovedNodes.{get-old}
 use Rattle.lay_contexts.proofs.EditedLemmas.OwnList.{got}
 use Rattle.lay_contexts.proofs.EditedLemmas.SameTrees.{SameNode, or-map, same-declarations}
-
-closed-low : (i j u : ℕ) → u < i → closed_up i j u ≡ u
-closed-low i j u low = let t = lt-ltb u i low in rw t refl
-
-closed-high : (i j u : ℕ) → i ≤ u → closed_up i j u ≡ u - (j - i)
-closed-high i j u high = let t = le-ltb u i high in rw t refl
-
-old-closed : (i j u : ℕ) → i ≤ j → (i ≤ u → j ≤ u) → old_place i j (closed_up i j u) ≡ u
-old-closed i j u le outside = elim (cases_lt u i) [
-  | inl low ↦ ap (old_place i j) (closed-low i j u low) ∙ old_low i j u low
-  | inr high ↦ (let h = outside high in let q : (u - (j - i)) + (j - i) ≡ u = omega (arith, h, le) in
-      ap (old_place i j) (closed-high i j u high) ∙ (old_high i j (u - (j - i)) (omega (arith, h, le)) ∙ q))
-]
 
 module _ (d : Document) (edit : Edit) (p : ℕ) (doc : IsDocument d) (not_root : 0 < p) (has : p < length d.nodes) (named : place_in (ids_of d.nodes) (subject_of edit) ≡ Some p) where
   abbrev end : ℕ
@@ -88,7 +76,7 @@ module _ (d : Document) (edit : Edit) (p : ℕ) (doc : IsDocument d) (not_root :
       let lt = old-within k m r in
       let outside : p ≤ k → end ≤ k = λ from. subst (λ (j : ℕ). end ≤ j) r.0 (old_outside p end m le (subst (λ (j : ℕ). p ≤ j) (sym r.0) from)) in
       ap (old_place p end) (parent-closed k m r)
-      ∙ old-closed p end (parent_of d.nodes k) le (parent_outside (parents_of d.nodes) doc.tree p end not_root slot k (omega (arith, lt, length-parents d.nodes)) outside)
+      ∙ old_closed p end (parent_of d.nodes k) le (parent_outside (parents_of d.nodes) doc.tree p end not_root slot k (omega (arith, lt, length-parents d.nodes)) outside)
 
   parent-closes : (k m : ℕ) → Closes k m → 0 < k → (0 < m) × Closes (parent_of d.nodes k) (parent_of shrunk.nodes m)
   parent-closes k m r positive =
@@ -102,11 +90,11 @@ module _ (d : Document) (edit : Edit) (p : ℕ) (doc : IsDocument d) (not_root :
 
   forth : (k : ℕ) → k < length d.nodes → (IsReached d edit k → ⊥) → Closes k (closed_up p end k)
   forth k lt not_so = elim (cases_lt k p) [
-    | inl low ↦ (let c = closed-low p end k low in (old-closed p end k le (λ from. absurd (omega (arith, low, from))), omega (arith, c, low, le, within)))
+    | inl low ↦ (let c = closed_low p end k low in (old_closed p end k le (λ from. absurd (omega (arith, low, from))), omega (arith, c, low, le, within)))
     | inr from ↦ elim (cases_lt k end) [
       | inl inner ↦ absurd (not_so (subst (λ (o : Option ℕ). IsUnderThere (parents_of d.nodes) o k) (sym named)
           ((has_subtree_lem (parents_of d.nodes) p k doc.tree (omega (arith, has, length-parents d.nodes)) (omega (arith, lt, length-parents d.nodes))).1 (from, inner))))
-      | inr behind ↦ (let c = closed-high p end k from in (old-closed p end k le (λ h. behind), omega (arith, c, behind, lt, le)))
+      | inr behind ↦ (let c = closed_high p end k from in (old_closed p end k le (λ h. behind), omega (arith, c, behind, lt, le)))
     ]
   ]
 

@@ -17,6 +17,7 @@ use Rattle.lay_doc.specs.Tree.{IsUnder, child, itself}
 use Rattle.lay_doc.proofs.EditedDocuments.{edits_leave_documents}
 use Rattle.lay_doc.proofs.NodeColumns.{length-ids, length-parents}
 use Rattle.lay_doc.proofs.Subtrees.{has_subtree_lem}
+use Rattle.lay_doc.proofs.Changed.{length-changed}
 use Rattle.lay_boxgen.specs.Forms.{is_absolute}
 use Rattle.lay_boxgen.specs.declared.facts.Facts.{Facts}
 use Rattle.lay_boxgen.specs.Contexts.{IsContext, IsContextAt, IsContextThere, box_at, box_of_node, is_marked}
@@ -28,7 +29,7 @@ use Rattle.lay_contexts.specs.Edited.Anchors.{AnchorsKeepContextsAround, HasAbso
 use Rattle.lay_contexts.specs.Edited.Reached.{IsReached, IsUnderThere, place_in, subject_of}
 use Rattle.lay_contexts.specs.Edited.Touched.{Edits, IsOwn, KeepsBoxes, element, inside}
 use Rattle.lay_contexts.proofs.EditedLemmas.AnchoredStyles.{same-boxes}
-use Rattle.lay_contexts.proofs.EditedLemmas.ChangedNodes.{changed-keeping, ids-stay, length-changed, parents-stay}
+use Rattle.lay_contexts.proofs.EditedLemmas.ChangedNodes.{changed-keeping, ids-stay, parents-stay}
 use Rattle.lay_contexts.proofs.EditedLemmas.EditedContexts.{named-by-style, restyled}
 use Rattle.lay_contexts.proofs.EditedLemmas.KeptContexts.{Keeping, Styled, reached-known}
 use Rattle.lay_contexts.proofs.EditedLemmas.OwnImage.{boxes-kept}

@@ -11,11 +11,11 @@ use Rattle.lay_doc.specs.declared.node.Node.{Node}
 use Rattle.lay_doc.specs.declared.node.NodeId.{NodeId}
 use Rattle.lay_doc.specs.Document.{declarations_of, parents_of}
 use Rattle.lay_doc.specs.Tree.{IsTree}
+use Rattle.lay_doc.proofs.NodeColumns.{length-parents}
 use Rattle.lay_boxgen.specs.declared.facts.Facts.{Facts}
 use Rattle.lay_boxgen.specs.declared.facts.Form.{Form}
 use Rattle.lay_boxgen.specs.Contexts.{GeneratesBox, IsContextAt, below, box_at, box_of_node, has_box, is_marked, keeps, root}
 use Rattle.lay_boxgen.specs.NodeBoxes.{establishes_context, form_of, node_flow}
-use Rattle.lay_boxgen.proofs.NodeColumns.{length-parents}
 use Rattle.lay_contexts.specs.ContextTree.{IsAround, further, parent, parent_of}
 
 -- one node stands at k in the one list and at m in the other

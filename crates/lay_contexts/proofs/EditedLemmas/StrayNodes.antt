@@ -17,7 +17,6 @@ use Rattle.lay_boxgen.specs.Forms.{is_absolute, is_in_flow, is_inline, is_table,
 use Rattle.lay_boxgen.specs.declared.facts.Facts.{Facts}
 use Rattle.lay_boxgen.specs.declared.facts.Form.{Form}
 use Rattle.lay_boxgen.specs.declared.facts.Form.TheVariants as form
-use Rattle.lay_box_tree.specs.declared.box_tree.Flow.{Flow}
 use Rattle.lay_box_tree.specs.declared.box_tree.Flow.TheVariants as flow
 use Rattle.lay_boxgen.specs.Contexts.{box_at, box_of_node, is_marked}
 use Rattle.lay_boxgen.specs.CutTrees.{cut_tree_at, generated_cut}
@@ -26,6 +25,7 @@ use Rattle.lay_boxgen.specs.NodeBoxes.{establishes_context, facts_with, form_of,
 use Rattle.lay_boxgen.specs.NodeTrees.{anchor_facts, as_own, tree_at}
 use Rattle.lay_boxgen.specs.Parts.{is_closed, nothing, part, put_list}
 use Rattle.lay_boxgen.proofs.CutParts.{part-cut}
+use Rattle.lay_boxgen.proofs.WholeParts.{no_flow}
 use Rattle.lay_contexts.specs.ContextTree.{parent_of}
 use Rattle.lay_contexts.specs.NodeTreeLaws.{child_trees, children_places}
 use Rattle.lay_contexts.proofs.NodeFacts.{of_node}
@@ -104,11 +104,6 @@ root-no-white nodes s (Some n) f get e w root = by (form_of true n.kind n.text s
 no-members : (cs : List ℕ) → ((c : ℕ) → Has cs c → ⊥) → cs ≡ []
 no-members [] h = refl
 no-members (c ∷ cs) h = absurd (h c (inl refl))
-
-no_flow : (x : Flow) → is_absolute x ≡ true → is_in_flow x ≡ false
-no_flow flow.InFlow h = cc
-no_flow flow.Floating h = cc
-no_flow flow.Absolute h = refl
 
 open-by : (inner inline : Bool) → (inner ≡ true → inline ≡ false) → (inner && not inline) ≡ false → inner ≡ false
 open-by true true h e = h refl

@@ -2,7 +2,7 @@
 use Rattle.std.proofs.Common.{◌≡◌, length, ◌∙◌}
 use Rattle.lay_doc.specs.Document.{Document, IsDocument, declarations_of, parents_of}
 use Rattle.lay_doc.specs.Laws.{OneStyleColumn}
-use Rattle.lay_boxgen.proofs.NodeColumns.{length-parents}
+use Rattle.lay_doc.proofs.NodeColumns.{length-parents}
 use Rattle.lay_contexts.specs.Contexts.{AreContexts}
 use Rattle.lay_contexts.specs.FormattingLaws.{OneFormattingContextList}
 use Rattle.lay_contexts.specs.Laws.{OneContextList}

@@ -21,9 +21,9 @@ use Rattle.lay_measure.specs.declared.pen.Breaking.{Breaking}
 use Rattle.lay_measure.specs.declared.pen.Breaking.TheVariants as breaking
 use Rattle.lay_measure.specs.declared.pen.Pen.{Pen}
 use Rattle.lay_measure.specs.LineParts.{line_parts, parts_of}
-use Rattle.lay_measure.specs.LineWidths.{begun, float_sum, line_width, lines_of, over_all, widest, widest_float}
+use Rattle.lay_measure.specs.LineWidths.{begun, float_sum, line_width, lines_of, over_all, widest_float}
 use Rattle.lay_measure.specs.MeasureInValue.{MeasureInValue}
-use Rattle.lay_measure.proofs.WidestLines.{zero_first}
+use Rattle.lay_measure.proofs.WidestLines.{from_zero}
 use Rattle.lay_flow_boxes.specs.Words.LinesAlone.{AreAsMeasured, HaveNoFloats, IsAsMeasured, IsNoFloat}
 use Rattle.lay_flow_boxes.specs.Words.LinesAlone.{IsNotNegative, NoneIsNegative, measuring_pen}
 use Rattle.lay_flow_boxes.proofs.WordsLemmas.GrowingPens.{parts_grow}
@@ -193,16 +193,12 @@ shown_within m by c begins fr start line p (s ∷ ss) (suc (suc k)) are free mor
 pub fresh_line : (tab : ℤ) (start : Length) → IsLine tab start [] (blank start.0)
 fresh_line tab start = record { comes = refl; no_floats = refl; order = equal_below start.0 start.0 refl }
 
--- What is behind a break is no wider.
-pub wide_as_zero : (how : Breaking) (tab : ℤ) (start : Length) (ls : List (List LinePart)) → pos 0 ≤ℤ widest how tab start ls
-wide_as_zero how tab start ls = at_least_zero _ (zero_first how tab start ls)
-
 pub nothing_left : (how : Breaking) (tab : ℤ) (start : Length) (line : List LinePart) (by : MeasureInValue) (ss : List Segment)
     → width_with how tab no_length [] by [] ≤ℤ width_with how tab start line by ss
 nothing_left breaking.WhereAllowed tab start line by ss =
-    wide_as_zero breaking.WhereAllowed tab start (lines_of breaking.WhereAllowed line (line_parts by ss))
+    from_zero breaking.WhereAllowed tab start (lines_of breaking.WhereAllowed line (line_parts by ss))
 nothing_left breaking.WhereForced tab start line by ss =
-    wide_as_zero breaking.WhereForced tab start (lines_of breaking.WhereForced line (line_parts by ss))
+    from_zero breaking.WhereForced tab start (lines_of breaking.WhereForced line (line_parts by ss))
 
 pub left_after_break
     : (m : BoxMeasuresValue) (by : MeasureInValue) (c : Container) (begins : Bool) (tab : ℤ) (start : Length) (line : List LinePart)

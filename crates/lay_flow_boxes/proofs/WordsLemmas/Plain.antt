@@ -137,15 +137,6 @@ no_place true b c h p q = absurd (cc (p))
 no_place false true c h p q = absurd (cc (q))
 no_place false false c h p q = absurd (cc (h))
 
-pub cut_within : (text : List ℕ) (at : ℕ) → is_boundary text at ≡ true → at ≤ length text
-cut_within text at cut = by (cases_lt (length text) at)
-  where
-    by : (length text < at) ⊎ (at ≤ length text) → at ≤ length text
-    by (inl past) = absurd (no_place (at == length text) (nat_lt at (length text)) (nat_lt (slice_index text at) 128 || nat_lt 191 (slice_index text at)) cut
-        (ne_eqb at (length text) (λ e. omega (arith, e, past)))
-        (le-ltb at (length text) (omega (arith, past))))
-    by (inr not) = not
-
 -- two stretches are one
 pub joined : (text : List ℕ) (from mid to : ℕ) → from ≤ mid → mid ≤ to → to ≤ length text → is_boundary text mid ≡ true
     → IsPlain text from mid → IsPlain text mid to → IsPlain text from to

@@ -22,6 +22,7 @@ use Rattle.lay_widths.specs.FloatWidths.{SolvesFloat, available_of, float_width_
 use Rattle.lay_widths.specs.Lengths.{or_zero}
 use Rattle.lay_widths.specs.MinMax.{AtLeast, AtMost, IsBounded}
 use Rattle.lay_sizes.specs.UsedLengths.{block_of, used_limit, used_margin, used_width}
+use Rattle.lay_sizes.proofs.SizesFit.{size_is_used}
 use Rattle.lay_measure.specs.Contributions.{bounded_width, given_or, limit_of, margin_or_zero, size_or_zero}
 use Rattle.lay_flow_boxes.specs.Words.InlineEdges.{IsLengthOrAuto}
 use Rattle.lay_flow_boxes.specs.Words.ShrinkingBoxes.{IsLengthOrNone, ShrinkingBoxesTakeWhatIsMeasured}
@@ -122,9 +123,6 @@ same_width b containing minimum preferred (or_auto.Percent h) low max is le fits
 -- such a width is within the bounds of used sizes
 held_size : (v : ℤ) → IsUsedSize v → clamp_size_of v ≡ v
 held_size v is = let a = is.0 in let b = is.1 in omega (arith, ints, clamps, a, b)
-
-size_is_used : (v : ℤ) → IsUsedSize (clamp_size_of v)
-size_is_used v = (omega (arith, ints, clamps), omega (arith, ints, clamps))
 
 given_is_used : (v : LengthPercentageOrAuto) (preferred : Length) → IsUsedSize preferred.0 → IsUsedSize (given_or v preferred).0
 given_is_used or_auto.Auto preferred is = is

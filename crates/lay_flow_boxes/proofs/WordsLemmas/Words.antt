@@ -1,10 +1,11 @@
 -- Whatever goes over a text cluster by cluster, and over text by its width alone, comes as far over the gathered text.
 use Rattle.std.proofs.Common.{◌≡◌, ℕ, ◌≤◌, ℤ, ◌+ℤ◌, Bool, true, false, if◌then◌else◌, List, [], ◌∷◌, ◌++◌, length, Option, Some, None, option_to_list, refl, sym, ap, ◌∙◌, arith}
+use Rattle.lay_line_measures.proofs.CutParts.{within as cut_within}
 use Rattle.lay_units.specs.declared.records.ClusterWidth.{ClusterWidth}
 use Rattle.lay_space.specs.SegmentLaws.{StandOnBoundaries}
 use Rattle.lay_space.specs.Tokens.{next_place}
 use Rattle.lay_line_items.specs.GatheredWidths.{gathered_after, goes_on, stands_alone, with_cluster}
-use Rattle.lay_flow_boxes.proofs.WordsLemmas.Plain.{IsPlain, cut_within, joined, plain_alone}
+use Rattle.lay_flow_boxes.proofs.WordsLemmas.Plain.{IsPlain, joined, plain_alone}
 
 -- over clusters, one after another
 abbrev pub go : {P : Type 0} → (P → ClusterWidth → ℕ → P) → List ℕ → P → List ClusterWidth → P

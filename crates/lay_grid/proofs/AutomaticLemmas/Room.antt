@@ -157,7 +157,7 @@ maximums_length : (bounds : List Bound) → length (maximums_of bounds) ≡ leng
 maximums_length [] = refl
 maximums_length (bound ∷ bounds) = let h = maximums_length bounds in omega (arith, h)
 
-minimums_at : (bounds : List Bound) (i : ℕ) → i < length bounds → width_at (minimums_of bounds) i ≡ min_at bounds i
+pub minimums_at : (bounds : List Bound) (i : ℕ) → i < length bounds → width_at (minimums_of bounds) i ≡ min_at bounds i
 minimums_at [] i less = absurd (omega (arith, less))
 minimums_at (bound ∷ bounds) zero less = refl
 minimums_at (bound ∷ bounds) (suc i) less = minimums_at bounds i (omega (arith, less))

@@ -1,8 +1,7 @@
 -- The first context of a document is of its first node, which no list of edits puts another one before or takes out. So the root's context
 -- stays the first.
-use Rattle.std.proofs.Common.{◌≡◌, ◌<◌, ℕ, suc, List, All, [], ◌∷◌, length, slice_index, None, refl, ap, sym, ◌∙◌, arith}
+use Rattle.std.proofs.Common.{◌≡◌, ◌<◌, suc, List, All, [], ◌∷◌, length, slice_index, None, refl, ap, sym, ◌∙◌, arith}
 use Rattle.lay_style.specs.declared.style.Style.{Style}
-use Rattle.lay_doc.specs.declared.node.NodeId.{NodeId}
 use Rattle.lay_doc.specs.Document.{Document, IsDocument, ids_of}
 use Rattle.lay_doc.specs.Edits.{after}
 use Rattle.lay_doc.specs.declared.edit.Edit.{Edit}
@@ -15,7 +14,7 @@ use Rattle.lay_history.specs.Edits.EditLists.{after_all, first}
 use Rattle.lay_history.proofs.EditsLemmas.Lists.{lists_leave_documents, none_first}
 use Rattle.lay_shape.specs.Keys.{node_of}
 use Rattle.lay_shape.proofs.OwnNodes.{contexts_are_of_own_nodes_lem}
-use Rattle.lay_shape.proofs.ShapeLawsLemmas.FirstContexts.{first_node}
+use Rattle.lay_shape.proofs.ShapeLawsLemmas.FirstContexts.{first_node, same_node}
 use Rattle.lay_shape.proofs.ShapeLawsLemmas.FirstNodes.{first_id_stays}
 use Rattle.lay_kept_cells.proofs.StepsLemmas.FollowedRows.{RootStays}
 use Rattle.lay_kept_cells.specs.ListSteps.EditedLists.{TakesList}
@@ -27,9 +26,6 @@ first_ids_stay d (e ∷ es) is puts none =
     let both = none_first d e es none in
     first_ids_stay (after d e) es (edits_leave_documents d e is (puts 0 e (omega arith)) both.0) (λ k x lt. puts (suc k) x (omega (arith, lt))) both.1
     ∙ first_id_stays d e is.some both.0
-
-same_node : (m n : NodeId) → m.0 ≡ n.0 → m ≡ n
-same_node m n e = ap (λ (id : ℕ). record { 0 = id }) e
 
 pub root_stays : (d : Document) (edits : List Edit) (styles others : List Style) (contexts later : List Context) → TakesList d edits styles others
     → AreContextsOf d.nodes styles contexts → AreContextsOf (after_all d edits).nodes others later → RootStays contexts later

@@ -1,7 +1,7 @@
 -- Pairs and claims of a row that is changed, and of rows that are marked.
-use Rattle.std.proofs.Common.{◌≡◌, ⊎_elim, ◌<◌, ◌≤◌, ℕ, List, length, slice_get, slice_set, Option, Some, None, IsNone, option_map, refl, arith, ap, sym, subst, ◌∙◌}
+use Rattle.std.proofs.Common.{◌≡◌, ⊎_elim, ◌<◌, ◌≤◌, ℕ, List, length, slice_get, slice_set, Option, Some, None, IsNone, option_map, arith, ap, sym, subst, ◌∙◌}
 use Rattle.std.proofs.lemmas.Option.{same_Some}
-use Rattle.lay_cells.specs.Marks.{Marks, Reached, marked, staled}
+use Rattle.lay_cells.specs.Marks.{Marks, Reached, marked}
 use Rattle.lay_cells.specs.Places.{AtPlace}
 use Rattle.lay_cells.specs.Reads.{AllClean}
 use Rattle.lay_cells.specs.Rows.{Solved}
@@ -16,6 +16,7 @@ use Rattle.lay_cells.specs.declared.answers.Released.TheVariants as released
 use Rattle.lay_cells.specs.declared.cell.Open.{Open}
 use Rattle.lay_cells.proofs.Lists.{set_cases}
 use Rattle.lay_cells.proofs.Marked.{beside}
+use Rattle.lay_cells.proofs.Reaching.{number_stale}
 use Rattle.lay_shape.specs.declared.cell_key.CellKey.{CellKey}
 use Rattle.lay_cell_work.specs.CellInputs.{CellInput}
 use Rattle.lay_cell_work.specs.CellLocal.{IsCellLocal}
@@ -33,10 +34,6 @@ open_none (Some c) n e f = absurd cc
 none_open : (o : Option Open) (n : ℕ) → IsNone o → option_map (λ (c : Open). c.number) o ≡ Some n → ⊥
 none_open None n e f = absurd cc
 none_open (Some c) n e f = absurd cc
-
-staled_number : (o : Option Open) → option_map (λ (c : Open). c.number) (staled o) ≡ option_map (λ (c : Open). c.number) o
-staled_number None = refl
-staled_number (Some c) = refl
 
 -- r became q: a pair with a number up to this is the one that was kept, and an open claim has a greater number
 record IsStill (number : ℕ) (r q : CellRow) : Type 0 where
@@ -131,7 +128,7 @@ module _ (number : ℕ) (settled rows : List CellRow) (keep : KeepSince number s
         ⊎_elim
         (λ (h : Reached rows keys r.0.key × (z ≡ marked r.0)).
         let e = h.1 in
-        (r.0, r.1, ap (λ (x : CellRow). x.kept) e, ap (λ (x : CellRow). option_map (λ (c : Open). c.number) x.claim) e ∙ staled_number r.0.claim))
+        (r.0, r.1, ap (λ (x : CellRow). x.kept) e, ap (λ (x : CellRow). option_map (λ (c : Open). c.number) x.claim) e ∙ number_stale r.0.claim))
         (λ (h : (Reached rows keys r.0.key → ⊥) × (z ≡ r.0)).
         (r.0, r.1, ap (λ (x : CellRow). x.kept) h.1, ap (λ (x : CellRow). option_map (λ (c : Open). c.number) x.claim) h.1))
         (marks.each place r.0 z r.1 at)

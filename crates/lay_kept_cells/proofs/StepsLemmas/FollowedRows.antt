@@ -7,7 +7,7 @@ use Rattle.lay_style.specs.declared.style.Style.{Style}
 use Rattle.lay_style.specs.ComputedStyle.{HasStyles}
 use Rattle.lay_doc.specs.declared.node.NodeId.{NodeId}
 use Rattle.lay_doc.specs.Document.{Document, IsDocument, declarations_of, parents_of}
-use Rattle.lay_boxgen.proofs.NodeColumns.{length-parents}
+use Rattle.lay_doc.proofs.NodeColumns.{length-parents}
 use Rattle.lay_face.specs.FaceValue.{FaceValue}
 use Rattle.lay_cells.specs.Looks.{AreClean, IsClean}
 use Rattle.lay_cells.specs.Marks.{Reached, listed}

@@ -1,7 +1,7 @@
 -- Cells that are made anew are none of them clean, and have no claims.
 use Rattle.std.proofs.Common.{⊎_elim, [], sym, ◌∙◌}
 use Rattle.std.proofs.lemmas.Bool.{false≢true}
-use Rattle.lay_boxgen.proofs.NodeColumns.{length-parents}
+use Rattle.lay_doc.proofs.NodeColumns.{length-parents}
 use Rattle.lay_cells.specs.Shapes.{IsIn}
 use Rattle.lay_contexts.proofs.ContextNumbers.{are_contexts}
 use Rattle.lay_shape.specs.Shapes.{shape_of}

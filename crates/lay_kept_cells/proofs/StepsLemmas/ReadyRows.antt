@@ -1,7 +1,6 @@
 -- What a clean cell keeps is right beside what it would be given now, so its sizes are of the boxes of its context; and all that a cell
 -- that is ready depends on is clean.
-use Rattle.std.proofs.Common.{◌≡◌, ⊎_elim, inl, inr, ◌<◌, ◌≤◌, ◌+◌, ◌-◌, ℕ, suc, List, length, slice_get, Option, None, Some, option_map, refl, ap, sym, subst, ◌∙◌, arith}
-use Rattle.std.proofs.lemmas.Bool.{cases_lt}
+use Rattle.std.proofs.Common.{◌≡◌, ⊎_elim, inl, inr, ◌<◌, ◌+◌, ◌-◌, ℕ, suc, List, length, slice_get, Option, None, Some, option_map, refl, ap, sym, subst, ◌∙◌, arith}
 use Rattle.std.proofs.lemmas.List.FromFn.{get_or-map-range_with_len, length-map-range_with_len}
 use Rattle.std.proofs.lemmas.Option.{slice_get-get_or}
 use Rattle.lay_doc.specs.Document.{Document}
@@ -51,6 +50,7 @@ use Rattle.lay_cell_work.proofs.CellLawsLemmas.CleanCells.{all_done, kept_right}
 use Rattle.lay_cell_work.proofs.CellLawsLemmas.EndToEnd.{counted as values_counted}
 use Rattle.lay_cell_work.proofs.CellLawsLemmas.RootsOfContexts.{AreCalm, IsOf, number_is_of, own_number}
 use Rattle.lay_cell_work.proofs.CellLawsLemmas.WholeInputs.{sizes_at}
+use Rattle.lay_cell_work.proofs.CellLawsLemmas.FittingInputs.{same_context}
 use Rattle.lay_kept_cells.specs.Steps.ReadyCells.{AssembledTreesSolve, CleanCellsAreKnown, KeptValuesAreCounted, ReadyToInput}
 use Rattle.lay_kept_cells.proofs.StepsLemmas.ChangedRow.{apart, counted, in_order}
 use Rattle.lay_kept_cells.proofs.StepsLemmas.RowsOfContexts.{needs_are, value_is}
@@ -109,21 +109,6 @@ module _ (below : GridsAreOfBoxes) (medium : Medium) (contexts : List Context) (
       ∙ ap Some (get_or-map-range_with_len f 0 (root_count contexts c) r r (f 0) low (omega arith) ∙ ap (λ (i : ℕ). root_input medium all w first i phase.Size) e) in
       let local : IsLocal (whole_input roots v x) (value.Size (sizes_in (own_sizes v) r)) = subst (λ (y : Value). IsLocal (whole_input roots v x) y) (size_part v r right.phase) (right.each r x there) in
       sizes_are_of_boxes below _ (sizes_in (own_sizes v) r) local.0 local.1
-
--- a formatting context is of one context
-one_context : (contexts : List Context) (c e m : ℕ) → IsOf contexts c m → IsOf contexts e m → c ≡ e
-one_context contexts c e m a b =
-    let low = a.from in
-    let high = a.until in
-    let low_b = b.from in
-    let high_b = b.until in
-    ⊎_elim
-    (λ (lt : c < e). absurd (let up = first_le contexts (suc c) e (omega (arith, lt)) in omega (arith, up, high, low_b)))
-    (λ (ge : e ≤ c). ⊎_elim
-    (λ (lt : e < c). absurd (let up = first_le contexts (suc e) c (omega (arith, lt)) in omega (arith, up, high_b, low)))
-    (λ (le : c ≤ e). omega (arith, ge, le))
-    (cases_lt e c))
-    (cases_lt c e)
 
 -- the sizes that a task of sizes needs are of a formatting context before it
 size_needs_lower : (all : List FormattingContext) → AreFormattingContexts all → (p : Phase) (m j : ℕ) → m < length all → p ≡ phase.Size
@@ -200,7 +185,7 @@ module _ (d : Document) (face : FaceValue) (contexts : List Context) (all : List
       counts = kept_values_are_counted_lem contexts all s.rows cells.are_formatting_contexts;
       sized = λ j needs.
           (let n = root_of contexts all (in_order d face contexts all s cells) cells.are_formatting_contexts M within in
-          let same : n.context ≡ c = one_context contexts n.context c M (own_number contexts all (in_order d face contexts all s cells) cells.are_formatting_contexts M n) here in
+          let same : n.context ≡ c = same_context contexts n.context c M (own_number contexts all (in_order d face contexts all s cells) cells.are_formatting_contexts M n) here in
           let numbered = subst (λ (m : ℕ). Needs all (record { context = m; phase = p }) (record { context = j; phase = phase.Size })) (sym n.number) needs in
           let of = shaped d cells.styles contexts all n.context n.place p (record { context = j; phase = phase.Size }) cells.is_document (counted d face contexts all s cells) cells.are_contexts
           cells.are_formatting_contexts n.before n.inside n.root numbered in

@@ -4,7 +4,7 @@ use Rattle.std.specs.List.{insert}
 use Rattle.std.proofs.lemmas.Bool.{cases_lt, cases_eq, eq-eqb, ne_eqb}
 use Rattle.std.proofs.lemmas.Grind.{elements}
 use Rattle.std.proofs.lemmas.List.{get_or-map, get_or-set_same, get_or-set_other, length-set, length-append, map-append, length-map}
-use Rattle.std.proofs.lemmas.List.Edits.{length-insert, get_or-insert_below, get_or-insert_at, get_or-insert_above}
+use Rattle.std.proofs.lemmas.List.Edits.{length-insert, get_or-insert_at}
 use Rattle.lay_style.specs.Places.{place_of}
 use Rattle.lay_style.proofs.Places.{place_here, place_later, map_some}
 use Rattle.lay_doc.specs.declared.node.Node.{Node}
@@ -16,7 +16,7 @@ use Rattle.lay_doc.specs.Document.{Document, IsDocument, parents_of, ids_of, dep
 use Rattle.lay_doc.specs.Edits.{insert_fault, after_insert, last_index}
 use Rattle.lay_doc.proofs.EditedDocuments.{edits_leave_documents}
 use Rattle.lay_doc.proofs.Indexed.{place_insert_here, place_insert_other}
-use Rattle.lay_doc.proofs.Inserted.{ids_inserted, text_size_inserted}
+use Rattle.lay_doc.proofs.Inserted.{ids_inserted, text_size_inserted, moved_read}
 use Rattle.lay_doc.proofs.NodeColumns.{length-parents, length-ids}
 use Rattle.lay_doc.proofs.PutTrees.{shifted_low, shifted_high}
 use Rattle.lay_doc.proofs.Slots.{slot_is}
@@ -33,7 +33,7 @@ use Rattle.lay_run.proofs.GatheredLemmas.Faults.{item_at}
 use Rattle.lay_run.proofs.GatheredLemmas.Ends.{Linked, Ends, ends}
 
 -- the number that has a place among ids is the one that stands there
-place_is : (n : ℕ) (xs : List ℕ) (k : ℕ) → place_of n xs ≡ Some k → get_or xs k 0 ≡ n
+pub place_is : (n : ℕ) (xs : List ℕ) (k : ℕ) → place_of n xs ≡ Some k → get_or xs k 0 ≡ n
 place_is n [] k e = absurd cc
 place_is n (x ∷ xs) k e = elim (cases_eq x n) [
   | inl same ↦ (let h = sym (place_here n x xs same) ∙ e in let z : k ≡ 0 = cc in ap (λ (m : ℕ). get_or (x ∷ xs) m 0) z ∙ same)
@@ -68,13 +68,6 @@ child_old lasts u i lt other = get_or-set_other (lasts ++ length lasts ∷ []) u
 
 child_new : (lasts : List ℕ) (u i : ℕ) → u < length lasts → i ≡ length lasts → get_or (with_child lasts u) i 0 ≡ length lasts
 child_new lasts u i lt is = get_or-set_other (lasts ++ length lasts ∷ []) u i (length lasts) 0 (λ e. omega arith) ∙ push_new lasts (length lasts) 0 i is
-
--- what stood at a place stands at the place that it was moved to
-moved_read : {X : Type 0} (xs : List X) (at : ℕ) (x d : X) (u : ℕ) → at ≤ length xs → get_or (insert xs at x) (shifted at u) d ≡ get_or xs u d
-moved_read xs at x d u within = elim (cases_lt u at) [
-  | inl low ↦ ap (λ (m : ℕ). get_or (insert xs at x) m d) (shifted_low at u low) ∙ get_or-insert_below xs at x d u low within
-  | inr high ↦ ap (λ (m : ℕ). get_or (insert xs at x) m d) (shifted_high at u high) ∙ get_or-insert_above xs at x d u high within
-]
 
 -- the trees by place and by number
 linked : (d : Document) (l : Listing) → (g : IsGathered d l) → Linked (parents_of d.nodes) g.stands.places (ups_of l.items.items) l.lasts.items

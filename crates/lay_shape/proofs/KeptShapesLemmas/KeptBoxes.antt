@@ -1,9 +1,9 @@
 -- Of which contexts the boxes stay, one context after another.
-use Rattle.std.proofs.Common.{◌≡◌, ◌↔◌, inl, inr, ℕ, ◌+◌, ◌<◌, Bool, false, List, [], ◌∷◌, ◌++◌, length, ap, sym, ◌∙◌, arith, slice_index_or}
+use Rattle.std.proofs.Common.{◌≡◌, ◌↔◌, inl, inr, ℕ, ◌+◌, Bool, false, List, [], ◌∷◌, ◌++◌, ap, sym, ◌∙◌, arith, slice_index_or}
 use Rattle.std.proofs.lemmas.Bool.{cases_lt}
 use Rattle.std.proofs.lemmas.Grind.{elements}
 use Rattle.lay_contexts.specs.Contexts.{Context, boxes_in}
-use Rattle.lay_after_edits.specs.Contexts.Links.{is_made}
+use Rattle.lay_after_edits.proofs.ContextsLemmas.Flags.{flag-before, flag-last}
 use Rattle.lay_shape.specs.KeptShapes.KeptBoxes.{AreBoxFlags, AreBoxFlagsTo, AreOfSameNodes, KeepBoxes, RestyledKeepCells}
 use Rattle.lay_shape.proofs.KeptShapesLemmas.SameLinks.{same-node}
 use Rattle.lay_shape.proofs.KeptShapesLemmas.SameShape.{shapes_stay}
@@ -17,12 +17,6 @@ restyled-keep-cells contexts later made are = record {
   };
   shape = shapes_stay contexts later made are;
 }
-
-flag-before : (flags : List Bool) (b : Bool) (i : ℕ) → i < length flags → is_made (flags ++ b ∷ []) i ≡ is_made flags i
-flag-before flags b i lt = grind (arith, elements)
-
-flag-last : (flags : List Bool) (b : Bool) (i : ℕ) → i ≡ length flags → is_made (flags ++ b ∷ []) i ≡ b
-flag-last flags b i e = grind (arith, elements)
 
 -- one more
 pub one-more-flag : (contexts later : List Context) (flags : List Bool) (b : Bool) (n : ℕ) → AreBoxFlagsTo contexts later flags n

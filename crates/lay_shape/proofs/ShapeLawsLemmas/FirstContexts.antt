@@ -68,7 +68,7 @@ module _ (d : Document) (styles : List Style) (doc : IsDocument d) (same : lengt
       let root : place ≡ 0 = ap (λ (s : ContextSpot). s.place) of.are.root in
       ap (λ (bs : List BoxNode). (own_at bs 0).node.0) boxes ∙ of_place place (of.are.are 0 there) (box_at d.nodes styles place) refl ∙ ap (slice_index (ids_of d.nodes)) root
 
-same_node : (m n : NodeId) → m.0 ≡ n.0 → m ≡ n
+pub same_node : (m n : NodeId) → m.0 ≡ n.0 → m ≡ n
 same_node m n e = ap (λ (id : ℕ). record { 0 = id }) e
 
 pub root_stays_first_lem : RootStaysFirst

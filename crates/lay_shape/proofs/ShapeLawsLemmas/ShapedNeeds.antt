@@ -23,6 +23,7 @@ use Rattle.lay_contexts.proofs.ContextFacts.{home_root, home_there, is_behind, s
 use Rattle.lay_contexts.proofs.ContextNumbers.{are_contexts}
 use Rattle.lay_contexts.proofs.FlowAround.{anonymous_in_flow}
 use Rattle.lay_contexts.proofs.NotedAround.{contexts_are_noted}
+use Rattle.lay_contexts.proofs.StandingAnchors.{flow_of}
 use Rattle.lay_positioned.specs.Absolute.{is_absolute as is_absolute_among, is_absolute_flow, is_fixed as is_fixed_among, is_own_absolute, is_own_fixed}
 use Rattle.lay_shape.specs.Dependencies.{in_phase, inner_flows, is_inner_flow, needs_in, on_way, outer_needs, way_needs}
 use Rattle.lay_shape.specs.Ways.{IsOnWay, is_absolute, is_fixed, way_of}
@@ -31,17 +32,12 @@ use Rattle.lay_shape.proofs.WaySteps.{on_way_in}
 use Rattle.lay_shape.specs.ShapeLaws.NeedLaws.{IsShapedNeed, NeedsAreShaped}
 use Rattle.lay_shape.proofs.ShapeLawsLemmas.WayContexts.{way_contexts}
 
-flow_of : (boxes : List BoxNode) (k : ℕ) → flow_at boxes k ≡ (box_at boxes k).flow
-flow_of [] k = refl
-flow_of (b ∷ bs) zero = refl
-flow_of (b ∷ bs) (suc k) = flow_of bs k
-
 -- an anonymous root is anonymous
 anonymous_by : (anonymous inner kind : Bool) → (anonymous && not inner && kind) ≡ true → anonymous ≡ true
 anonymous_by true inner kind e = refl
 anonymous_by false inner kind e = absurd cc
 
-root_anonymous : (boxes : List BoxNode) (k : ℕ) → slice_index_or (box_roots boxes) k false ≡ true → is_anonymous boxes k ≡ true
+pub root_anonymous : (boxes : List BoxNode) (k : ℕ) → slice_index_or (box_roots boxes) k false ≡ true → is_anonymous boxes k ≡ true
 root_anonymous [] k e = absurd cc
 root_anonymous (b ∷ bs) zero e = anonymous_by b.anonymous b.inner (is_wrapper_or_cell b.kind) e
 root_anonymous (b ∷ bs) (suc k) e = root_anonymous bs k e

@@ -19,7 +19,7 @@ use Rattle.lay_positioned.specs.Holders.{IsHolderFor, IsNearestHolder, further, 
 use Rattle.lay_positioned.specs.Ways.{IsOnWayFrom as IsOnWayAmong, here as here_among, further as further_among}
 use Rattle.lay_shape.specs.Ways.{IsOnWayFrom, here as on_here, further as on_further}
 
-holder_of : (boxes : List BoxNode) (k : ℕ) → is_holder_at boxes k ≡ is_holder (box_at boxes k)
+pub holder_of : (boxes : List BoxNode) (k : ℕ) → is_holder_at boxes k ≡ is_holder (box_at boxes k)
 holder_of [] k = refl
 holder_of (b ∷ bs) zero = refl
 holder_of (b ∷ bs) (suc k) = holder_of bs k

@@ -1,7 +1,7 @@
 use Rattle.std.proofs.Common.{rules, ◌≡◌, ◌<◌, IsTrue, false, length, slice_index, arith, subst, sym}
 use Rattle.lay_doc.specs.Document.{parents_of}
+use Rattle.lay_doc.proofs.NodeColumns.{length-parents}
 use Rattle.lay_boxgen.specs.Contexts.{box_at, has_box, keeps, below}
-use Rattle.lay_boxgen.proofs.NodeColumns.{length-parents}
 use Rattle.lay_boxgen.proofs.Above.{kept_by, parent_generates, root_has, from_root}
 use Rattle.lay_boxgen.proofs.contexts.generates_box.Goals as goal
 

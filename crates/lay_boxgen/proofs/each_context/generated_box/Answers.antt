@@ -1,8 +1,8 @@
 use Rattle.std.proofs.Common.{◌≡◌, ◌<◌, None, true, false, arith, length, slice_index, slice_index_or, sym, ◌∙◌}
 use Rattle.lay_doc.specs.Document.{parents_of}
+use Rattle.lay_doc.proofs.NodeColumns.{length-parents}
 use Rattle.lay_boxgen.specs.Contexts.{keeps}
 use Rattle.lay_boxgen.specs.GeneratedBoxes.{IsGenerated}
-use Rattle.lay_boxgen.proofs.NodeColumns.{length-parents}
 use Rattle.lay_boxgen.proofs.ContextFlags.{kept_box, lost_box, root_box}
 use Rattle.lay_boxgen.proofs.each_context.generated_box.Goals as goal
 

@@ -1,6 +1,7 @@
 use Rattle.std.proofs.Common.{arith}
 use Rattle.std.proofs.lemmas.Grind.{elements}
-use Rattle.lay_context.proofs.CornerSteps.{one_more, one_more_near}
+use Rattle.lay_placements.proofs.CornerColumns.{one_more_near}
+use Rattle.lay_context.proofs.CornerSteps.{one_more}
 use Rattle.lay_context.proofs.page_corners.page_corners.Goals as goal
 
 pub loop-i-preserved : goal.loop-i-preserved

@@ -1,5 +1,5 @@
-use Rattle.lay_sizes.proofs.SizesFit.{height_is_used}
-use Rattle.lay_table_sizes.proofs.SizeSteps.{content_is_used, zero_is_used, zero_is_used_size}
+use Rattle.lay_sizes.proofs.SizesFit.{height_is_used, zero_is_size}
+use Rattle.lay_table_sizes.proofs.SizeSteps.{content_is_used, zero_is_used}
 use Rattle.lay_table_sizes.proofs.cell_boxes.cell_sizes.Goals as goal
 
 pub returns-clause-fits : goal.returns-clause-fits
@@ -16,5 +16,5 @@ returns-clause-fits c =
       margin_top = zero_is_used;
       margin_bottom = zero_is_used;
       height = let e = c.used_height.ensures.value in rw e (height_is_used c.args.containing.height c.args.style.now.sizing.height);
-      min_height = zero_is_used_size;
+      min_height = zero_is_size;
     }

@@ -1,5 +1,5 @@
-use Rattle.lay_sizes.proofs.SizesFit.{vertical_margin_is_used}
-use Rattle.lay_table_sizes.proofs.SizeSteps.{widths_fit, zero_is_inset, zero_is_used_size}
+use Rattle.lay_sizes.proofs.SizesFit.{vertical_margin_is_used, zero_is_size}
+use Rattle.lay_table_sizes.proofs.SizeSteps.{widths_fit, zero_is_inset}
 use Rattle.lay_table_sizes.proofs.wrapper.wrapper_sizes.Goals as goal
 
 pub returns-clause-fits : goal.returns-clause-fits
@@ -16,5 +16,5 @@ returns-clause-fits c =
       margin_top = let e = c.used_vertical_margin.ensures in rw e (vertical_margin_is_used c.args.containing.width c.args.style.now.margin.top);
       margin_bottom = let e = c.used_vertical_margin-2.ensures in rw e (vertical_margin_is_used c.args.containing.width c.args.style.now.margin.bottom);
       height = tt;
-      min_height = zero_is_used_size;
+      min_height = zero_is_size;
     }
