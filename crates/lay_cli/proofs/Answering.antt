@@ -8,7 +8,8 @@ use Rattle.lay_json.proofs.StyledLemmas.OneStyledReading.{styled_too_long}
 use Rattle.lay_cli.specs.declared.run_input.Input.{Input}
 use Rattle.lay_cli.specs.declared.run_input.Input.TheVariants.{Run as a_run, Refusal}
 use Rattle.lay_cli.specs.Answers.{IsFaultInput, IsInput}
-use Rattle.lay_cli.specs.Input.{IsDrained, IsReadOut}
+use Rattle.lay_cli.specs.Input.{IsReadOut}
+use Rattle.lay_outside.specs.Outside.{IsDrained}
 
 -- what a fault gives, the bytes give that have it
 pub input_of_fault : (bytes : List ℕ) (fault : InputFault) (result : Result Input NoMemory) → (fault ≢ ran_out → IsStyledReading bytes (Err fault)) → IfOk result (IsFaultInput fault) → IfOk result (IsInput bytes)

@@ -31,7 +31,7 @@ use Rattle.lay_hit.specs.HitLines.{hit_line}
 use Rattle.lay_audit.specs.Check.Judging.{SpellCheck}
 use Rattle.lay_cli.specs.Checks.{IsCheckRefusal, IsVerdictReport}
 use Rattle.lay_cli.specs.Hits.{IsSeen, point_at}
-use Rattle.lay_cli.specs.Input.{IsDrained}
+use Rattle.lay_outside.specs.Outside.{IsDrained}
 use Rattle.lay_cli.specs.Refusals.{fault_line}
 use Rattle.lay_cli.specs.Summaries.{IsOnlySummary}
 use Rattle.lay_cli.specs.declared.run_input.Input.{Input}

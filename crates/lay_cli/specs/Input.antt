@@ -8,10 +8,6 @@ use Rattle.lay_cli.specs.declared.input.SourceFault.TheVariants.{TooLong, Failed
 abbrev pub WasAll : Option (List ℕ) → List ℕ → Type 0
 WasAll left bytes = IfSome left (λ all. all ≡ bytes)
 
--- where bytes were told, none is left
-abbrev pub IsDrained : Option (List ℕ) → Option (List ℕ) → Type 0
-IsDrained left now = IfSome left (λ all. now ≡ Some [])
-
 -- where bytes were told, none is left, or there were more than 16,777,216
 abbrev pub IsReadOut : Option (List ℕ) → Option (List ℕ) → Type 0
 IsReadOut left now = IfSome left (λ bytes. (now ≡ Some []) ⊎ (16777216 < length bytes))

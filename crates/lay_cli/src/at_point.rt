@@ -1,12 +1,12 @@
 //! The answer to `hit`.
 
 ghost use Rattle.std.specs.Prelude.{◌≡◌, ◌≢◌, IfOk, None};
-ghost use Rattle.lay_outside.specs.Outside.{Rose};
+ghost use Rattle.lay_outside.specs.Outside.{Rose, IsDrained};
 ghost use Rattle.lay_words.specs.declared.form.Form.TheVariants as form;
 ghost use Rattle.lay_cli.specs.Answers.{Refuses, Reports};
 ghost use Rattle.lay_cli.specs.Endings.{Ends};
 ghost use Rattle.lay_cli.specs.Hits.{IsHitReport, IsSeen, point_at};
-ghost use Rattle.lay_cli.specs.Input.{IsDrained, IsReadOut};
+ghost use Rattle.lay_cli.specs.Input.{IsReadOut};
 
 use crate::run_input::{Input, Lack, run_input};
 use crate::status::Status;

@@ -1,12 +1,12 @@
 //! The answer to `check`.
 
 ghost use Rattle.std.specs.Prelude.{◌≡◌, ◌≢◌, None};
-ghost use Rattle.lay_outside.specs.Outside.{Rose};
+ghost use Rattle.lay_outside.specs.Outside.{Rose, IsDrained};
 ghost use Rattle.lay_words.specs.declared.form.Form.TheVariants as form;
 ghost use Rattle.lay_audit.specs.Check.Judging.{IsVerdictOn};
 ghost use Rattle.lay_cli.specs.Answers.{Refuses, Reports};
 ghost use Rattle.lay_cli.specs.Endings.{Ends};
-ghost use Rattle.lay_cli.specs.Input.{IsDrained, IsReadOut};
+ghost use Rattle.lay_cli.specs.Input.{IsReadOut};
 
 use crate::check_input::{CheckInput, check_input};
 use crate::run_input::Lack;

@@ -2,11 +2,11 @@
 
 ghost use Rattle.std.specs.Prelude.{◌≡◌, ◌≢◌, ◌<◌, ◌≤◌, ◌^◌, IfOk, None};
 ghost use Rattle.lay_history.specs.Legal.{IsWhole};
-ghost use Rattle.lay_outside.specs.Outside.{Rose};
+ghost use Rattle.lay_outside.specs.Outside.{Rose, IsDrained};
 ghost use Rattle.lay_words.specs.declared.form.Form.TheVariants as form;
 ghost use Rattle.lay_cli.specs.Answers.{IsRunReport, IsSummary, IsSummaryOf, OfKept, Refuses, Reports};
 ghost use Rattle.lay_cli.specs.Endings.{Ends};
-ghost use Rattle.lay_cli.specs.Input.{IsDrained, IsReadOut};
+ghost use Rattle.lay_cli.specs.Input.{IsReadOut};
 
 use crate::laws::summaries_come_of_numbers;
 use crate::means::Means;

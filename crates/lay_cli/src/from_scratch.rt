@@ -1,11 +1,11 @@
 //! The answer to `scratch`.
 
 ghost use Rattle.std.specs.Prelude.{◌≡◌, ◌≢◌, None};
-ghost use Rattle.lay_outside.specs.Outside.{Rose};
+ghost use Rattle.lay_outside.specs.Outside.{Rose, IsDrained};
 ghost use Rattle.lay_words.specs.declared.form.Form.TheVariants as form;
 ghost use Rattle.lay_cli.specs.Answers.{IsScratchReport, Refuses, Reports};
 ghost use Rattle.lay_cli.specs.Endings.{Ends};
-ghost use Rattle.lay_cli.specs.Input.{IsDrained, IsReadOut};
+ghost use Rattle.lay_cli.specs.Input.{IsReadOut};
 
 use crate::run_input::{Input, Lack, run_input};
 use crate::status::Status;

@@ -1,7 +1,8 @@
 //! Reading a source to its end.
 
 ghost use Rattle.std.specs.Prelude.{◌≡◌, ◌<◌, ◌≤◌, ◌++◌, length, IfOk, OnOk, IfErr};
-ghost use Rattle.lay_cli.specs.Input.{WasAll, IsDrained, IsCause};
+ghost use Rattle.lay_cli.specs.Input.{WasAll, IsCause};
+ghost use Rattle.lay_outside.specs.Outside.{IsDrained};
 
 use lay_outside::Source;
 use std::alloc::Global;

@@ -1,9 +1,9 @@
 //! The run that a source's bytes spell.
 
 ghost use Rattle.std.specs.Prelude.{◌≡◌, IfOk, IfErr, IfSome, OnOk};
-ghost use Rattle.lay_outside.specs.Outside.{Rose};
+ghost use Rattle.lay_outside.specs.Outside.{Rose, IsDrained};
 ghost use Rattle.lay_cli.specs.Answers.{IsFaultInput, IsInput, IsRun};
-ghost use Rattle.lay_cli.specs.Input.{IsDrained, IsReadOut};
+ghost use Rattle.lay_cli.specs.Input.{IsReadOut};
 
 use crate::input::{SourceFault, read_all};
 use crate::refusal::fault_line;

@@ -7,7 +7,8 @@ use Rattle.lay_shape.specs.declared.cell_key.CellKey.{CellKey}
 use Rattle.lay_cell_work.specs.CellInputs.{CellInput}
 use Rattle.lay_document_cells.specs.Settling.{GivesUp, Settles, SettlesFirst, SettlesTo, StopsAt, computed, granted, next, none, reused, taken, unclaimed}
 use Rattle.lay_document_cells.specs.State.{State as DocumentCells}
-use Rattle.lay_document_cells.specs.Steps.{CellDone, ClaimsTo, FinishesTo, GivesBackTo, Step, Works, claim, finish, give_back, none as no_step, step}
+use Rattle.lay_document_cells.specs.Steps.{ClaimsTo, FinishesTo, GivesBackTo, Step, Works, claim, finish, give_back, none as no_step, step}
+use Rattle.lay_cell_work.specs.ClaimLists.Outcomes.{Work}
 
 pub record IsWork (s t : DocumentCells) : Type 0 where
   pub document : t.document ≡ s.document
@@ -35,7 +36,7 @@ claim_work s key input a t does = record {
   laid = let e = ap (λ x. x.laid) does.state in omega (arith, e);
 }
 
-pub finish_work : (s : DocumentCells) (d : CellDone) (a : Finished) (t : DocumentCells) → FinishesTo s d a t → IsWork s t
+pub finish_work : (s : DocumentCells) (d : Work) (a : Finished) (t : DocumentCells) → FinishesTo s d a t → IsWork s t
 finish_work s d a t does = record {
   document = ap (λ x. x.document) does.state;
   face = ap (λ x. x.face) does.state;

@@ -8,7 +8,8 @@ use Rattle.lay_document_cells.specs.Claims.{AnswersClaim as CellsAnswerClaim, An
 use Rattle.lay_document_cells.specs.Outcomes.{FinishesAll as CellsFinishAll}
 use Rattle.lay_document_cells.specs.Settling.{SettlesTo as CellsSettleTo, StopsAt as CellsStopAt}
 use Rattle.lay_document_cells.specs.State.{IsOfDocument, State as DocumentCells}
-use Rattle.lay_document_cells.specs.Steps.{CellDone, FinishesTo as CellsFinishTo, GivesBackTo as CellsGiveBackTo}
+use Rattle.lay_document_cells.specs.Steps.{FinishesTo as CellsFinishTo, GivesBackTo as CellsGiveBackTo}
+use Rattle.lay_cell_work.specs.ClaimLists.Outcomes.{Work}
 use Rattle.lay_core.specs.CellLaws.{BatchesAreUnseen, ClaimsAreUnseen, FinishesAreUnseen, GiveBacksAreUnseen, KeepsHistory, NextClaimsAreUnseen, OutcomesAreUnseen, SettlingIsUnseen, StoppingIsUnseen}
 use Rattle.lay_core.specs.Claims.{DrawsFew}
 use Rattle.lay_core.specs.State.{HasNumbers, IsKept, State, document_cells, with_cells}
@@ -27,7 +28,7 @@ pub leaves : (s : State) (n room : ℕ) → IsKept s n room → HasNumbers s →
     → CellsDrawFew (document_cells s) d → IsOfDocument d → IsKept (with_cells s d) n room × HasNumbers (with_cells s d)
 leaves s n room is has d work draws sound = (work_keeps s d n room is work sound, numbers_left s n room d is has draws)
 
-pub finish_draws : (s : DocumentCells) (d : CellDone) (a : Finished) (t : DocumentCells) → CellsFinishTo s d a t → t.cells.draws ≡ s.cells.draws
+pub finish_draws : (s : DocumentCells) (d : Work) (a : Finished) (t : DocumentCells) → CellsFinishTo s d a t → t.cells.draws ≡ s.cells.draws
 finish_draws s d a t does = ap (λ x. x.cells.draws) does.state ∙ elim does.finishes [
   | inl gone ↦ ap (λ x. x.draws) gone.2
   | inr done ↦ ap (λ x. x.draws) done.5

@@ -9,7 +9,8 @@ use Rattle.lay_shape.specs.declared.cell_key.CellKey.{CellKey}
 use Rattle.lay_cell_work.specs.Claims.{Claim}
 use Rattle.lay_cell_work.specs.declared.claim_lists.outcome.Outcome.{Outcome}
 use Rattle.lay_document_cells.specs.Outcomes.{Tally}
-use Rattle.lay_document_cells.specs.Steps.{CellDone, Works}
+use Rattle.lay_document_cells.specs.Steps.{Works}
+use Rattle.lay_cell_work.specs.ClaimLists.Outcomes.{Work}
 use Rattle.lay_document_cells.specs.declared.answers.Answer.{Answer}
 use Rattle.lay_document_cells.specs.declared.answers.Next.{Next}
 use Rattle.lay_document_cells.specs.declared.idle.IdleKind.{IdleKind}
@@ -49,7 +50,7 @@ abbrev pub NextClaimsAreWork : Type 0
 NextClaimsAreWork = (next : Next) → IsWork (λ s t. AnswersNext s next t)
 
 abbrev pub FinishesAreWork : Type 0
-FinishesAreWork = (done : CellDone) (answer : Finished) → IsWork (λ s t. FinishesTo s done answer t)
+FinishesAreWork = (done : Work) (answer : Finished) → IsWork (λ s t. FinishesTo s done answer t)
 
 abbrev pub GiveBacksAreWork : Type 0
 GiveBacksAreWork = (key : CellKey) (number : ℕ) (answer : Released) → IsWork (λ s t. GivesBackTo s key number answer t)
@@ -87,7 +88,7 @@ abbrev pub NextClaimsAreUnseen : Type 0
 NextClaimsAreUnseen = (next : Next) → IsUnseen (λ s t. AnswersNext s next t)
 
 abbrev pub FinishesAreUnseen : Type 0
-FinishesAreUnseen = (done : CellDone) (answer : Finished) → IsUnseen (λ s t. FinishesTo s done answer t)
+FinishesAreUnseen = (done : Work) (answer : Finished) → IsUnseen (λ s t. FinishesTo s done answer t)
 
 abbrev pub GiveBacksAreUnseen : Type 0
 GiveBacksAreUnseen = (key : CellKey) (number : ℕ) (answer : Released) → IsUnseen (λ s t. GivesBackTo s key number answer t)

@@ -9,7 +9,8 @@ use Rattle.lay_cell_work.specs.declared.claim_lists.outcome.Outcome.{Outcome}
 use Rattle.lay_document_cells.specs.Batches.{ClaimsSome as CellsClaimSome}
 use Rattle.lay_document_cells.specs.Claims.{AnswersClaim as CellsAnswerClaim, AnswersNext as CellsAnswerNext}
 use Rattle.lay_document_cells.specs.Outcomes.{FinishesAll as CellsFinishAll, Tally}
-use Rattle.lay_document_cells.specs.Steps.{CellDone, FinishesTo as CellsFinishTo, GivesBackTo as CellsGiveBackTo}
+use Rattle.lay_document_cells.specs.Steps.{FinishesTo as CellsFinishTo, GivesBackTo as CellsGiveBackTo}
+use Rattle.lay_cell_work.specs.ClaimLists.Outcomes.{Work}
 use Rattle.lay_document_cells.specs.declared.answers.Answer.{Answer}
 use Rattle.lay_document_cells.specs.declared.answers.Next.{Next}
 use Rattle.lay_document_cells.specs.declared.idle.IdleKind.{IdleKind}
@@ -29,7 +30,7 @@ abbrev pub ClaimsSome : State → (limit : ℕ) → List Claim → Result (Optio
 ClaimsSome s limit claims answer t = ChangesCells (λ d e. CellsClaimSome d limit claims answer e) s t
 
 -- finished work
-abbrev pub FinishesTo : State → CellDone → Finished → State → Type 0
+abbrev pub FinishesTo : State → Work → Finished → State → Type 0
 FinishesTo s done answer t = ChangesCells (λ d e. CellsFinishTo d done answer e) s t
 
 -- a claim that comes back without a value

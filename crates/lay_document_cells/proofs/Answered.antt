@@ -30,9 +30,8 @@ use Rattle.lay_cell_work.specs.CellLaws.DocumentCells.{AreDocumentCells}
 use Rattle.lay_cell_work.specs.CellLaws.SoundCells.{CellRow, CellState, input_now}
 use Rattle.lay_kept_cells.specs.Steps.CellSteps.{NewCellsAreSound, no_cells}
 use Rattle.lay_kept_cells.specs.Steps.ReadyCells.{AssembledTreesSolve}
-use Rattle.lay_kept_cells.specs.Table.CellTables.{CellTable}
-use Rattle.lay_kept_cells.specs.Table.TableCells.{AreCellsOn, IsGivenNow as IsGivenThere, workings_in}
 use Rattle.lay_shape.specs.Touched.ContextFlags.{ContextLists}
+use Rattle.lay_kept_cells.specs.Table.TableCells.{AreCellsOn, IsGivenNow as IsGivenThere, workings_in}
 use Rattle.lay_document_cells.specs.Kept.{IsKept, TableValue}
 use Rattle.lay_document_cells.specs.Laws.{CleanCellsAreCounted}
 use Rattle.lay_document_cells.specs.Settling.{FinishesWork, GivesBackWork}
@@ -89,7 +88,7 @@ own_nodes own d table is lists = own d table.styles table.lists.contexts is (lis
 
 module _ (d : Document) (face : FaceValue) (cells : CellState) (laid : ℕ) (medium : Medium) (table : TableValue)
     (kept : IsKept (state_of d face cells laid) medium table) where
-  pub given_here : (s : State) → state_of d face cells laid ≡ s → (t : CellTable) → t.contexts ≡ table.lists.contexts
+  pub given_here : (s : State) → state_of d face cells laid ≡ s → (t : ContextLists) → t.contexts ≡ table.lists.contexts
       → t.formatting_contexts ≡ table.lists.formatting_contexts → (place : ℕ) (input : CellInput)
       → AtPlace cells.rows place (λ r. IsGivenThere medium t cells.rows r.key input) → AtPlace s.cells.rows place (λ r. IsGivenNow s r.key input)
   given_here s is t e f place input g =
@@ -110,16 +109,16 @@ module _ (d : Document) (face : FaceValue) (cells : CellState) (laid : ℕ) (med
         },
       )
 
-  document_cells_in : (t : CellTable) → t.contexts ≡ table.lists.contexts → t.formatting_contexts ≡ table.lists.formatting_contexts
+  document_cells_in : (t : ContextLists) → t.contexts ≡ table.lists.contexts → t.formatting_contexts ≡ table.lists.formatting_contexts
       → AreDocumentCells d face t.contexts t.formatting_contexts cells
   document_cells_in t e f =
       subst (λ (cs : List Context). AreDocumentCells d face cs t.formatting_contexts cells) (sym e)
       (subst (λ (fs : List FormattingContext). AreDocumentCells d face table.lists.contexts fs cells) (sym f) kept.cells)
 
-  pub cells_on : (t : CellTable) → t.contexts ≡ table.lists.contexts → t.formatting_contexts ≡ table.lists.formatting_contexts → AreCellsOn medium t cells
+  pub cells_on : (t : ContextLists) → t.contexts ≡ table.lists.contexts → t.formatting_contexts ≡ table.lists.formatting_contexts → AreCellsOn medium t cells
   cells_on t e f = record { document = d; face = face; medium_is = kept.medium_is; cells = document_cells_in t e f }
 
-  module _ (s : State) (is : state_of d face cells laid ≡ s) (clean : AllClean s.cells.rows) (t : CellTable) (e : t.contexts ≡ table.lists.contexts)
+  module _ (s : State) (is : state_of d face cells laid ≡ s) (clean : AllClean s.cells.rows) (t : ContextLists) (e : t.contexts ≡ table.lists.contexts)
       (f : t.formatting_contexts ≡ table.lists.formatting_contexts) (tree : List PageContext)
       (assembled : IsAssembled t.formatting_contexts (workings_in t cells.rows) tree) where
     clean_here : AllClean cells.rows

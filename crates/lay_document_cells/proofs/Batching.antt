@@ -12,7 +12,8 @@ use Rattle.lay_document_cells.specs.Claims.{AnswersNext}
 use Rattle.lay_document_cells.specs.Outcomes.{FinishesAll, HandsIn, HandsInEach, Reply, Tally, counted, is_back, is_cleaned, is_gone, is_stored, is_superseded, no_answers, tally_of, tally_sum}
 use Rattle.lay_document_cells.specs.Outcomes.{more as one_more, start as no_outcomes}
 use Rattle.lay_document_cells.specs.State.{State}
-use Rattle.lay_document_cells.specs.Steps.{CellDone, FinishesTo, GivesBackTo}
+use Rattle.lay_document_cells.specs.Steps.{FinishesTo, GivesBackTo}
+use Rattle.lay_cell_work.specs.ClaimLists.Outcomes.{Work}
 use Rattle.lay_cell_work.specs.CellLaws.SoundCells.{CellState}
 use Rattle.lay_document_cells.specs.declared.answers.Next.{Next}
 use Rattle.lay_document_cells.specs.declared.answers.Next.TheVariants as next
@@ -95,7 +96,7 @@ handed_more s m t outcomes tally after o reply h hands counts sum draws = record
   draws = draws ∙ h.draws;
 }
 
-pub finish_draws : (s : State) (d : CellDone) (a : Finished) (t : State) → FinishesTo s d a t → t.cells.draws ≡ s.cells.draws
+pub finish_draws : (s : State) (d : Work) (a : Finished) (t : State) → FinishesTo s d a t → t.cells.draws ≡ s.cells.draws
 finish_draws s d a t does = ap (λ (x : State). x.cells.draws) does.state ∙ elim does.finishes [
   | inl gone ↦ ap (λ (x : CellState). x.draws) gone.2
   | inr done ↦ ap (λ (x : CellState). x.draws) done.5

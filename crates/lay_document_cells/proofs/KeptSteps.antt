@@ -29,7 +29,8 @@ use Rattle.lay_kept_cells.specs.Steps.CellSteps.{ClaimsKeepCells, FinishesKeepCe
 use Rattle.lay_shape.specs.Touched.ContextFlags.{ContextLists}
 use Rattle.lay_document_cells.specs.Kept.{IsKept, TableValue}
 use Rattle.lay_document_cells.specs.State.{AreListsOf, State}
-use Rattle.lay_document_cells.specs.Steps.{CellDone, ClaimsTo, FinishesTo, GivesBackTo, IsGivenNow}
+use Rattle.lay_document_cells.specs.Steps.{ClaimsTo, FinishesTo, GivesBackTo, IsGivenNow}
+use Rattle.lay_cell_work.specs.ClaimLists.Outcomes.{Work}
 use Rattle.lay_document_cells.proofs.OneEdits.{one_lists}
 
 abbrev pub state_of : Document → FaceValue → CellState → ℕ → State
@@ -99,7 +100,7 @@ module _ (d : Document) (face : FaceValue) (cells : CellState) (laid : ℕ) wher
 
   module _ (medium : Medium) (table : TableValue) (kept : IsKept (state_of d face cells laid) medium table) where
     pub finish_kept : FinishesKeepCells → FinishesCount CellKey CellInput CellValue → FinishesKeepRows CellKey CellInput CellValue
-        → (done : CellDone) (a : Finished) (t : CellState) → FinishesIn cells done a t → IsSound IsCellLocal t → IsKept (state_of d face t laid) medium table
+        → (done : Work) (a : Finished) (t : CellState) → FinishesIn cells done a t → IsSound IsCellLocal t → IsKept (state_of d face t laid) medium table
     finish_kept law counts rows done a t h sound =
         let count = counts cells t done a h in
         let same = (rows cells t done a h).1 in
@@ -125,7 +126,7 @@ module _ (d : Document) (face : FaceValue) (cells : CellState) (laid : ℕ) wher
           drawn = omega (arith, same, kept.drawn);
         }
 
-  pub finished_to : (s : State) → state_of d face cells laid ≡ s → (done : CellDone) (a : Finished) (t : CellState) → FinishesIn cells done a t
+  pub finished_to : (s : State) → state_of d face cells laid ≡ s → (done : Work) (a : Finished) (t : CellState) → FinishesIn cells done a t
       → IsCellLocal done.input done.value → FinishesTo s done a (state_of d face t laid)
   finished_to s is done a t h right =
       subst (λ (x : State). FinishesTo x done a (state_of d face t laid)) is record { right = right; cells = t; finishes = h; state = refl }

@@ -32,14 +32,14 @@ use Rattle.lay_kept_cells.specs.Settled.Laws.{ClaimsKeepSince, EditsBeginSince, 
 use Rattle.lay_kept_cells.specs.Settled.Since.{IsSince, Since}
 use Rattle.lay_document_cells.specs.Edits.{FollowsLists}
 use Rattle.lay_document_cells.specs.Kept.{HaveCount, since_edit}
-use Rattle.lay_document_cells.specs.Steps.{CellDone}
+use Rattle.lay_cell_work.specs.ClaimLists.Outcomes.{Work}
 
 module _ (medium : Medium) (contexts : List Context) (cells t : CellState) (since : Option Since) (known : IfSome since (IsSince medium contexts cells)) where
   pub claim_known : ClaimsKeepSince → (place : ℕ) (input : CellInput) (a : Claimed) → AtPlace cells.rows place (λ r. ClaimsIn cells r.key input a t)
       → IfSome since (IsSince medium contexts t)
   claim_known law place input a h = IfSome_then since known (λ x is. law medium contexts cells t x h.0.key input a is h.2)
 
-  pub finish_known : FinishesKeepSince → (done : CellDone) (a : Finished) → FinishesIn cells done a t → IfSome since (IsSince medium contexts t)
+  pub finish_known : FinishesKeepSince → (done : Work) (a : Finished) → FinishesIn cells done a t → IfSome since (IsSince medium contexts t)
   finish_known law done a h = IfSome_then since known (λ x is. law medium contexts cells t x done a is h)
 
   pub back_known : GiveBacksKeepSince → (key : CellKey) (number : ℕ) (a : Released) → GivesBackIn cells key number a t → IfSome since (IsSince medium contexts t)

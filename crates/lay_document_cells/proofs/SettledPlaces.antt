@@ -24,7 +24,8 @@ use Rattle.lay_cell_work.specs.CellValues.{CellValue}
 use Rattle.lay_cell_work.specs.CellLaws.SoundCells.{CellRow, CellState}
 use Rattle.lay_document_cells.specs.Settling.{AreCleanBefore, FinishesWork, GivesBackWork, GivesUpAt, Settles, SettlesAt, SettlesFirst, SettlesTo, StopsAt, computed, granted, next, none, reused, taken, unclaimed}
 use Rattle.lay_document_cells.specs.State.{State}
-use Rattle.lay_document_cells.specs.Steps.{CellDone, ClaimsTo, FinishesTo, GivesBackTo}
+use Rattle.lay_document_cells.specs.Steps.{ClaimsTo, FinishesTo, GivesBackTo}
+use Rattle.lay_cell_work.specs.ClaimLists.Outcomes.{Work}
 
 pub all_before : (rows : List CellRow) (n : ℕ) → n ≡ length rows → AreCleanBefore rows n → AllClean rows
 all_before rows n is clean r there = clean there.0 r (let lt = slice_get_within rows there.0 r there.1 in omega (arith, lt, is)) there.1
@@ -104,7 +105,7 @@ module _ (s : State) (sound : IsSound IsCellLocal s.cells) (place : ℕ) (r : Ce
         → (mid t : State) (input : CellInput) (a : Claimed) (number : ℕ) → ClaimsTo s r.key input a mid → claim_number a ≡ Some number
         → FinishesWork mid r.key number input t → SettlesAt s place t
     computed_at law finishes mid t input a number c is f =
-        let done : CellDone = record { key = r.key; number = number; input = input; value = f.value } in
+        let done : Work = record { key = r.key; number = number; input = input; value = f.value } in
         let cells : mid.cells ≡ c.cells = ap (λ (x : State). x.cells) c.state in
         let h = law s.cells c.cells f.finishes.cells place r input f.value number a f.answer sound at c.claims is
         (subst (λ (x : CellState). FinishesIn x done f.answer f.finishes.cells) cells f.finishes.finishes) in

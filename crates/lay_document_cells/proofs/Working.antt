@@ -14,7 +14,8 @@ use Rattle.lay_cell_work.specs.CellLaws.SoundCells.{CellRow, CellState}
 use Rattle.lay_document_cells.specs.Laws.{KeepsCells, SettlingGivesNothingBack, SettlingWorks, StoppingWorks, WorkKeepsCells}
 use Rattle.lay_document_cells.specs.Settling.{ClaimsFirst, GivesUp, Settles, SettlesFirst, StopsAt, computed, granted, next, none as no_cell, reused, taken, unclaimed}
 use Rattle.lay_document_cells.specs.State.{State}
-use Rattle.lay_document_cells.specs.Steps.{CellDone, ClaimsTo, FinishesTo, GivesBackTo, Step, Works, claim, finish, give_back, none, step}
+use Rattle.lay_document_cells.specs.Steps.{ClaimsTo, FinishesTo, GivesBackTo, Step, Works, claim, finish, give_back, none, step}
+use Rattle.lay_cell_work.specs.ClaimLists.Outcomes.{Work}
 
 nothing_changes : (s : CellState) → KeepsRows s s
 nothing_changes s = record {
@@ -39,7 +40,7 @@ module _ (claims : ClaimsKeepRows CellKey CellInput CellValue) (finishes : Finis
         granted = omega (arith, count);
       }
 
-  finished : (s t : State) (d : CellDone) (a : Finished) → FinishesTo s d a t → KeepsCells s t
+  finished : (s t : State) (d : Work) (a : Finished) → FinishesTo s d a t → KeepsCells s t
   finished s t d a f =
       let count = finishes_count s.cells f.cells d a f.finishes in
       subst (KeepsCells s) (sym f.state) record {

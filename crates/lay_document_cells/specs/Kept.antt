@@ -3,7 +3,6 @@ use Rattle.std.specs.Prelude.{ℕ, ◌≡◌, ◌≤◌, Bool, true, false, IfSo
 use Rattle.lay_style.specs.declared.style.Style.{Style}
 use Rattle.lay_cells.specs.Progress.Grants.{laid_of_all}
 use Rattle.lay_cell_work.specs.CellLaws.DocumentCells.{AreDocumentCells}
-use Rattle.lay_kept_cells.specs.Table.CellTables.{CellTable}
 use Rattle.lay_shape.specs.Touched.ContextFlags.{ContextLists}
 use Rattle.lay_context.specs.Medium.{Medium}
 use Rattle.lay_context.specs.Solves.{medium_of}
@@ -14,10 +13,6 @@ use Rattle.lay_document_cells.specs.State.{AreStyledLists, State}
 pub record TableValue : Type 0 where
   pub styles : List Style
   pub lists : ContextLists
-
--- the contexts of a table, as those of an edit are compared
-abbrev pub lists_in : CellTable → ContextLists
-lists_in t = record { contexts = t.contexts; formatting_contexts = t.formatting_contexts }
 
 pub record IsKept (s : State) (medium : Medium) (table : TableValue) : Type 0 where
   pub medium_is : medium ≡ medium_of s.document s.face

@@ -2,7 +2,6 @@
 -- cell, drops one or dirties one.
 use Rattle.std.specs.Prelude.{ℕ, ◌≡◌, ◌+◌, ◌<◌, length}
 use Rattle.lay_cells.specs.Looks.{Looks}
-use Rattle.lay_cells.specs.Rows.{Solved}
 use Rattle.lay_cells.specs.Steps.{ClaimsIn, FinishesIn, GivesBackIn}
 use Rattle.lay_cells.specs.Progress.Grants.{grants}
 use Rattle.lay_cells.specs.declared.answers.Claimed.{Claimed}
@@ -14,14 +13,11 @@ use Rattle.lay_context.specs.Solves.{medium_of}
 use Rattle.lay_shape.specs.declared.cell_key.CellKey.{CellKey}
 use Rattle.lay_cell_work.specs.CellInputs.{CellInput}
 use Rattle.lay_cell_work.specs.CellLocal.{IsCellLocal}
-use Rattle.lay_cell_work.specs.CellValues.{CellValue}
 use Rattle.lay_cell_work.specs.PresentInputs.{key_of}
+use Rattle.lay_cell_work.specs.ClaimLists.Outcomes.{Work}
 use Rattle.lay_cell_work.specs.CellLaws.SoundCells.{CellState, input_now}
 use Rattle.lay_shape.specs.Touched.ContextFlags.{ContextLists}
 use Rattle.lay_document_cells.specs.State.{AreListsOf, State}
-
-abbrev pub CellDone : Type 0
-CellDone = Solved CellKey CellInput CellValue
 
 -- what the cell of the key is given now
 pub record IsGivenNow (s : State) (key : CellKey) (input : CellInput) : Type 0 where
@@ -42,7 +38,7 @@ pub record ClaimsTo (s : State) (key : CellKey) (input : CellInput) (answer : Cl
   pub state : t ≡ record s { cells = cells; laid = s.laid + grants answer }
 
 -- finished work, whose value is right beside its input
-pub record FinishesTo (s : State) (d : CellDone) (answer : Finished) (t : State) : Type 0 where
+pub record FinishesTo (s : State) (d : Work) (answer : Finished) (t : State) : Type 0 where
   pub right : IsCellLocal d.input d.value
   pub cells : CellState
   pub finishes : FinishesIn s.cells d answer cells
@@ -56,7 +52,7 @@ pub record GivesBackTo (s : State) (key : CellKey) (number : ℕ) (answer : Rele
 
 pub data Step (s : State) : State → Type 0 where
   claim : (key : CellKey) (input : CellInput) (answer : Claimed) (t : State) → ClaimsTo s key input answer t → Step s t
-  finish : (d : CellDone) (answer : Finished) (t : State) → FinishesTo s d answer t → Step s t
+  finish : (d : Work) (answer : Finished) (t : State) → FinishesTo s d answer t → Step s t
   give_back : (key : CellKey) (number : ℕ) (answer : Released) (t : State) → GivesBackTo s key number answer t → Step s t
 
 -- steps one after another, or none

@@ -42,11 +42,11 @@ pub(crate) struct DocumentTable {
 
 impl Model for DocumentTable {
     ghost use Rattle.lay_shape.specs.Touched.ContextFlags.{AreContextFlags};
-    ghost use Rattle.lay_document_cells.specs.Kept.{TableValue, lists_in};
+    ghost use Rattle.lay_document_cells.specs.Kept.{TableValue};
 
     ghost Value = { TableValue };
 
-    ghost view = { λ t. record { styles = t.styles.value; lists = lists_in t.cells } };
+    ghost view = { λ t. record { styles = t.styles.value; lists = t.cells } };
 
     ghost invariant = { λ t. AreContextFlags t.cells.contexts t.cells.formatting_contexts t.measured.items };
 }

@@ -10,7 +10,8 @@ use Rattle.lay_drawing.specs.declared.words.Wish.TheVariants.{Tree, Between, Hit
 use Rattle.lay_drawing.specs.Reports.{IsBadLine, is_shown, ShowsPieces, ShowsNoTree}
 use Rattle.lay_drawing.specs.States.{WasReport}
 use Rattle.lay_drawing.specs.Input.{HasReport}
-use Rattle.lay_drawing.specs.Answers.{AnswersBytes, AnswersReading, AnswersHit, AnswersBoth, IsRefusal, IsAnswer, refusal, bad_line, no_tree, refused}
+use Rattle.lay_drawing.specs.Answers.{AnswersBytes, AnswersReading, AnswersHit, AnswersBoth, IsRefusal, IsAnswer, bad_line, no_tree, refused}
+use Rattle.lay_report.specs.Report.{numbered_line}
 
 is_found : (o : Option ℕ) (a b : Bool) → a ≡ b → IfSome o (λ v. b ≡ true) → IfSome o (λ v. a ≡ true)
 is_found None a b e found = tt
@@ -93,7 +94,7 @@ both_answer None before after s t (Ok a) first second has_s has_t is = tt
 both_answer (Some bytes) before after s t (Ok a) first second has_s has_t is = answers_two bytes before after s t a first second has_s has_t is
 
 pub bad_answers : (left : Option (List ℕ)) (wish : Wish) (number : ℕ) (r : Result Answer Lack) → IfSome left (λ all. IsBadLine all number)
-    → IfOk r (λ a. a ≡ Refusal (refusal (codes "refused line ") number)) → IfOk r (λ a. IfSome left (λ bytes. AnswersBytes bytes wish a))
+    → IfOk r (λ a. a ≡ Refusal (numbered_line (codes "refused line ") number)) → IfOk r (λ a. IfSome left (λ bytes. AnswersBytes bytes wish a))
 bad_answers left wish number (Err l) bad is = tt
 bad_answers None wish number (Ok a) bad is = tt
 bad_answers (Some bytes) wish number (Ok a) bad is = subst (λ (b : Answer). AnswersBytes bytes wish b) (sym is) (bad_line number bad refl)

@@ -1,13 +1,13 @@
 -- Bytes of a source that are read one piece after the other.
 use Rattle.std.proofs.Common.{◌≡◌, ℕ, List, [], ◌++◌, take, drop, refl, sym, ap, ◌∙◌, Option, Some, None, IfSome, subst, append_assoc, append-nil}
 use Rattle.std.proofs.lemmas.List.{take-append-drop}
-use Rattle.lay_outside.specs.Outside.{GivesNext}
+use Rattle.lay_outside.specs.Outside.{GivesNext, IsDrained}
 use Rattle.lay_drawing.specs.declared.state.Reading.{Reading}
 use Rattle.lay_drawing.specs.declared.state.Stop.{Stop}
 use Rattle.lay_drawing.specs.declared.state.Stop.TheVariants.{BadLine, NoMemory}
 use Rattle.lay_drawing.specs.Reports.{IsBadLine}
 use Rattle.lay_drawing.specs.States.{HasRead, WasReport, StopsAtEnd, Reads, Stops}
-use Rattle.lay_drawing.specs.Input.{HasReadFirst, HasReport, IsDrained, IsCause, fault_of}
+use Rattle.lay_drawing.specs.Input.{HasReadFirst, HasReport, IsCause, fault_of}
 
 pub first_none : (left : Option (List ℕ)) (s : Reading) → HasRead s [] → HasReadFirst left left s
 first_none None s has = tt

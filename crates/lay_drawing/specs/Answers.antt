@@ -1,9 +1,9 @@
 -- Which text answers which bytes: the picture of what is wished; or one line, for the first line that is none of a report, or
 -- for the version that the report doesn't show.
 use Rattle.std.specs.Prelude.{ℕ, ◌≡◌, ◌⊎◌, true, false, List, ◌++◌, codes, Option, Some, None, IfSome}
-use Rattle.std.specs.Fmt.{decimal}
-use Rattle.lay_outside.specs.Outside.{Rose}
+use Rattle.lay_outside.specs.Outside.{Rose, IsDrained}
 use Rattle.lay_frag.specs.declared.frag.Frag.{Frag}
+use Rattle.lay_report.specs.Report.{numbered_line}
 use Rattle.lay_drawing.specs.declared.answer.Answer.{Answer}
 use Rattle.lay_drawing.specs.declared.answer.Answer.TheVariants.{Picture, Refusal}
 use Rattle.lay_drawing.specs.declared.answer.Lack.{Lack}
@@ -12,7 +12,6 @@ use Rattle.lay_drawing.specs.declared.mark.Marked.{Marked}
 use Rattle.lay_drawing.specs.declared.words.Wish.{Wish}
 use Rattle.lay_drawing.specs.declared.hit.PieceName.{PieceName}
 use Rattle.lay_drawing.specs.declared.words.Wish.TheVariants.{Tree, Between, Hit}
-use Rattle.lay_drawing.specs.Input.{IsDrained}
 use Rattle.lay_drawing.specs.declared.state.Reading.{Reading}
 use Rattle.lay_drawing.specs.Reports.{IsBadLine, ShowsPieces, ShowsNoTree}
 use Rattle.lay_drawing.specs.Marks.{plain_pieces}
@@ -44,13 +43,10 @@ Misses bytes (Between before after) version =
     ((version ≡ before) × ShowsNoTree bytes before) ⊎ ((version ≡ after) × ShowsTree bytes before × ShowsNoTree bytes after)
 Misses bytes (Hit name) version = ⊥
 
-abbrev pub refusal : List ℕ → ℕ → List ℕ
-refusal word number = word ++ decimal number ++ codes "\n"
-
 -- why bytes are refused, and the line that says so
 pub data IsRefusal (bytes : List ℕ) (wish : Wish) (line : List ℕ) : Type 0 where
-  bad_line : (number : ℕ) → IsBadLine bytes number → line ≡ refusal (codes "refused line ") number → IsRefusal bytes wish line
-  no_tree : (version : ℕ) → Misses bytes wish version → line ≡ refusal (codes "refused version ") version → IsRefusal bytes wish line
+  bad_line : (number : ℕ) → IsBadLine bytes number → line ≡ numbered_line (codes "refused line ") number → IsRefusal bytes wish line
+  no_tree : (version : ℕ) → Misses bytes wish version → line ≡ numbered_line (codes "refused version ") version → IsRefusal bytes wish line
 
 -- a text that answers the bytes
 pub data IsAnswer (bytes : List ℕ) (wish : Wish) (text : List ℕ) : Type 0 where
@@ -65,7 +61,7 @@ AnswersBytes bytes wish (Refusal line) = IsRefusal bytes wish line
 abbrev pub AnswersReading : Reading → Answer → Type 0
 AnswersReading s (Picture text) = IfSome s.wanted (λ version. s.is_shown ≡ true) × (text ≡ picture (plain_pieces s.pieces.items))
 AnswersReading s (Refusal line) =
-    (version : ℕ) × (s.wanted ≡ Some version) × (s.is_shown ≡ false) × (line ≡ refusal (codes "refused version ") version)
+    (version : ℕ) × (s.wanted ≡ Some version) × (s.is_shown ≡ false) × (line ≡ numbered_line (codes "refused version ") version)
 
 -- the answer for what was read of the last tree, with a piece that is marked
 abbrev pub AnswersHit : PieceName → Reading → Answer → Type 0
@@ -76,7 +72,7 @@ AnswersHit name s (Refusal line) = ⊥
 abbrev pub AnswersBoth : Reading → Reading → Answer → Type 0
 AnswersBoth s t (Picture text) = (s.is_shown ≡ true) × (t.is_shown ≡ true) × (text ≡ picture (differences s.pieces.items t.pieces.items))
 AnswersBoth s t (Refusal line) =
-    (version : ℕ) × (line ≡ refusal (codes "refused version ") version)
+    (version : ℕ) × (line ≡ numbered_line (codes "refused version ") version)
     × (((s.wanted ≡ Some version) × (s.is_shown ≡ false)) ⊎ ((t.wanted ≡ Some version) × (s.is_shown ≡ true) × (t.is_shown ≡ false)))
 
 -- a picture is there once all was read

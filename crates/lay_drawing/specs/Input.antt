@@ -1,5 +1,5 @@
 -- What was read of a source, and why a report isn't there.
-use Rattle.std.specs.Prelude.{ℕ, ◌≡◌, List, [], ◌++◌, Option, Some, IfSome}
+use Rattle.std.specs.Prelude.{ℕ, ◌≡◌, List, ◌++◌, Option, Some, IfSome}
 use Rattle.lay_outside.specs.Outside.{Rose}
 use Rattle.lay_drawing.specs.declared.input.InputFault.{InputFault}
 use Rattle.lay_drawing.specs.declared.input.InputFault.TheVariants.{BadLine, Failed, NoMemory}
@@ -8,10 +8,6 @@ use Rattle.lay_drawing.specs.declared.state.Stop.TheVariants as stop
 use Rattle.lay_drawing.specs.declared.state.Reading.{Reading}
 use Rattle.lay_drawing.specs.Reports.{IsBadLine}
 use Rattle.lay_drawing.specs.States.{HasRead, WasReport}
-
--- where bytes were told, none is left
-abbrev pub IsDrained : Option (List ℕ) → Option (List ℕ) → Type 0
-IsDrained left now = IfSome left (λ all. now ≡ Some [])
 
 -- the first bytes were read, and those of `now` are left
 abbrev pub HasReadFirst : Option (List ℕ) → Option (List ℕ) → Reading → Type 0

@@ -8,7 +8,8 @@ ghost use Rattle.lay_drawing.specs.Marks.{IsMarked, plain_pieces};
 ghost use Rattle.lay_drawing.specs.Changes.{differences};
 ghost use Rattle.lay_drawing.specs.Hits.{hit_pieces};
 ghost use Rattle.lay_drawing.specs.Picture.{picture};
-ghost use Rattle.lay_drawing.specs.Answers.{refusal, AnswersBytes, AnswersReading, AnswersHit, AnswersBoth, IsLack, DrainsFor};
+ghost use Rattle.lay_drawing.specs.Answers.{AnswersBytes, AnswersReading, AnswersHit, AnswersBoth, IsLack, DrainsFor};
+ghost use Rattle.lay_report.specs.Report.{numbered_line};
 
 use crate::changes::differences;
 use crate::hit::{PieceName, hit_pieces};
@@ -197,7 +198,7 @@ fn drawn(alloc: Global, pieces: &[Marked]) -> Result<Answer, Lack>
 }
 
 fn refused(alloc: Global, word: &str, number: u64) -> Result<Answer, Lack>
-    ensures ok { IfOk result (λ a. a ≡ Answer.Refusal (refusal word.now number)) }
+    ensures ok { IfOk result (λ a. a ≡ Answer.Refusal (numbered_line word.now number)) }
     ensures err { IfErr result (λ l. l ≡ Lack.NoMemory) }
 {
     match refusal(alloc, word, number) {
@@ -207,7 +208,7 @@ fn refused(alloc: Global, word: &str, number: u64) -> Result<Answer, Lack>
 }
 
 fn refusal(alloc: Global, word: &str, number: u64) -> Result<Text, NoMemory>
-    ensures { IfOk result (λ t. t ≡ refusal word.now number) }
+    ensures { IfOk result (λ t. t ≡ numbered_line word.now number) }
 {
     let mut text = String::from_str(alloc, word)?;
     write!(text, "{number}")?;

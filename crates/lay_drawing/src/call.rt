@@ -1,8 +1,7 @@
 //! The call that the program makes.
 
 ghost use Rattle.std.specs.Prelude.{◌≡◌, ◌≢◌, ◌⊎◌, ℕ, List, codes, Some, IfSome};
-ghost use Rattle.lay_outside.specs.Outside.{Rose, Took, TookFront};
-ghost use Rattle.lay_drawing.specs.Input.{IsDrained};
+ghost use Rattle.lay_outside.specs.Outside.{Rose, Took, TookFront, IsDrained};
 ghost use Rattle.lay_drawing.specs.Words.{AskFor, AreWrong};
 ghost use Rattle.lay_drawing.specs.Answers.{IsPicture, IsRefusal, IsAnswer};
 

@@ -1,7 +1,8 @@
 //! Reading a report from a source.
 
 ghost use Rattle.std.specs.Prelude.{◌≡◌, ◌⊎◌, OnOk, IfOk, IfErr, ℕ, List, Some};
-ghost use Rattle.lay_drawing.specs.Input.{IsDrained, HasReport, IsCause};
+ghost use Rattle.lay_drawing.specs.Input.{HasReport, IsCause};
+ghost use Rattle.lay_outside.specs.Outside.{IsDrained};
 ghost use Rattle.lay_drawing.specs.States.{HasRead, WasReport, Reads, Stops, StopsAtEnd};
 ghost use Rattle.lay_drawing.specs.declared.state.Stop.{Stop};
 ghost use Rattle.lay_drawing.specs.Input.{fault_of};

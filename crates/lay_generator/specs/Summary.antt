@@ -2,9 +2,9 @@
 -- last tree has, and a mark of their places and sizes.
 use Rattle.std.specs.Prelude.{ℕ, ◌+◌, ◌*◌, ◌%◌, ◌^◌, ℤ, pos, List, ◌++◌, codes, fold, length, unsigned_abs}
 use Rattle.std.specs.Int.{int_rem_euclid}
-use Rattle.std.specs.Fmt.{decimal}
 use Rattle.lay_frag.specs.declared.frag.Frag.{Frag}
 use Rattle.lay_frag.specs.Pieces.{Context, frags_of}
+use Rattle.lay_report.specs.Report.{numbered_line}
 
 -- a number modulo 2^32, which isn't negative
 abbrev pub residue : ℤ → ℕ
@@ -22,11 +22,7 @@ piece_mark mark frag = marked (marked (marked (marked mark frag.rect.x.0) frag.r
 abbrev pub mark_from : ℕ → List Frag → ℕ
 mark_from mark frags = fold piece_mark mark frags
 
--- a line of a word and a number
-abbrev pub line : List ℕ → ℕ → List ℕ
-line word number = word ++ decimal number ++ codes "\n"
-
 abbrev pub summary : ℕ → ℕ → List Context → List ℕ
 summary nodes accepted tree =
-    ((line (codes "nodes ") nodes ++ line (codes "accepted ") accepted)
-    ++ line (codes "pieces ") (length (frags_of tree))) ++ line (codes "mark ") (mark_from 0 (frags_of tree))
+    ((numbered_line (codes "nodes ") nodes ++ numbered_line (codes "accepted ") accepted)
+    ++ numbered_line (codes "pieces ") (length (frags_of tree))) ++ numbered_line (codes "mark ") (mark_from 0 (frags_of tree))

@@ -2,7 +2,8 @@
 
 ghost use Rattle.std.specs.Prelude.{◌≡◌, ◌++◌, IfOk, OnOk, string_bytes};
 ghost use Rattle.lay_frag.specs.Pieces.{IsContextInRange, IsTreeInRange, frags_of, page_pieces};
-ghost use Rattle.lay_generator.specs.Summary.{line, mark_from, marked, piece_mark, residue, summary};
+ghost use Rattle.lay_generator.specs.Summary.{mark_from, marked, piece_mark, residue, summary};
+ghost use Rattle.lay_report.specs.Report.{numbered_line};
 
 use lay_frag::{Frag, Placed, Tree};
 use lay_report::push_number;
@@ -23,7 +24,7 @@ pub fn run_summary(alloc: Global, nodes: u64, accepted: u64, tree: &Tree) -> Res
 }
 
 fn push_line(text: &mut String, word: &str, number: u64) -> Result<(), NoMemory>
-    ensures { OnOk result (string_bytes text.new ≡ string_bytes text.old ++ line word.now number) }
+    ensures { OnOk result (string_bytes text.new ≡ string_bytes text.old ++ numbered_line word.now number) }
 {
     push_number(text, word, number)?;
     text.push_str("\n")?;

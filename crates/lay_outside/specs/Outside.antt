@@ -1,5 +1,5 @@
 -- What a read gives and a write takes, where the bytes are told, and counts of faults.
-use Rattle.std.specs.Prelude.{ℕ, ◌-◌, ◌^◌, ◌<◌, ◌≤◌, ◌≡◌, List, ◌++◌, length, take, drop, Option, Some, IfSome}
+use Rattle.std.specs.Prelude.{ℕ, ◌-◌, ◌^◌, ◌<◌, ◌≤◌, ◌≡◌, List, [], ◌++◌, length, take, drop, Option, Some, IfSome}
 
 -- a count of faults rose, or stands at its greatest value
 abbrev pub Rose : ℕ → ℕ → Type 0
@@ -22,3 +22,7 @@ Took old new piece = IfSome old (λ bytes. new ≡ Some (bytes ++ piece))
 -- a front of the text was added to what was taken
 abbrev pub TookFront : Option (List ℕ) → Option (List ℕ) → List ℕ → Type 0
 TookFront old new text = (n : ℕ) × (n ≤ length text) × Took old new (take n text)
+
+-- where bytes were told, none is left
+abbrev pub IsDrained : Option (List ℕ) → Option (List ℕ) → Type 0
+IsDrained left now = IfSome left (λ all. now ≡ Some [])

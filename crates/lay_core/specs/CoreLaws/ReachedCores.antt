@@ -11,7 +11,7 @@ use Rattle.lay_cells.specs.declared.answers.Released.{Released}
 use Rattle.lay_cell_work.specs.Claims.{Claim}
 use Rattle.lay_cell_work.specs.declared.claim_lists.outcome.Outcome.{Outcome}
 use Rattle.lay_document_cells.specs.Outcomes.{Tally}
-use Rattle.lay_document_cells.specs.Steps.{CellDone}
+use Rattle.lay_cell_work.specs.ClaimLists.Outcomes.{Work}
 use Rattle.lay_document_cells.specs.declared.answers.Answer.{Answer}
 use Rattle.lay_document_cells.specs.declared.answers.Next.{Next}
 use Rattle.lay_document_cells.specs.declared.idle.IdleKind.{IdleKind}
@@ -36,7 +36,7 @@ pub data CallsTo (s : State) : State → Type 0 where
   claim_next : (next : Next) (t : State) → AnswersNext s next t → CallsTo s t
   claim_some : (limit : ℕ) (claims : List Claim) (answer : Result (Option IdleKind) NoMemory) (t : State)
       → ClaimsSome s limit claims answer t → CallsTo s t
-  finish : (done : CellDone) (answer : Finished) (t : State) → FinishesTo s done answer t → CallsTo s t
+  finish : (done : Work) (answer : Finished) (t : State) → FinishesTo s done answer t → CallsTo s t
   finish_all : (outcomes : List Outcome) (tally : Tally) (t : State) → FinishesAll s outcomes tally t → CallsTo s t
   give_back : (key : CellKey) (number : ℕ) (answer : Released) (t : State)
       → GivesBackTo s key number answer t → CallsTo s t

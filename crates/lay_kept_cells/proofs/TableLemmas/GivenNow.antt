@@ -12,17 +12,17 @@ use Rattle.lay_shape.specs.Shapes.{cells_of}
 use Rattle.lay_cell_work.specs.CellInputs.{CellInput, RootInput}
 use Rattle.lay_cell_work.specs.CellLaws.SoundCells.{CellRow, CellState, input_now}
 use Rattle.lay_kept_cells.specs.Steps.ReadyCells.{ReadyToInput}
-use Rattle.lay_kept_cells.specs.Table.CellTables.{CellTable}
+use Rattle.lay_shape.specs.Touched.ContextFlags.{ContextLists}
 use Rattle.lay_kept_cells.specs.Table.TableCells.{AreCellsOn, HaveNeeds, IsGivenNow, input_at}
 use Rattle.lay_kept_cells.proofs.TableLemmas.KeptReads.{key_there, rows_counted}
 
-pub same_input : (medium : Medium) (t : CellTable) (rows : List CellRow) (cell : ContextPhase) (key : CellKey) (roots : List RootInput) → key ≡ key_of t.contexts cell
+pub same_input : (medium : Medium) (t : ContextLists) (rows : List CellRow) (cell : ContextPhase) (key : CellKey) (roots : List RootInput) → key ≡ key_of t.contexts cell
     → roots ≡ (input_now medium t.contexts t.formatting_contexts rows cell.context cell.phase).roots
     → record { key = key; roots = roots } ≡ input_now medium t.contexts t.formatting_contexts rows cell.context cell.phase
 same_input medium t rows cell key roots e f =
     ap (λ (k : CellKey). record { key = k; roots = roots }) e ∙ ap (λ (rs : List RootInput). record { key = key_of t.contexts cell; roots = rs }) f
 
-module _ (medium : Medium) (t : CellTable) (s : CellState) (on : AreCellsOn medium t s) (place : ℕ) where
+module _ (medium : Medium) (t : ContextLists) (s : CellState) (on : AreCellsOn medium t s) (place : ℕ) where
   pub place_there : (P : CellRow → Type 0) → AtPlace s.rows place P → place < length (cells_of t.contexts)
   place_there P at = (let low = slice_get_within s.rows place at.0 at.1 in let count = rows_counted s.rows t.contexts on.cells.shaped in omega (arith, low, count))
 

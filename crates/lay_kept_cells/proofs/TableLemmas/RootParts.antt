@@ -23,7 +23,7 @@ use Rattle.lay_cell_work.specs.CellInputs.{RootInput}
 use Rattle.lay_cell_work.specs.CellColumns.{links_of}
 use Rattle.lay_cell_work.specs.PresentInputs.{present_input, root_count, root_input, root_input_as}
 use Rattle.lay_cell_work.specs.CellLaws.SoundCells.{CellRow}
-use Rattle.lay_kept_cells.specs.Table.CellTables.{CellTable}
+use Rattle.lay_shape.specs.Touched.ContextFlags.{ContextLists}
 use Rattle.lay_kept_cells.specs.Table.LinkedRoots.{asks_spot}
 use Rattle.lay_kept_cells.specs.Table.TableCells.{HaveNeeds, workings_in}
 use Rattle.lay_kept_cells.proofs.TableLemmas.LinkedInputs.{no_spot, only_input, parts}
@@ -81,7 +81,7 @@ module _ (medium : Medium) (contexts : List Context) (all : List FormattingConte
   pub only_roots : (given : Input) → root_count contexts c ≡ 1 → given ≡ input_of medium all w (record { context = First; phase = p }) → parts given [] None ∷ [] ≡ (present_input medium contexts all w c p).roots
   only_roots given only is = ap (λ (x : RootInput). x ∷ []) (only_part given only is) ∙ ap (λ (n : ℕ). map part (range_with_len 0 n)) (sym only)
 
-pub own_needs : (t : CellTable) (rows : List CellRow) (cell : ContextPhase) → HaveNeeds t rows cell → 0 < root_count t.contexts cell.context
+pub own_needs : (t : ContextLists) (rows : List CellRow) (cell : ContextPhase) → HaveNeeds t rows cell → 0 < root_count t.contexts cell.context
     → IsReady t.formatting_contexts (workings_in t rows) (record { context = first_number t.contexts cell.context; phase = cell.phase })
 own_needs t rows cell needs some =
     let here : first_number t.contexts cell.context + 0 ≡ first_number t.contexts cell.context = omega arith in

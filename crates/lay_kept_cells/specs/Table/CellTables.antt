@@ -4,19 +4,15 @@ use Rattle.lay_context.specs.MeasuredFlags.{AreMeasured}
 use Rattle.lay_context.specs.PlacedContexts.{PlacedContext, not_placed}
 use Rattle.lay_context_sizes.specs.ContextSizes.{SizedContext, not_sized}
 use Rattle.lay_context_sizes.specs.MeasuredContexts.{MeasuredContext, not_measured}
-use Rattle.lay_contexts.specs.Contexts.{AreContexts, Context}
-use Rattle.lay_contexts.specs.FormattingContexts.{FormattingContext}
+use Rattle.lay_contexts.specs.Contexts.{AreContexts}
 use Rattle.lay_contexts.specs.FormattingContextList.{AreFormattingContextsOf}
 use Rattle.lay_shape.specs.declared.context_phase.ContextPhase.{ContextPhase}
 use Rattle.lay_shape.specs.Shapes.{cells_of}
+use Rattle.lay_shape.specs.Touched.ContextFlags.{ContextLists}
 use Rattle.lay_kept_cells.specs.declared.table.cell_places.CellPlaces.{CellPlaces}
 use Rattle.lay_kept_cells.specs.declared.table.context_root.ContextRoot.{ContextRoot}
 use Rattle.lay_kept_cells.specs.Table.CellPlaces.{ArePlaces}
 use Rattle.lay_kept_cells.specs.Table.RootColumns.{AreRootColumns}
-
-pub record CellTable : Type 0 where
-  pub contexts : List Context
-  pub formatting_contexts : List FormattingContext
 
 -- what is known of them besides
 pub record TableColumns : Type 0 where
@@ -33,7 +29,7 @@ pub record TableColumns : Type 0 where
   pub no_sizes : SizedContext
   pub no_place : PlacedContext
 
-pub record AreTableColumns (t : CellTable) (columns : TableColumns) : Type 0 where
+pub record AreTableColumns (t : ContextLists) (columns : TableColumns) : Type 0 where
   pub are_contexts : AreContexts t.contexts
   pub are_formatting_contexts : AreFormattingContextsOf t.contexts t.formatting_contexts
   pub measured : AreMeasured t.formatting_contexts columns.measured

@@ -17,26 +17,26 @@ use Rattle.lay_cell_work.specs.KeptValues.{kept_workings}
 use Rattle.lay_cell_work.specs.PresentInputs.{key_of, root_count}
 use Rattle.lay_cell_work.specs.CellLaws.DocumentCells.{AreDocumentCells}
 use Rattle.lay_cell_work.specs.CellLaws.SoundCells.{CellRow, CellState, input_now}
-use Rattle.lay_kept_cells.specs.Table.CellTables.{CellTable}
+use Rattle.lay_shape.specs.Touched.ContextFlags.{ContextLists}
 
 -- the cells are those of a document with these contexts, which is laid out on this
-pub record AreCellsOn (medium : Medium) (t : CellTable) (s : CellState) : Type 0 where
+pub record AreCellsOn (medium : Medium) (t : ContextLists) (s : CellState) : Type 0 where
   pub document : Document
   pub face : FaceValue
   pub medium_is : medium ≡ medium_of document face
   pub cells : AreDocumentCells document face t.contexts t.formatting_contexts s
 
 -- the values that they keep
-abbrev pub workings_in : CellTable → List CellRow → Workings
+abbrev pub workings_in : ContextLists → List CellRow → Workings
 workings_in t rows = kept_workings rows t.contexts
 
 -- what the cell at a place would be given now
-abbrev pub input_at : Medium → CellTable → List CellRow → ℕ → Option CellInput
+abbrev pub input_at : Medium → ContextLists → List CellRow → ℕ → Option CellInput
 input_at medium t rows place =
     option_map (λ c. input_now medium t.contexts t.formatting_contexts rows c.context c.phase) (slice_get (cells_of t.contexts) place)
 
 -- this is what the cell with this key is given now, which is that of a context and a phase
-pub record IsGivenNow (medium : Medium) (t : CellTable) (rows : List CellRow) (key : CellKey) (input : CellInput) : Type 0 where
+pub record IsGivenNow (medium : Medium) (t : ContextLists) (rows : List CellRow) (key : CellKey) (input : CellInput) : Type 0 where
   pub context : ℕ
   pub phase : Phase
   pub within : context < length t.contexts
@@ -45,6 +45,6 @@ pub record IsGivenNow (medium : Medium) (t : CellTable) (rows : List CellRow) (k
 
 -- The values are there that a cell needs: those that the task of each of its roots needs. The setting of an anonymous root (CSS 2.2,
 -- 17.2.1) comes of another root of the same cell.
-abbrev pub HaveNeeds : CellTable → List CellRow → ContextPhase → Type 0
+abbrev pub HaveNeeds : ContextLists → List CellRow → ContextPhase → Type 0
 HaveNeeds t rows c = (r : ℕ) → r < root_count t.contexts c.context → (c.phase ≡ phase.Size → r ≡ 0)
     → IsReady t.formatting_contexts (workings_in t rows) (record { context = first_number t.contexts c.context + r; phase = c.phase })

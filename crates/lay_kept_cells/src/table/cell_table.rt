@@ -41,9 +41,10 @@ pub struct CellTable {
 }
 
 impl Model for CellTable {
-    ghost use Rattle.lay_kept_cells.specs.Table.CellTables.{AreTableColumns, CellTable as Plain};
+    ghost use Rattle.lay_kept_cells.specs.Table.CellTables.{AreTableColumns};
+    ghost use Rattle.lay_shape.specs.Touched.ContextFlags.{ContextLists};
 
-    ghost Value = { Plain };
+    ghost Value = { ContextLists };
 
     ghost view = { λ t. record { contexts = t.contexts; formatting_contexts = t.formatting_contexts } };
 

@@ -3,7 +3,8 @@ use Rattle.std.proofs.lemmas.List.{get_or_read}
 use Rattle.lay_shape.specs.Shapes.{cells_of}
 use Rattle.lay_kept_cells.specs.declared.table.cell_places.CellPlaces.{CellPlaces}
 use Rattle.lay_kept_cells.specs.Table.CellPlaces.{no_places, place_in, places_at}
-use Rattle.lay_kept_cells.specs.Table.CellTables.{AreTableColumns, CellTable, TableColumns}
+use Rattle.lay_kept_cells.specs.Table.CellTables.{AreTableColumns, TableColumns}
+use Rattle.lay_shape.specs.Touched.ContextFlags.{ContextLists}
 use Rattle.lay_kept_cells.proofs.table.cell_table.CellTable.place_of.Goals as goal
 
 pub returns : goal.returns
@@ -18,7 +19,7 @@ returns c =
       no_sizes = c.self.inside.no_sizes;
       no_place = c.self.inside.no_place;
     } in
-    let are = subst (λ (t : CellTable). AreTableColumns t columns) c.self.view_is c.self.invariant in
+    let are = subst (λ (t : ContextLists). AreTableColumns t columns) c.self.view_is c.self.invariant in
     let count = are.places.count in
     let read : c.index.result.now ≡ places_at c.self.inside.places.items c.args.context =
     get_or_read c.self.inside.places.items c.args.context c.index.result.now (omega (arith, count, c.requires)) c.index.ensures no_places in
