@@ -73,8 +73,8 @@ pub fn scratch(alloc: Global, doc: &Doc, face: &Arc<Face>) -> Result<Tree, NoMem
     Ok(laid.tree)
 }
 
-/// The layout of a document in a face, for a program that ends after it. What the tree was computed of isn't given back list by list, as the system takes
-/// all memory of a program that ends.
+/// The layout of a document in a face, for a program that ends after it. What the tree was computed of isn't freed list by list,
+/// as the system takes all memory of a program that ends.
 pub fn last_scratch(alloc: Global, doc: &Doc, face: &Arc<Face>) -> Result<Tree, NoMemory>
     ensures { IfOk result (Solves doc.now face.now.value) }
 {
