@@ -39,7 +39,7 @@ pub fn absolute_offset(
     near_corner(corner.x, corner.y)
 }
 
-/// The same corner, however far away.
+/// The corner, however far away.
 fn corner_inside(setting: &AbsoluteSetting, own: &BoxNode, left: Unit, height: Unit) -> Corner
     requires setting { SettingFits setting.now }
     requires left { IsStart left.0 }

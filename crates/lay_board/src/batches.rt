@@ -57,7 +57,7 @@ impl Engine {
         tally
     }
 
-    /// The same as `finish_all` and, right behind it, `claim_batch`, in one turn of the lock. What came of claims is handed in also where
+    /// Does `finish_all` and, right after it, `claim_batch`, in one turn of the lock. What came of claims is handed in also where
     /// there is no room for others.
     pub fn exchange<R: Wait>(
         &self,
@@ -75,7 +75,7 @@ impl Engine {
         self.exchange_inside(rt, outcomes, limit, list)
     }
 
-    /// The same where nobody has the lock. Else it doesn't wait: the outcomes come back.
+    /// Does `exchange` if nobody has the lock. Else it doesn't wait: the outcomes come back.
     pub fn try_exchange<R: Wait>(
         &self,
         rt: &R,

@@ -19,7 +19,7 @@ pub enum BoxKind {
     Replaced { w: Unit, h: Unit, inline: bool },
     /// What holds the captions of a table and its table box (CSS 2.2, 17.4).
     Wrapper,
-    /// The same for an inline-table.
+    /// What holds the captions of an inline-table and its table box.
     InlineWrapper,
     Table,
     Caption,

@@ -126,7 +126,7 @@ impl ContextBoxes {
         self.shared.tree.clear(k)
     }
 
-    /// The same boxes, shared.
+    /// The boxes, shared: none is copied.
     pub fn share(&self) -> Result<ContextBoxes, NoMemory>
         ensures { IfOk result (λ b. b ≡ self.now) }
     {

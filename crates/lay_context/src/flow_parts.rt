@@ -87,7 +87,7 @@ impl FlowParts {
         }
     }
 
-    /// The same, where that is given of the height of the own box.
+    /// These parts, where that is given of the height of the own box.
     pub fn with_own_height(self, own_height: HeightRule) -> FlowParts
         requires { HeightRuleFits own_height }
         ensures { result ≡ record self { own_height = own_height } }
@@ -138,7 +138,7 @@ impl FlowParts {
         &self.face
     }
 
-    /// The same, with this content of the lines of its boxes.
+    /// What the formatting context is placed of, with this content of the lines of its boxes.
     pub(crate) fn into_input(self, contents: InlineContents) -> PlaceInput
         requires { AreContents self.face self.boxes contents }
         ensures { result ≡ self }

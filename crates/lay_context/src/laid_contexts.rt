@@ -18,7 +18,7 @@ pub struct LaidContexts<'a, V: Values> {
     ghost are: { AreKnown contexts.now (V.workings known.now) },
 }
 
-/// The same, with how each one stands, and the corner of its border box on the page.
+/// Laid formatting contexts, with how each one stands, and the corner of its border box on the page.
 #[derive(Drop)]
 pub(crate) struct ContextsOnPage<'a, 'b, V: Values> {
     pub laid: LaidContexts<'a, V>,

@@ -73,8 +73,8 @@ pub fn scratch(alloc: Global, doc: &Doc, face: &Arc<Face>) -> Result<Tree, NoMem
     Ok(laid.tree)
 }
 
-/// The same for a program that ends behind it. What the tree was worked out of isn't given back list by list, as the system takes
-/// all memory of a program that ends.
+/// The layout of a document in a face, for a program that ends after it. What the tree was computed of isn't freed list by list,
+/// as the system takes all memory of a program that ends.
 pub fn last_scratch(alloc: Global, doc: &Doc, face: &Arc<Face>) -> Result<Tree, NoMemory>
     ensures { IfOk result (Solves doc.now face.now.value) }
 {
@@ -90,7 +90,7 @@ fn laid_document(alloc: Global, doc: &Doc, face: &Arc<Face>) -> Result<LaidDocum
     laid_styled(alloc, doc, face, computed)
 }
 
-/// The same, where the computed styles of the document are known.
+/// The layout of a document whose computed styles are known.
 fn laid_styled(
     alloc: Global,
     doc: &Doc,

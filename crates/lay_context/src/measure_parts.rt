@@ -57,7 +57,7 @@ impl MeasureParts {
         &self.face
     }
 
-    /// The same, with this content of the lines of its boxes.
+    /// What the formatting context is measured of, with this content of the lines of its boxes.
     pub(crate) fn into_input(self, contents: InlineContents) -> MeasureInput
         requires { AreContents self.face self.boxes contents }
         ensures { result ≡ self }

@@ -30,7 +30,7 @@ pub fn is_measured(contexts: &FormattingContexts, i: usize) -> bool
     shrinks_within(i, contexts, i)
 }
 
-/// The same of it and the next so many around it.
+/// Whether it or one of the next so many around it shrinks to fit.
 fn shrinks_within(many: usize, contexts: &FormattingContexts, i: usize) -> bool
     requires { i < length contexts.now }
     ensures { result ≡ shrinks_within many contexts.now i }

@@ -89,7 +89,7 @@ impl TableParts {
         &self.pieces
     }
 
-    /// The same, as a placement is given it.
+    /// What the formatting context is placed of, as a placement is given it.
     pub(crate) fn into_input(self) -> TableInput
         ensures { result ≡ self }
     {

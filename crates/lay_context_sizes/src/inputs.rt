@@ -48,7 +48,7 @@ impl MeasureInput {
         }
     }
 
-    /// The same, with this content of the lines of its boxes.
+    /// This input, with this content of the lines of its boxes.
     pub fn with_contents(self, contents: InlineContents) -> MeasureInput
         requires { AreContents self.face self.boxes contents }
         ensures { result ≡ self }

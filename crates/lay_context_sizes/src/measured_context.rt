@@ -56,7 +56,7 @@ impl MeasuredContext {
         &self.table
     }
 
-    /// The same, shared.
+    /// The widths, shared: none is copied.
     pub fn share(&self) -> Result<MeasuredContext, NoMemory>
         ensures { IfOk result (λ m. m ≡ self.now) }
     {

@@ -82,7 +82,7 @@ impl SizedContext {
         self.stretched
     }
 
-    /// The same, shared.
+    /// The sizes of the table's columns and cells, if it is a table's, shared: none is copied.
     pub fn shared_table(&self) -> Result<Option<TableSizes>, NoMemory>
         ensures { IfOk result (λ t. t ≡ self.now.table) }
     {
@@ -92,7 +92,7 @@ impl SizedContext {
         }
     }
 
-    /// The same sizes, shared.
+    /// The sizes, shared: none is copied.
     pub fn share(&self) -> Result<SizedContext, NoMemory>
         ensures { IfOk result (λ s. s ≡ self.now) }
     {

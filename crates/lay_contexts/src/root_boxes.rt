@@ -36,7 +36,7 @@ pub(crate) fn boxes_of_root(
     ContextBoxes::new(alloc, BoxTree::new(items))
 }
 
-/// The same boxes, copied.
+/// A copy of the boxes.
 fn listed(
     alloc: Global,
     boxes: &[BoxNode],

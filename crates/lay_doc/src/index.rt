@@ -147,7 +147,11 @@ fn kept_id(nodes: &[Node], from: usize, to: usize, k: usize) -> u32
 }
 
 /// Gives an id that has none a number.
-pub fn add_number(numbers: &mut BTreeMap<u32, usize>, id: u32, number: usize) -> Result<(), NoMemory>
+pub fn add_number(
+    numbers: &mut BTreeMap<u32, usize>,
+    id: u32,
+    number: usize,
+) -> Result<(), NoMemory>
     ensures ok { OnOk result ((x : ℕ) → get nat_cmp numbers.new x ≡ (if x == id then Some number else get nat_cmp numbers.old x)) }
     ensures err { OnErr result (numbers.new.entries ≡ numbers.old.entries) }
 {

@@ -48,7 +48,7 @@ fn push_light(text: &mut String) -> Result<(), NoMemory>
     Ok(())
 }
 
-/// The same where the screen is dark.
+/// The style of a picture where the screen is dark.
 fn push_dark(text: &mut String) -> Result<(), NoMemory>
     ensures { OnOk result (string_bytes text.new ≡ string_bytes text.old ++ dark) }
 {

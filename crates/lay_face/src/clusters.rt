@@ -123,7 +123,8 @@ impl Face {
         with_spacings(advance, word, setting.letter)
     }
 
-    /// The same of a character that is neither a space nor a linefeed (CSS 2.2, 16.4): its advance and `letter-spacing`.
+    /// The width of a character of ASCII that is neither a space nor a linefeed (CSS 2.2, 16.4), in 1/64 px: its advance and
+    /// `letter-spacing`.
     pub fn letter_width(&self, byte: u8, setting: Setting) -> Unit
         requires ascii { byte < 128 }
         requires space { byte ≢ 32 }

@@ -11,7 +11,7 @@ use lay_style::{
     VerticalAlign, Visibility, WhiteSpace, ZIndex,
 };
 
-/// The same value on each side.
+/// One value on each side.
 fn all_sides<T: Copy>(v: T) -> Edges<T>
     ensures { result ≡ all_sides v }
 {

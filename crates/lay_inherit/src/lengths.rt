@@ -246,7 +246,7 @@ fn one_spacing_of(font: Unit, given: OneLength) -> Unit
     }
 }
 
-/// The same spacing both ways.
+/// One spacing both ways.
 fn even_spacing(one: Unit) -> BorderSpacing
     ensures { result ≡ record { horizontal = one; vertical = one } }
 {

@@ -14,8 +14,8 @@ use crate::line::{Line, Sheet};
 use crate::line_piece::{LinePiece, LinePieceList};
 use crate::open_boxes::pass;
 use crate::slices::{back, front};
-use lay_lines::{Ended, next_frame};
 use lay_lines::content::{Frame, InlineArea, LineContent, Stretch};
+use lay_lines::{Ended, next_frame};
 use lay_units::{NoMemory, Unit};
 use std::alloc::Global;
 

@@ -36,7 +36,7 @@ pub fn inline_segments(
     segments(alloc, items.as_slice())
 }
 
-/// The same before it is cut.
+/// The items of a container with the widths of their texts, before they are cut into segments.
 pub fn measured_items(
     alloc: Global,
     boxes: &[BoxNode],

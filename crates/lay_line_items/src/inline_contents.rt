@@ -94,7 +94,7 @@ impl InlineContents {
         }
     }
 
-    /// The same, shared.
+    /// The content, shared: nothing is copied.
     pub fn share(&self) -> Result<InlineContents, NoMemory>
         ensures { IfOk result (λ c. c ≡ self.now) }
     {

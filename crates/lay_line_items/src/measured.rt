@@ -101,7 +101,7 @@ pub fn text_widths(
     gathered(alloc, bytes, widths.as_slice())
 }
 
-/// The same where a look at the characters says that white space processing leaves the text as it is.
+/// The widths of a text, where a look at its characters says that white space processing leaves it as it is.
 pub fn clean_widths(
     alloc: Global,
     face: &Face,

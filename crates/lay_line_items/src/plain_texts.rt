@@ -34,7 +34,7 @@ pub fn plain_gathered(
     Ok(WidthList::new(out))
 }
 
-/// The same of any text, where a look at its characters says that white space processing leaves it as it is.
+/// The widths of the grapheme clusters of any text, where a look at its characters says that white space processing leaves it as it is.
 pub fn clean_gathered(
     alloc: Global,
     face: &Face,

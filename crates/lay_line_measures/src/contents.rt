@@ -37,7 +37,7 @@ pub fn line_content(
     Ok(content_with(measures, container, stretches))
 }
 
-/// The same of a container that has these items, as white space processing left them, with the widths of their texts.
+/// The content of the lines of a container that has these items, as white space processing left them, with the widths of their texts.
 pub fn line_content_of_items(
     alloc: Global,
     measures: &BoxMeasures<'_>,

@@ -70,7 +70,7 @@ impl Reach {
         }
     }
 
-    /// The same stretches, in the room that these floats leave.
+    /// The reach of these stretches, in the room that these floats leave.
     pub(crate) fn in_room(self, floats: &Floats, line: &Line<'_>) -> Reach
         requires pen { IsPen line.now.frame line.now.stretches.now self }
         requires rooms { RoomsFit line.now.frame floats.now line.now.stretches.now }

@@ -93,7 +93,7 @@ pub(crate) fn split_part(text: &[u8]) -> Part<'_>
     }
 }
 
-/// The same, where inner braces may stand: they are counted.
+/// The part at the front of a text where inner braces may stand: they are counted.
 fn split_nested(text: &[u8]) -> Part<'_>
     ensures part { result.text.now ≡ part_to 0 (block_to 0 text.now) }
     ensures last { result.is_last ≡ true → (behind_part 0 (block_to 0 text.now) ≡ []) × (result.rest.now ≡ behind_block 0 text.now) }

@@ -20,4 +20,7 @@ pub use sizing::{
     BoxSizes, ContainingBlock, NO_SIZES, WidthRule, border_width, box_sizes, content_block,
     height_of, max_height_of, min_height_of, widths_beside, with_width,
 };
-pub use used_lengths::{block_of, edge_of, edges_of, or_zero, used_height, used_limit, used_margin, used_max_height, used_min_height, used_size, used_vertical_margin, used_width};
+pub use used_lengths::{
+    block_of, edge_of, edges_of, or_zero, used_height, used_limit, used_margin, used_max_height,
+    used_min_height, used_size, used_vertical_margin, used_width,
+};

@@ -111,7 +111,7 @@ impl TableBounds {
         TableBounds::new(alloc, columns, self.captions)
     }
 
-    /// The same, shared.
+    /// The bounds, shared: none is copied.
     pub fn share(&self) -> Result<TableBounds, NoMemory>
         ensures { IfOk result (λ t. t ≡ self.now) }
     {

@@ -17,7 +17,8 @@ pub fn least_content(grid: &TableGrid, bounds: &[Bound]) -> Result<Unit, NoMemor
     sum(minimums(bounds)?, spaces(grid)?)
 }
 
-/// The same at their maximums.
+/// How wide columns with these bounds are together at their maximums, with the spacings beside them, in 1/64 px. NoMemory is the answer
+/// where that isn't within 2^63 units, as it is in a document within its limits.
 pub fn greatest_content(grid: &TableGrid, bounds: &[Bound]) -> Result<Unit, NoMemory>
     ensures { IfOk result (λ v. v.0 ≡ greatest_content grid.now bounds.now) }
 {

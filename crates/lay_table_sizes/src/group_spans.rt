@@ -24,7 +24,7 @@ pub fn group_spans(
     spans_of(alloc, boxes, &groups)
 }
 
-/// The same where it is known what each column stands in.
+/// The spans of the column groups, where it is known what each column stands in.
 fn spans_of(alloc: Global, boxes: &[BoxNode], groups: &[usize]) -> Result<Vec<GroupSpan>, NoMemory>
     requires { length groups.now < 2 ^ 32 }
     ensures { IfOk result (λ v. v.items ≡ spans_from boxes.now 0 None groups.now) }

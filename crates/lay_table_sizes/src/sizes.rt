@@ -82,7 +82,7 @@ impl TableSizes {
         }
     }
 
-    /// The same, shared.
+    /// The sizes, shared: none is copied.
     pub fn share(&self) -> Result<TableSizes, NoMemory>
         ensures { IfOk result (λ t. t ≡ self.now) }
     {

@@ -37,7 +37,7 @@ pub(crate) fn root_inputs(
     all_roots(alloc, medium, values, cell)
 }
 
-/// The same of a context without anonymous tables and cells, whose own box is its only root.
+/// What the root of a context without anonymous tables and cells is given: it is the only one.
 fn only_root(
     alloc: Global,
     medium: &Medium,
@@ -66,7 +66,7 @@ fn only_root(
     Ok(roots)
 }
 
-/// The same of any context, root by root.
+/// What each root of any context is given, one after another.
 fn all_roots(
     alloc: Global,
     medium: &Medium,

@@ -9,9 +9,9 @@ ghost use Rattle.lay_shape.specs.Touched.TouchedContexts.{IsUntouched, IsUntouch
 ghost use Rattle.lay_shape.specs.Touched.TouchedKeys.{AreTouchedKeys, AreTouchedKeysTo, keys_of};
 
 use crate::CellKey;
+use crate::needs::node_of;
 use crate::touched::measured_contexts::MeasuredContexts;
 use crate::touched::numbers_by_node::{number_of, numbers_by_node};
-use crate::needs::node_of;
 use lay_context::Phase;
 use lay_contexts::Contexts;
 use lay_doc::NodeId;
