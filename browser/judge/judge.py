@@ -26,7 +26,7 @@ from verdict_page import FOLDER, page
 ROOT = FOLDER.parent.parent
 # What of our own takes part in documents with these tags, so that nobody is accused by them (docs/DECISIONS.md).
 CHOICES = {
-    'table-auto': 'every table has the fixed layout', 'table-auto-width': 'every table has the fixed layout',
+    'table-auto': 'the automatic layout of tables (17.5.2.2)', 'table-auto-width': 'the automatic layout of tables (17.5.2.2)',
     'table': 'widths of tables and heights of their rows', 'abs-static-position': 'static positions of absolute boxes',
     'clear': 'clearance', 'inline-block': 'baselines of inline-blocks', 'mixed-fonts': 'one face for the document',
     'quirks-source': 'no quirks', 'br': 'how a line break is told', 'webkit-align': 'alignment of blocks',
