@@ -1,5 +1,5 @@
 // A line a page: as words on the screen, and as JSON that other commands read.
-import { mkdirSync, readFileSync, writeFileSync } from 'node:fs';
+import { existsSync, mkdirSync, readFileSync, writeFileSync } from 'node:fs';
 import { join as path } from 'node:path';
 import { frozenOf, shortly } from './judge.mjs';
 import { indexPage } from './index_page.mjs';
@@ -14,6 +14,13 @@ export function lineOf(result) {
   const first = differences.filter(({ innermost }) => innermost).slice(0, FIRST);
   return { ...rest, warnings: Object.fromEntries(warnings.map(({ what, count }) => [what, count])),
     first: first.map(({ node, kind, selector, browser, lay, rules }) => ({ node, kind, selector, browser, lay, rules })) };
+}
+// What a run that ended early wrote of the same pages, but for those that failed. A last line that was cut off counts for nothing.
+export function keptLines(file, head) {
+  if (!existsSync(file)) return [];
+  const [first, ...results] = readFileSync(file, 'utf8').split('\n').slice(0, -1).map(line => JSON.parse(line));
+  if (first && JSON.stringify(first) !== JSON.stringify(head)) throw new Error(`${file} is of other pages, widths or another browser`);
+  return results.filter(({ verdict }) => verdict !== 'failed');
 }
 export function sayPage(result) {
   const { blocks, texts, inlines, verdict } = result, at = `${result.name} (${result.width} px${result.mode ? ', ' + result.mode : ''})`;

@@ -1,9 +1,9 @@
 // Judges all pages of a shard, some at a time, and writes what is asked for.
-import { mkdirSync, openSync, writeFileSync, writeSync, closeSync } from 'node:fs';
+import { mkdirSync, openSync, renameSync, writeFileSync, writeSync, closeSync } from 'node:fs';
 import { join } from 'node:path';
 import { Opener } from './opening.mjs';
 import { judge } from './judge.mjs';
-import { headOf, lineOf, sayPage, sayTotal } from './lines.mjs';
+import { headOf, keptLines, lineOf, sayPage, sayTotal } from './lines.mjs';
 import { resultPage } from './result_page.mjs';
 import { indexPage } from './index_page.mjs';
 
@@ -52,14 +52,21 @@ async function inTurns(jobs, tasks, work) {
   const worker = async () => { while (next < tasks.length) { const task = tasks[next++]; await work(task); } };
   await Promise.all(Array.from({ length: Math.min(jobs, Math.max(1, tasks.length)) }, worker));
 }
+// The file of lines, opened behind its head and what is kept of a run before.
+function startLines(file, head, kept) {
+  writeFileSync(file + '.new', [head, ...kept].map(value => JSON.stringify(value) + '\n').join(''));
+  renameSync(file + '.new', file);
+  return openSync(file, 'a');
+}
+const keyOf = ({ page, width }) => `${width} ${page}`;
 export async function judgeAll(options, tasks) {
-  const browsers = starter(options), results = [];
+  const browsers = starter(options), lines = options.lines || options.out && join(options.out, 'pages.jsonl');
+  const head = headOf(options, tasks.length), results = options.continue ? keptLines(lines, head) : [];
   if (options.out) mkdirSync(options.out, { recursive: true });
-  const lines = options.lines || options.out && join(options.out, 'pages.jsonl'), out = lines ? openSync(lines, 'w') : null;
+  const out = lines ? startLines(lines, head, results) : null, known = new Set(results.map(keyOf));
   const write = value => { if (out !== null) writeSync(out, JSON.stringify(value) + '\n'); };
-  write(headOf(options, tasks.length));
   try {
-    await inTurns(options.browser === 'firefox' ? 1 : options.jobs, tasks, async task => {
+    await inTurns(options.browser === 'firefox' ? 1 : options.jobs, tasks.filter(task => !known.has(keyOf(task))), async task => {
       const result = await judgeOne(browsers, options, task), line = lineOf(result);
       results.push(line);
       write(line);

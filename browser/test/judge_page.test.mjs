@@ -92,6 +92,23 @@ test('shards of a folder put together are the whole', { skip }, async () => {
   assert.match(lacking.stdout, /shard 2\/2 is missing/);
   assert.equal(lacking.status, 1);
 });
+test('a run that ended early goes on', { skip }, async () => {
+  const lines = join(folder, 'early.jsonl'), words = [join(pages, 'reftests'), '--lines', lines, '--width', '420'];
+  await judge(...words);
+  const whole = linesOf(lines), [head, first, second, third] = whole;
+  writeFileSync(lines, [head, { ...first, seen: 'before' }, { ...second, verdict: 'failed' }].map(value => JSON.stringify(value) + '\n').join('') +
+    JSON.stringify(third).slice(0, 50));
+  const { stdout } = await judge(...words, '--continue'), again = linesOf(lines);
+  assert.equal(again.length, whole.length);
+  assert.equal(again[1].seen, 'before');
+  assert.deepEqual(new Set(again.slice(1).map(({ page }) => page)), new Set(whole.slice(1).map(({ page }) => page)));
+  assert.ok(again.slice(1).every(({ verdict }) => verdict !== 'failed'));
+  assert.match(stdout, new RegExp(`all: ${whole.length - 1} pages`));
+  const other = await judge(...words.slice(0, -1), '500', '--continue');
+  assert.match(other.stderr, /is of other pages/);
+  assert.equal(other.status, 2);
+  assert.equal(linesOf(lines).length, whole.length);
+});
 test('a page that can\'t be opened is told, and the others are judged', { skip }, async () => {
   const empty = join(folder, 'empty.html');
   writeFileSync(empty, '');
