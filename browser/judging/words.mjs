@@ -11,10 +11,10 @@ browser/judge_page --join LINES.jsonl .. [--out FOLDER]           puts the lines
   --browser NAME     chromium or firefox (chromium)
   --out FOLDER       writes a page, a picture, JSON, the document and the report of each page, and an index
   --differing        writes those of pages that differ alone
-  --lines FILE       writes a line of JSON a page (FOLDER/pages.jsonl)
+  --lines FILE       writes a line of JSON a page, or a pair of test and reference (FOLDER/pages.jsonl)
   --continue         keeps the lines of a run that ended early, and judges the pages that have none or failed
-  --jobs N           judges N pages at a time (1)
-  --shard I/N        takes every Nth page, from the Ith on
+  --jobs N           judges N pages or pairs at a time (1)
+  --shard I/N        takes every Nth page or pair, from the Ith on
   --list FILE        takes the pages that a file names too, one a line
   --program PATH     the program \`lay\` (LAY, or what is built in crates/lay/out)
   --network          lets the browser ask for addresses that begin with http
