@@ -92,6 +92,23 @@ test('shards of a folder put together are the whole', { skip }, async () => {
   assert.match(lacking.stdout, /shard 2\/2 is missing/);
   assert.equal(lacking.status, 1);
 });
+test('a run that ended early goes on', { skip }, async () => {
+  const lines = join(folder, 'early.jsonl'), words = [join(pages, 'reftests'), '--lines', lines, '--width', '420'];
+  await judge(...words);
+  const whole = linesOf(lines), [head, first, second, third] = whole;
+  const kept = [head, { ...first, seen: 'before' }, { ...second, verdict: 'failed' }].map(value => JSON.stringify(value) + '\n');
+  writeFileSync(lines, kept.join('') + JSON.stringify(third).slice(0, 50));
+  const { stdout } = await judge(...words, '--continue'), again = linesOf(lines);
+  assert.equal(again.length, whole.length);
+  assert.equal(again[1].seen, 'before');
+  assert.deepEqual(new Set(again.slice(1).map(({ page }) => page)), new Set(whole.slice(1).map(({ page }) => page)));
+  assert.ok(again.slice(1).every(({ verdict }) => verdict !== 'failed'));
+  assert.match(stdout, new RegExp(`all: ${whole.length - 1} pages`));
+  const other = await judge(...words.slice(0, -1), '500', '--continue');
+  assert.match(other.stderr, /is of other pages/);
+  assert.equal(other.status, 2);
+  assert.equal(linesOf(lines).length, whole.length);
+});
 test('a page that can\'t be opened is told, and the others are judged', { skip }, async () => {
   const empty = join(folder, 'empty.html');
   writeFileSync(empty, '');
@@ -102,8 +119,29 @@ test('a page that can\'t be opened is told, and the others are judged', { skip }
 test('tests with references', { skip }, async () => {
   const { status, stdout } = await judge('--reftest', join(pages, 'reftests'));
   assert.equal(status, 0, stdout);
-  assert.match(stdout, /6 pairs: 6 pass/);
+  assert.match(stdout, /all: 6 pairs, 6 pass/);
+  const two = await judge('--reftest', ...['margins.html', 'float-beside.html'].map(name => join(pages, 'reftests', name)));
+  assert.match(two.stdout, /all: 2 pairs, 2 pass/);
+  const parts = [];
+  for (const place of [1, 2]) {
+    parts.push(join(folder, `pairs${place}.jsonl`));
+    await judge('--reftest', join(pages, 'reftests'), '--shard', `${place}/2`, '--lines', parts[place - 1], '--jobs', '2');
+  }
+  const joined = await judge('--join', ...parts);
+  assert.match(joined.stdout, /all: 6 pairs, 6 pass/);
+  assert.equal(joined.status, 0, joined.stdout);
+  const lacking = await judge('--join', parts[1]);
+  assert.match(lacking.stdout, /shard 1\/2 is missing/);
+  assert.equal(lacking.status, 1);
   const other = await judge('--reftest', join(pages, 'reftests', 'margins.html'), join(pages, 'reftests', 'covered-ref.html'));
   assert.equal(other.status, 1);
   assert.match(other.stdout, /fails: \d+ places differ/);
+});
+test('a test that goes on after loading is waited for', { skip }, async () => {
+  const plain = join(folder, 'plain.html'), late = join(folder, 'late.html'), head = '<!doctype html><meta charset=utf-8><body><p>';
+  writeFileSync(plain, `${head}one</p>`);
+  writeFileSync(late, `${head}two</p><script>document.documentElement.className = 'reftest-wait';
+    setTimeout(() => { document.querySelector('p').textContent = 'one'; document.documentElement.className = ''; }, 800)</script>`);
+  const { status, stdout } = await judge('--reftest', late, plain);
+  assert.equal(status, 0, stdout);
 });
