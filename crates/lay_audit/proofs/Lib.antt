@@ -1,5 +1,6 @@
 pub mod CheckLemmas
 mod LineFacts
+mod LineCounts
 mod VerdictLaws
 mod Fronts
 mod NextEntries
@@ -16,4 +17,5 @@ mod Judging
 mod Numbers
 mod Rooms
 mod Taking
+mod LegalThere
 pub mod OnlyReplies
