@@ -1,6 +1,5 @@
 pub mod CheckLemmas
 mod LineFacts
-mod LineCounts
 mod VerdictLaws
 mod Fronts
 mod NextEntries
@@ -17,5 +16,4 @@ mod Judging
 mod Numbers
 mod Rooms
 mod Taking
-mod LegalThere
 pub mod OnlyReplies
