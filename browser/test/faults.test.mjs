@@ -20,6 +20,7 @@ const PAGES = [
   ['negative_lengths', {}],
   ['inline_parts', {}],
   ['tabs', {}],
+  ['full_lines', { [FROZEN_TABLE]: 1 }],
 ];
 const url = name => new URL(`pages/${name}.html`, import.meta.url).href;
 
