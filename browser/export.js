@@ -68,6 +68,9 @@
     'font-family', 'font-weight', 'font-style', 'font-stretch', 'font-variant', 'font-kerning', 'font-feature-settings', 'text-transform',
     'column-count', 'column-width', 'list-style-position', 'list-style-type', 'word-break', 'overflow-wrap', 'aspect-ratio', 'tab-size'],
   SIDES.map(side => `border-${side}-width`));
+  // What is read again of a hidden root, where it is a computed value and not a used one.
+  const READ_AGAIN = READ.filter(name => /^(width|height|(min|max)-|margin-|padding-|top$|right$|bottom$|left$|display|position|float|clear|z-index)/
+    .test(name) || /^(line-height|text-indent|vertical-align|(letter|word|border)-spacing|column-|aspect-ratio|overflow)/.test(name));
   const FONT = ['font-style', 'font-variant', 'font-weight', 'font-stretch', 'font-family', 'font-kerning', 'font-feature-settings'];
 
   // ---- Numbers ------------------------------------------------------------------------------------------------------------
@@ -156,9 +159,9 @@
       warn(job, 'limited quirks mode (lines without text of their own have no strut)', job.root);
     }
   }
-  function readStyle(job, element, pseudo) {
-    const style = job.win.getComputedStyle(element, pseudo), answer = {};
-    for (const property of READ) answer[property] = style.getPropertyValue(property);
+  function readStyle(job, element, pseudo, properties = READ, answer = {}) {
+    const style = job.win.getComputedStyle(element, pseudo);
+    for (const property of properties) answer[property] = style.getPropertyValue(property);
     return answer;
   }
   // A client rectangle of an item on the page, as if nothing were scrolled.
@@ -713,7 +716,7 @@
   function readComputed(job) {
     withStyle(job.root, { display: 'none' }, () => {
       for (const item of job.items) if (item.used) {
-        item.computed = item.wrapper ? item.used : readStyle(job, item.element, item.pseudo);
+        item.computed = item.wrapper ? item.used : readStyle(job, item.element, item.pseudo, READ_AGAIN, { ...item.used });
         if (item.element === job.root && !item.pseudo) item.computed.display = item.used.display;
         const number = job.measured || !/px$/.test(item.computed['line-height']) ? null : lineHeightNumber(item);
         if (number !== null) item.lineNumber = numberText(number);
@@ -906,8 +909,10 @@
     style['margin-left'] = pixelText(left);
     warn(job, 'align=center of a block (frozen as a margin)', at);
   }
+  const barWidth = ({ element, used }) =>
+    element.offsetWidth - element.clientWidth - float(used['border-left-width']) - float(used['border-right-width']);
   function putOverflow(making) {
-    const { job, item, computed, used, at } = making;
+    const { job, item, computed, at } = making;
     if (making.isReplaced) return;
     const both = [computed['overflow-x'], computed['overflow-y']];
     let value = both.find(word => /^(hidden|scroll|auto|overlay|clip)$/.test(word)) || 'visible';
@@ -915,8 +920,7 @@
     if (value === 'overlay') value = 'auto';
     const ofViewport = item.element.localName === 'body' && item.up && item.up.computed['overflow-x'] === 'visible';
     if (making.isRoot || ofViewport && !item.wrapper) value = 'visible';
-    const bar = item.element.offsetWidth - item.element.clientWidth - float(used['border-left-width']) - float(used['border-right-width']);
-    if (value !== 'visible' && /scroll|auto/.test(value) && bar > 1 && !item.pseudo) warn(job, 'scroll bar that takes room', at);
+    if (/scroll|auto/.test(value) && !item.pseudo && barWidth(item) > 1) warn(job, 'scroll bar that takes room', at);
     if (item.emptied) making.overflow = 'hidden';
     put(making, 'overflow', value === 'visible' && making.overflow || value);
   }
