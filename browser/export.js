@@ -325,6 +325,8 @@
     job.range.selectNodeContents(node.firstChild);
     return job.range.getBoundingClientRect();
   }
+  // So many spaces are measured together: browsers round the width of a text to units.
+  const SPACES = 16;
   // A font's measures at a size: one line with a mark at its baseline, and one of text alone with the line height.
   function probeFont(job, used, size, lineHeight) {
     const font = FONT.map(name => `${name}:${used[name]}`).join(';') + `;font-size:${size}`, key = font + lineHeight;
@@ -332,7 +334,7 @@
     const plain = 'all:initial;white-space:pre;' + font, spaced = plain + ';line-height:' + lineHeight;
     const first = makeNode(job, 'div', plain + ';display:block'), second = makeNode(job, 'div', spaced + ';display:block');
     const text = makeNode(job, 'span', plain, 'xx'), mark = makeNode(job, 'span', 'all:initial;display:inline-block;width:0;height:0');
-    const parted = makeNode(job, 'span', plain, 'x x'), alone = makeNode(job, 'span', spaced, 'xx');
+    const parted = makeNode(job, 'span', plain, `x${' '.repeat(SPACES)}x`), alone = makeNode(job, 'span', spaced, 'xx');
     const ex = makeNode(job, 'span', plain + ';display:inline-block;height:0;width:1ex');
     const [lowered, raised] = ['sub', 'super'].map(word =>
       makeNode(job, 'span', 'all:initial;display:inline-block;width:0;height:0;vertical-align:' + word));
@@ -341,7 +343,7 @@
     const baseline = mark.getBoundingClientRect().bottom, ascent = baseline - textRect.top;
     const probe = { sub: baseline - lowered.getBoundingClientRect().bottom, super: baseline - raised.getBoundingClientRect().bottom,
       ascent, content: textRect.height, above: aloneRect.top - line.top + ascent, line: line.height,
-      space: contentRect(job, parted).width - textRect.width, ex: ex.getBoundingClientRect().width };
+      space: (contentRect(job, parted).width - textRect.width) / SPACES, ex: ex.getBoundingClientRect().width };
     first.remove(); second.remove(); job.probes.set(key, probe);
     return probe;
   }

@@ -40,7 +40,8 @@ test('a page that differs: JSON, a page with both rectangles, and status 1', { s
   assert.equal(status, 1);
   assert.match(stdout, /texts 2 of 3.*1 other warning/);
   assert.equal(result.verdict, 'differs');
-  const [difference] = result.differences.filter(({ innermost }) => innermost);
+  const [difference] = result.differences;
+  assert.ok(difference.begins && difference.innermost);
   assert.equal(difference.selector, '#moved');
   assert.equal(difference.browser[0][0] - difference.lay[0][0], 9 * 64);
   assert.deepEqual(result.warnings[0].places.map(({ selector }) => selector), ['#moved']);
