@@ -1133,10 +1133,21 @@
     if (!job.options.rects || !item.rects || !item.rects.length) return;
     job.rects[item.id] = item.rects.map(rect => rect.map(value => Math.round(value * 64 * 16) / 16));
   }
+  // What a replaced element shows, as a text: its address, what was drawn on it, or its own markup.
+  function sourceOf(element) {
+    const address = element.currentSrc || element.src;
+    if (address) return `${element.localName} ${address}`;
+    const copy = element.cloneNode(true);
+    if (element.localName === 'canvas') {
+      try { return element.toDataURL() === copy.toDataURL() ? '' : element.toDataURL(); } catch { return 'a canvas that can\'t be read'; }
+    }
+    for (const name of ['id', 'class', 'style']) copy.removeAttribute(name);
+    return copy.outerHTML;
+  }
   function savePaint(job, item) {
     if (!job.options.paint || item.wrapper) return;
     const style = job.win.getComputedStyle(item.element, item.pseudo || null), { element } = item;
-    const source = item.kind === 'replaced' ? `${element.localName} ${element.currentSrc || element.src || element.outerHTML}` : '';
+    const source = item.kind === 'replaced' ? sourceOf(element) : '';
     job.paint[item.id] = { background: style.backgroundColor, image: style.backgroundImage,
       borders: SIDES.map(side => style.getPropertyValue(`border-${side}-color`)),
       color: style.color, opacity: style.opacity, outline: style.outlineStyle === 'none' ? '' :
