@@ -25,8 +25,8 @@ function dataOf(result, answer, report) {
 function differenceRow({ node, kind, selector, tag, browser, lay, near, inParent, begins, rules }) {
   const links = rules.map(anchor => `<a href="${escaped(BROWSERS)}#${anchor}">${escaped(titleOf(anchor))}</a>`).join(', ');
   const words = [near ? 'within 1 px' : '', inParent ? 'right in its parent' : ''].filter(Boolean).join(', ');
-  return `<tr data-node="${node}"${begins ? ' class="begins"' : ''}><td>${node}</td><td title="${escaped(selector)}">${escaped(tag || kind)}<br>` +
-    `<small>${escaped(words)}</small>${links ? `<br><small>see ${links}</small>` : ''}</td><td>${place(lay)}</td><td>${place(browser)}</td></tr>`;
+  return `<tr data-node="${node}"${begins ? ' class="begins"' : ''}><td>${node}</td><td title="${escaped(selector)}">${escaped(tag || kind)}` +
+    `${words ? `<br><small>${escaped(words)}</small>` : ''}${links ? `<br><small>see ${links}</small>` : ''}</td><td>${place(lay)}</td><td>${place(browser)}</td></tr>`;
 }
 // The differences, first those that no other one explains.
 function differenceTable(differences) {
