@@ -8,10 +8,10 @@ import { share, totalOf } from './totals.mjs';
 const FIRST = 10;
 export const headOf = (options, pages) => ({ shard: options.shard || '1/1', pages, of: options.whole, widths: options.widths,
   browser: options.browser, ...(options.reftest ? { reftest: true } : {}) });
-// What a line keeps of a result: the counts, the kinds of warnings, and the first innermost differences.
+// What a line keeps of a result: the counts, the kinds of warnings, and the first places where differences begin.
 export function lineOf(result) {
   const { differences, warnings, ...rest } = result;
-  const first = differences.filter(({ innermost }) => innermost).slice(0, FIRST);
+  const first = differences.filter(({ begins }) => begins).slice(0, FIRST);
   return { ...rest, warnings: Object.fromEntries(warnings.map(({ what, count }) => [what, count])),
     first: first.map(({ node, kind, selector, browser, lay, rules }) => ({ node, kind, selector, browser, lay, rules })) };
 }

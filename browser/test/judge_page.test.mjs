@@ -1,17 +1,20 @@
 // The command: its words, its lines, its pages, shards, tests with references.
 import { test } from 'node:test';
 import assert from 'node:assert/strict';
-import { execFile, spawnSync } from 'node:child_process';
+import { execFile } from 'node:child_process';
 import { existsSync, mkdtempSync, readFileSync, rmSync, writeFileSync } from 'node:fs';
 import { tmpdir } from 'node:os';
 import { join } from 'node:path';
 import { pathToFileURL } from 'node:url';
 import { Chromium } from './chromium.mjs';
+import { installed } from './installed.mjs';
 import { TITLES } from '../judging/rules.mjs';
 
 const command = new URL('../judge_page', import.meta.url).pathname, pages = new URL('pages/', import.meta.url).pathname;
-const chromium = process.env.CHROMIUM || 'chromium', skip = spawnSync(chromium, ['--version'], { timeout: 20000 }).status !== 0;
-const judge = (...words) => new Promise(done => execFile(process.execPath, [command, ...words], { timeout: 300000, maxBuffer: 1 << 26 },
+const skip = !installed(process.env.CHROMIUM || 'chromium');
+// How long one command may take, in milliseconds.
+const LIMIT = Math.max(300, 10 * Number(process.env.LAY_SECONDS || 0)) * 1000;
+const judge = (...words) => new Promise(done => execFile(process.execPath, [command, ...words], { timeout: LIMIT, maxBuffer: 1 << 26 },
   (error, stdout, stderr) => done({ status: error ? error.code : 0, stdout, stderr })));
 const folder = mkdtempSync(join(tmpdir(), 'lay-test-judge-'));
 process.on('exit', () => rmSync(folder, { recursive: true, force: true }));
@@ -40,7 +43,8 @@ test('a page that differs: JSON, a page with both rectangles, and status 1', { s
   assert.equal(status, 1);
   assert.match(stdout, /texts 2 of 3.*1 other warning/);
   assert.equal(result.verdict, 'differs');
-  const [difference] = result.differences.filter(({ innermost }) => innermost);
+  const [difference] = result.differences;
+  assert.ok(difference.begins && difference.innermost);
   assert.equal(difference.selector, '#moved');
   assert.equal(difference.browser[0][0] - difference.lay[0][0], 9 * 64);
   assert.deepEqual(result.warnings[0].places.map(({ selector }) => selector), ['#moved']);
