@@ -3,7 +3,6 @@
 ghost use Rattle.std.specs.Prelude.{◌≡◌, ◌≤◌, ◌^◌, IfOk, is_some, length, option_map};
 ghost use Rattle.lay_history.specs.Histories.{accepted as accepted_in, is_published};
 ghost use Rattle.lay_history.specs.Trees.{tree_at};
-ghost use Rattle.lay_core.specs.CoreLaws.ReachedCores.{IsReached};
 ghost use Rattle.lay_core.specs.State.{IsCore};
 ghost use Rattle.lay_core.specs.Steps.{IsNewCore};
 
@@ -33,7 +32,6 @@ pub struct Core {
 
 impl Model for Core {
     ghost use Rattle.std.specs.Prelude.{vec_capacity};
-    ghost use Rattle.lay_core.specs.CoreLaws.ReachedCores.{IsReached};
     ghost use Rattle.lay_core.specs.State.{HasNumbers, IsKept, State};
 
     ghost Value = { State };
@@ -60,7 +58,7 @@ impl Model for Core {
           calls_left = c.calls_left;
           laid = c.cells.laid;
         } in
-        IsKept s c.accepted (vec_capacity c.history) × HasNumbers s × IsReached s.init s.face s };
+        IsKept s c.accepted (vec_capacity c.history) × HasNumbers s };
 }
 
 impl Core {
@@ -103,11 +101,10 @@ impl Core {
         &self.trees
     }
 
-    /// The history. Whatever calls came, each call led on from a core that calls led to, so the laws of `core_laws` hold of this one.
+    /// The history.
     pub fn history(&self) -> &[Entry]
         ensures value { result.now ≡ self.now.history }
         ensures core { IsCore self.now }
-        ensures reached { IsReached self.now.init self.now.face self.now }
     {
         &self.history
     }
