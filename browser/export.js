@@ -68,6 +68,9 @@
     'font-family', 'font-weight', 'font-style', 'font-stretch', 'font-variant', 'font-kerning', 'font-feature-settings', 'text-transform',
     'column-count', 'column-width', 'list-style-position', 'list-style-type', 'word-break', 'overflow-wrap', 'aspect-ratio', 'tab-size'],
   SIDES.map(side => `border-${side}-width`));
+  // What is read again of a hidden root, where it is a computed value and not a used one.
+  const READ_AGAIN = READ.filter(name => /^(width|height|(min|max)-|margin-|padding-|top$|right$|bottom$|left$|display|position|float|clear|z-index)/
+    .test(name) || /^(line-height|text-indent|vertical-align|(letter|word|border)-spacing|column-|aspect-ratio|overflow)/.test(name));
   const FONT = ['font-style', 'font-variant', 'font-weight', 'font-stretch', 'font-family', 'font-kerning', 'font-feature-settings'];
 
   // ---- Numbers ------------------------------------------------------------------------------------------------------------
@@ -156,9 +159,9 @@
       warn(job, 'limited quirks mode (lines without text of their own have no strut)', job.root);
     }
   }
-  function readStyle(job, element, pseudo) {
-    const style = job.win.getComputedStyle(element, pseudo), answer = {};
-    for (const property of READ) answer[property] = style.getPropertyValue(property);
+  function readStyle(job, element, pseudo, properties = READ, answer = {}) {
+    const style = job.win.getComputedStyle(element, pseudo);
+    for (const property of properties) answer[property] = style.getPropertyValue(property);
     return answer;
   }
   // A client rectangle of an item on the page, as if nothing were scrolled.
@@ -322,6 +325,8 @@
     job.range.selectNodeContents(node.firstChild);
     return job.range.getBoundingClientRect();
   }
+  // So many spaces are measured together: browsers round the width of a text to units.
+  const SPACES = 16;
   // A font's measures at a size: one line with a mark at its baseline, and one of text alone with the line height.
   function probeFont(job, used, size, lineHeight) {
     const font = FONT.map(name => `${name}:${used[name]}`).join(';') + `;font-size:${size}`, key = font + lineHeight;
@@ -329,7 +334,7 @@
     const plain = 'all:initial;white-space:pre;' + font, spaced = plain + ';line-height:' + lineHeight;
     const first = makeNode(job, 'div', plain + ';display:block'), second = makeNode(job, 'div', spaced + ';display:block');
     const text = makeNode(job, 'span', plain, 'xx'), mark = makeNode(job, 'span', 'all:initial;display:inline-block;width:0;height:0');
-    const parted = makeNode(job, 'span', plain, 'x x'), alone = makeNode(job, 'span', spaced, 'xx');
+    const parted = makeNode(job, 'span', plain, `x${' '.repeat(SPACES)}x`), alone = makeNode(job, 'span', spaced, 'xx');
     const ex = makeNode(job, 'span', plain + ';display:inline-block;height:0;width:1ex');
     const [lowered, raised] = ['sub', 'super'].map(word =>
       makeNode(job, 'span', 'all:initial;display:inline-block;width:0;height:0;vertical-align:' + word));
@@ -338,7 +343,7 @@
     const baseline = mark.getBoundingClientRect().bottom, ascent = baseline - textRect.top;
     const probe = { sub: baseline - lowered.getBoundingClientRect().bottom, super: baseline - raised.getBoundingClientRect().bottom,
       ascent, content: textRect.height, above: aloneRect.top - line.top + ascent, line: line.height,
-      space: contentRect(job, parted).width - textRect.width, ex: ex.getBoundingClientRect().width };
+      space: (contentRect(job, parted).width - textRect.width) / SPACES, ex: ex.getBoundingClientRect().width };
     first.remove(); second.remove(); job.probes.set(key, probe);
     return probe;
   }
@@ -475,7 +480,15 @@
     const used = item.up.used, pre = /^(pre|nowrap)$/.test(used['white-space']);
     return { job, item, used, data: item.data, fontSize: item.up.fontSize, letter: lengthUnits(used['letter-spacing']),
       space: item.up.spaceWidth, breaks: pre ? null : item.breaks || new Set(), everywhere: /break-all/.test(used['word-break']), pre,
+      edge: pre ? null : lineEdge(job, item),
       out: [], next: 0, top: null, left: 0, right: 0, written: 0, solid: false, last: null, lastOfLine: null, end: null, isFresh: true };
+  }
+  // Where lines end on the right, without floats, in px of the window; null where that isn't known.
+  function lineEdge(job, item) {
+    const block = item.group && item.group.block;
+    if (!block || !block.rect || item.made) return null;
+    return block.rect[0] + block.rect[2] - float(block.used['border-right-width']) - float(block.used['padding-right']) - job.scrollX -
+      item.scrolled[0];
   }
   function rectBetween(pen, from, to) {
     if (pen.item.made) return null;
@@ -501,16 +514,33 @@
     startLine(pen, rect);
   }
   const restOf = (pen, rect) => (rect.right - pen.left) * 64 - pen.letter - pen.written;
+  // Browsers round the widths of texts up: a line may be 1/32 px wider than there is room for. By how much a character that is `units`
+  // wide would pass the edge so.
+  function pastEdge(pen, units) {
+    const over = pen.edge === null ? 0 : Math.ceil((pen.left - pen.edge) * 64 + pen.written + units + pen.letter - 0.05);
+    return over > 0 && over <= 2 ? over : 0;
+  }
   // Writes a character that is `want` units wide. A word isn't made wider than it is: frozen boxes hold it exactly.
   function emit(pen, want) {
     let advance = nearestAdvance(Math.max(0, Math.round(want)), pen.fontSize);
     const ends = pen.next >= pen.data.length || /[\s\u00a0]/.test(pen.data[pen.next]);
-    if (ends && !pen.item.made) while (advance > 0 && scaled(advance, pen.fontSize) > want + 0.05) advance--;
+    if (ends && !pen.item.made) {
+      const most = want - pastEdge(pen, scaled(advance, pen.fontSize));
+      while (advance > 0 && scaled(advance, pen.fontSize) > most + 0.05) advance--;
+    }
     const units = scaled(advance, pen.fontSize);
-    pen.last = pen.lastOfLine = { at: pen.out.length, units };
     pen.written += units + pen.letter;
+    pen.last = pen.lastOfLine = { at: pen.out.length, units, reached: pen.left * 64 + pen.written };
     pen.out.push(codeOf(pen.job, advance));
     pen.solid = true;
+  }
+  // Gives a character that was written another advance; answers by how much it is wider.
+  function rewrite(pen, written, advance) {
+    const more = scaled(advance, pen.fontSize) - written.units;
+    pen.out[written.at] = codeOf(pen.job, advance);
+    written.units += more;
+    written.reached += more;
+    return more;
   }
   // A place where a line may be broken: `lay` gives its character the letter spacing too.
   function writeBreakPlace(pen) { pen.out.push('\u200b'); pen.written += pen.letter; }
@@ -526,15 +556,15 @@
     if (cluster === '\u00a0' && pen.solid && pen.breaks && pen.breaks.has(from)) writeBreakPlace(pen);
     pen.solid = cluster === '\u00a0';
     const rect = rectBetween(pen, from, pen.next);
-    // Nothing breaks at a space of `pre`: it becomes a character of its width. So does a tab, which would count the face's spaces;
-    // with `pre-wrap` a line may break behind it.
-    const pre = pen.used['white-space'], kept = cluster === '\t' ? /^(pre|pre-wrap|break-spaces)$/.test(pre) : cluster === ' ' &&
-      pre === 'pre';
-    if (kept && rect) {
-      toLineOf(pen, rect);
-      emit(pen, restOf(pen, rect));
-      pen.end = rect;
-      if (pre !== 'pre') { writeBreakPlace(pen); pen.solid = false; }
+    // Nothing breaks at a space of `pre` and at a no-break space: it becomes a character of its width. So does a tab, which would count
+    // the face's spaces; with `pre-wrap` a line may break behind it.
+    const pre = pen.used['white-space'], kept = cluster === '\t' ? /^(pre|pre-wrap|break-spaces)$/.test(pre) : cluster === '\u00a0' ||
+      pre === 'pre' && cluster !== '\n';
+    if (kept && !pen.item.made) {
+      if (rect) toLineOf(pen, rect);
+      emit(pen, rect ? restOf(pen, rect) : 0);
+      if (rect) pen.end = rect;
+      if (cluster === '\t' && pre !== 'pre') { writeBreakPlace(pen); pen.solid = false; }
       return;
     }
     pen.out.push(cluster === '\r' || cluster === '\f' ? ' ' : cluster);         // browsers read CR as a space, CSS 2.2 as a character
@@ -548,9 +578,7 @@
     // Kerning of the space with what stands behind it goes to that character, so that it is gone where the line is broken there; at the
     // end of a text it goes to the character before.
     if (!goesOn(pen, rect) && pen.last && Math.abs(over) >= 1 && pen.last.units + over >= 0) {
-      const advance = nearestAdvance(pen.last.units + over, pen.fontSize);
-      pen.out[pen.last.at] = codeOf(pen.job, advance);
-      pen.written += scaled(advance, pen.fontSize) - pen.last.units;
+      pen.written += rewrite(pen, pen.last, nearestAdvance(pen.last.units + over, pen.fontSize));
       pen.last = null;
     }
   }
@@ -572,7 +600,7 @@
       !pen.item.up.turned && !breaks.has(from);
     if (rect) { breakBetween(pen, rect); keepBreak(pen, rect, from); pen.right = rect.right; }
     if (cut && !pen.everywhere) warn(pen.job, 'word broken inside', at);
-    if (breaks && (breaks.has(from) || pen.everywhere || cut)) writeBreakPlace(pen);
+    if (breaks && (breaks.has(from) || pen.everywhere || cut)) { endWithBreak(pen, rect); writeBreakPlace(pen); }
     if (pen.item.made) emit(pen, canvasAdvance(pen.job, pen.used, cluster) * pen.fontSize / 1000);
     else { toLineOf(pen, rect); emit(pen, restOf(pen, rect)); pen.end = rect; }
     warnOfScript(pen, cluster);
@@ -606,23 +634,46 @@
     before.item.out += '\u200b';
     warn(job, 'word broken inside', item.up.element);
   }
-  // A line that is full to less than 1 px is broken by kerning that is gone behind the break: where the word that begins a line would fit
-  // on the line before, the last character there is made so wide that it doesn't.
+  // How wide the word is that begins at a place of a text, up to where a line may be broken, in px; it goes on in the texts behind it. Null
+  // where it stands on several lines.
+  function wordWidth(job, item, from) {
+    const { parts } = item.group;
+    let width = 0;
+    for (let part = parts.findIndex(([, other]) => other === item), at = from; part < parts.length; part++, at = 0) {
+      const { data, element, breaks, made, breakAfter } = parts[part][1];
+      let to = at;
+      while (to < data.length && !/[ \t\r\n\f\u200b]/.test(data[to]) && !(to > from && breaks && breaks.has(to))) to++;
+      if (made) return width;
+      job.range.setStart(element, at); job.range.setEnd(element, to);
+      const rects = [...job.range.getClientRects()].filter(rect => rect.width > 0);
+      if (rects.length > 1) return null;
+      width += rects.length ? rects[0].width : 0;
+      if (to < data.length || breakAfter) return width;
+    }
+    return width;
+  }
+  const beginsLine = (pen, rect) => pen.top !== null && rect.top > pen.top + 0.5;
+  // A line that is full to less than 1 px is broken by kerning that is gone behind the break, and by what is rounded: where the word that
+  // begins a line could fit on the line before, the last character there is made so wide that it doesn't.
   function keepBreak(pen, rect, from) {
-    const { job, item, end, lastOfLine } = pen, block = item.group && item.group.block;
-    if (pen.top === null || rect.top <= pen.top + 0.5 || !end || !lastOfLine || pen.pre || !block || !block.rect || pen.item.made) return;
+    const { job, item, lastOfLine } = pen;
+    if (item.made || !beginsLine(pen, rect) || !pen.end || !lastOfLine || pen.edge === null) return;
     if (!/^(left|start|justify|-webkit-auto)$/.test(pen.used['text-align'])) return;
-    let to = from + 1;
-    while (to < pen.data.length && !/[ \t\r\n\f\u200b]/.test(pen.data[to]) && !(pen.breaks && pen.breaks.has(to))) to++;
-    job.range.setStart(item.element, from); job.range.setEnd(item.element, to);
-    const rects = [...job.range.getClientRects()].filter(part => part.width > 0);
-    if (rects.length !== 1) return;
-    const edge = block.rect[0] +
-      block.rect[2] - float(block.used['border-right-width']) - float(block.used['padding-right']) - job.scrollX - item.scrolled[0];
-    const space = pen.solid ? 0 : pen.space + pen.letter, left = Math.floor((edge - end.right - rects[0].width) * 64) - space;
-    if (left < 0 || left >= 64) return;
-    const advance = Math.ceil((lastOfLine.units + left + 3) * 1000 / pen.fontSize);
-    if (advance <= 10000) pen.out[lastOfLine.at] = codeOf(job, advance);
+    const word = wordWidth(job, item, from);
+    if (word === null) return;
+    // spaces that are kept are written, others are gone at the end of a line
+    const reached = /^pre|break-spaces/.test(pen.used['white-space']) ? pen.left * 64 + pen.written :
+      lastOfLine.reached + (pen.solid ? 0 : pen.space + pen.letter);
+    const left = pen.edge * 64 - reached - (word * 64 - 1.5);
+    if (left < 0 || left >= 66) return;
+    const advance = Math.ceil((lastOfLine.units + left + 1) * 1000 / pen.fontSize);
+    if (advance <= 10000) rewrite(pen, lastOfLine, advance);
+  }
+  // `lay` gives the character of a break the letter spacing too: where a line ends with one, the character before makes up for it.
+  function endWithBreak(pen, rect) {
+    const { lastOfLine, letter } = pen;
+    if (!letter || !rect || !lastOfLine || !beginsLine(pen, rect)) return;
+    rewrite(pen, lastOfLine, nearestAdvance(Math.max(0, lastOfLine.units - letter), pen.fontSize));
   }
   function rewriteText(job, item) {
     const pen = startPen(job, item);
@@ -667,7 +718,7 @@
   function readComputed(job) {
     withStyle(job.root, { display: 'none' }, () => {
       for (const item of job.items) if (item.used) {
-        item.computed = item.wrapper ? item.used : readStyle(job, item.element, item.pseudo);
+        item.computed = item.wrapper ? item.used : readStyle(job, item.element, item.pseudo, READ_AGAIN, { ...item.used });
         if (item.element === job.root && !item.pseudo) item.computed.display = item.used.display;
         const number = job.measured || !/px$/.test(item.computed['line-height']) ? null : lineHeightNumber(item);
         if (number !== null) item.lineNumber = numberText(number);
@@ -860,8 +911,10 @@
     style['margin-left'] = pixelText(left);
     warn(job, 'align=center of a block (frozen as a margin)', at);
   }
+  const barWidth = ({ element, used }) =>
+    element.offsetWidth - element.clientWidth - float(used['border-left-width']) - float(used['border-right-width']);
   function putOverflow(making) {
-    const { job, item, computed, used, at } = making;
+    const { job, item, computed, at } = making;
     if (making.isReplaced) return;
     const both = [computed['overflow-x'], computed['overflow-y']];
     let value = both.find(word => /^(hidden|scroll|auto|overlay|clip)$/.test(word)) || 'visible';
@@ -869,8 +922,7 @@
     if (value === 'overlay') value = 'auto';
     const ofViewport = item.element.localName === 'body' && item.up && item.up.computed['overflow-x'] === 'visible';
     if (making.isRoot || ofViewport && !item.wrapper) value = 'visible';
-    const bar = item.element.offsetWidth - item.element.clientWidth - float(used['border-left-width']) - float(used['border-right-width']);
-    if (value !== 'visible' && /scroll|auto/.test(value) && bar > 1 && !item.pseudo) warn(job, 'scroll bar that takes room', at);
+    if (/scroll|auto/.test(value) && !item.pseudo && barWidth(item) > 1) warn(job, 'scroll bar that takes room', at);
     if (item.emptied) making.overflow = 'hidden';
     put(making, 'overflow', value === 'visible' && making.overflow || value);
   }
@@ -1081,10 +1133,21 @@
     if (!job.options.rects || !item.rects || !item.rects.length) return;
     job.rects[item.id] = item.rects.map(rect => rect.map(value => Math.round(value * 64 * 16) / 16));
   }
+  // What a replaced element shows, as a text: its address, what was drawn on it, or its own markup.
+  function sourceOf(element) {
+    const address = element.currentSrc || element.src;
+    if (address) return `${element.localName} ${address}`;
+    const copy = element.cloneNode(true);
+    if (element.localName === 'canvas') {
+      try { return element.toDataURL() === copy.toDataURL() ? '' : element.toDataURL(); } catch { return 'a canvas that can\'t be read'; }
+    }
+    for (const name of ['id', 'class', 'style']) copy.removeAttribute(name);
+    return copy.outerHTML;
+  }
   function savePaint(job, item) {
     if (!job.options.paint || item.wrapper) return;
     const style = job.win.getComputedStyle(item.element, item.pseudo || null), { element } = item;
-    const source = item.kind === 'replaced' ? `${element.localName} ${element.currentSrc || element.src || element.outerHTML}` : '';
+    const source = item.kind === 'replaced' ? sourceOf(element) : '';
     job.paint[item.id] = { background: style.backgroundColor, image: style.backgroundImage,
       borders: SIDES.map(side => style.getPropertyValue(`border-${side}-color`)),
       color: style.color, opacity: style.opacity, outline: style.outlineStyle === 'none' ? '' :

@@ -2,6 +2,7 @@
 import { compare, sums } from '../test/compare.mjs';
 import { exporting, layingOut } from '../test/lay.mjs';
 import { rulesOf } from './rules.mjs';
+import { views } from './views.mjs';
 
 const HTML = 'document.documentElement.outerHTML';
 const SELECTORS = ids => `layExport.selectorsOf(${JSON.stringify(ids)})`;
@@ -11,16 +12,18 @@ export const shortly = warning => warning.what.replace(/ \(.*\)$/, '');
 // How many of what `lay` doesn't know are given by their used lengths.
 export const frozenOf = warnings => warnings.filter(({ what }) => /frozen|used value/.test(what));
 
-// The differences with what helps to find them: a selector, the element's name, and the rules of docs/BROWSERS.md that may be their cause.
+// The differences with what helps to find them, those first that no other one explains: a selector, the element's name, and the rules of
+// docs/BROWSERS.md that may be their cause.
 async function told(tab, answer, { off, first }) {
-  const list = off.slice(0, SHOWN), innermost = new Set(first.map(({ id }) => id)),
-    nodes = new Map(answer.run.nodes.map(node => [node.id, node]));
+  const innermost = new Set(first), begins = new Set(views.Causes.of(answer.run.nodes, off));
+  const list = [...begins, ...off.filter(entry => !begins.has(entry))].slice(0, SHOWN);
+  const nodes = new Map(answer.run.nodes.map(node => [node.id, node]));
   const selectors = list.length ? await tab.evaluate(SELECTORS(list.map(({ id }) => id))) : [];
-  return list.map((difference, i) => ({ node: difference.id, kind: difference.kind, selector: selectors[i],
-    tag: nodes.get(difference.id).tag || '',
-    innermost: innermost.has(difference.id), near: difference.near, inParent: difference.inParent, browser: difference.browser,
-      lay: difference.lay,
-    rules: innermost.has(difference.id) ? rulesOf(nodes, nodes.get(difference.id)).map(rule => rule.anchor) : [] }));
+  return list.map((entry, i) => {
+    const { id, kind, near, inParent, browser, lay } = entry, node = nodes.get(id);
+    return { node: id, kind, selector: selectors[i], tag: node.tag || '', begins: begins.has(entry), innermost: innermost.has(entry), near,
+      inParent, browser, lay, rules: begins.has(entry) ? rulesOf(nodes, node).map(rule => rule.anchor) : [] };
+  });
 }
 function verdictOf(sum, refused) {
   if (refused) return 'refused';

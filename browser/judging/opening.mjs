@@ -3,7 +3,7 @@ import { mkdtempSync, readFileSync, rmSync, writeFileSync } from 'node:fs';
 import { tmpdir } from 'node:os';
 import { join, resolve } from 'node:path';
 import { pathToFileURL } from 'node:url';
-import { Chromium } from '../test/chromium.mjs';
+import { Chromium, pause } from '../test/chromium.mjs';
 import { Firefox } from '../test/firefox.mjs';
 import { isAddress } from './tasks.mjs';
 
@@ -13,7 +13,16 @@ const SETTLED = `document.fonts && document.fonts.ready ? document.fonts.ready.t
 // A sum of where all elements are.
 const PLACES = `[...document.querySelectorAll('*')].reduce((sum, element) => { const rect = element.getBoundingClientRect();
   return (sum * 31 + Math.round((rect.left + scrollX) * 64) + Math.round((rect.top + scrollY) * 64) * 7 + Math.round(rect.width * 64)) % 2147483647; }, 0)`;
+// Tests whose scripts go on after loading say so by a class of the root.
+const WAITS = `document.documentElement.classList.contains('reftest-wait')`, MOST_WAITS = 100;
 const TALLEST = 16000, MOST_TILES = 40;
+
+async function readiness(tab) {
+  for (let tries = 0; await tab.evaluate(WAITS); tries++) {
+    if (tries === MOST_WAITS) throw new Error('after 10 s the page still has the class reftest-wait');
+    await pause(100);
+  }
+}
 
 // Chromium with a tab a page, or Firefox with one window.
 export class Opener {
@@ -36,6 +45,7 @@ export class Opener {
       const again = !isAddress(file) && await tab.evaluate(QUIRKS);
       if (again) await tab.open(this.inStandardsMode(file));
       if (!this.isFirefox) await tab.evaluate(SETTLED);
+      await readiness(tab);
       return { tab, mode: again ? 'loaded in standards mode' : '' };
     } catch (error) { await this.shut(tab); throw error; }
   }

@@ -71,7 +71,7 @@ function paintBox(scene, node) {
 function paintText(scene, node) {
   const up = scene.nodes.get(node.parent), color = scene.paint[up.id]?.color;
   if (isHidden(scene, up) || isClear(color)) return;
-  for (const { rect, glyphs } of scene.texts.get(node.id) || []) if (glyphs?.trim()) push(scene, node, rect, color, glyphs);
+  for (const { rect, glyphs } of scene.texts.get(node.id) || []) if (glyphs) push(scene, node, rect, color, glyphs);
 }
 // The descendants of a box by the layers in which they are painted.
 function layersOf(node) {
@@ -113,7 +113,7 @@ export function painted(answer, report) {
 
 const holds = (outer, inner) => outer[0] <= inner[0] && outer[1] <= inner[1] && outer[0] + outer[2] >= inner[0] + inner[2] && outer[1] +
   outer[3] >= inner[1] + inner[3];
-// The texts that can be seen, those side by side on one line as one.
+// The texts that can be seen, those side by side on one line as one. Which spaces a text keeps isn't told: they count by their width.
 function runsOf({ items, viewport }) {
   const seen = items.filter(({ rect, glyphs }, i) => glyphs && rect[0] < viewport[0] && rect[1] < viewport[1] && rect[0] + rect[2] > 0 &&
     rect[1] + rect[3] > 0 &&
@@ -127,16 +127,16 @@ function runsOf({ items, viewport }) {
       Math.abs(last.rect[3] - run.rect[3]) <= TOLERANCE && Math.abs(gap) <= TOLERANCE;
     if (meets) { last.rect[2] += run.rect[2] + gap; last.glyphs += run.glyphs; } else joined.push(run);
   }
-  return joined.map(run => ({ ...run, glyphs: run.glyphs.replace(/\s+$/, '') }));
+  return joined.map(run => ({ ...run, letters: run.glyphs.replace(/\s+/g, '') })).filter(({ letters }) => letters);
 }
 function differentTexts(one, other) {
   const rest = runsOf(other), found = [];
   for (const run of runsOf(one)) {
-    const at = rest.findIndex(({ glyphs, token, rect }) => glyphs === run.glyphs && token === run.token &&
-      [0, 1, 3].every(k => Math.abs(rect[k] - run.rect[k]) <= TOLERANCE));
-    if (at >= 0) rest.splice(at, 1); else found.push({ rect: run.rect, one: `“${run.glyphs}”`, other: 'no such text' });
+    const at = rest.findIndex(({ letters, token, rect }) => letters === run.letters && token === run.token &&
+      rect.every((side, k) => Math.abs(side - run.rect[k]) <= TOLERANCE));
+    if (at >= 0) rest.splice(at, 1); else found.push({ rect: run.rect, one: `“${run.glyphs.trim()}”`, other: 'no such text' });
   }
-  return found.concat(rest.map(run => ({ rect: run.rect, one: 'no such text', other: `“${run.glyphs}”` })));
+  return found.concat(rest.map(run => ({ rect: run.rect, one: 'no such text', other: `“${run.glyphs.trim()}”` })));
 }
 // Edges of all rectangles on one axis, those within the tolerance as one.
 function edgesOf(rects, axis, most) {

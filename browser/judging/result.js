@@ -6,9 +6,9 @@ const rectText = (kind, node, [x, y, width, height]) =>
 function draw() {
   const bad = new Set(data.differences.map(({ node }) => node));
   const parts = data.pieces.filter(([, node]) => !bad.has(node)).map(([kind, node, ...rect]) => rectText(kind, node, rect));
-  for (const { node, browser, lay, innermost } of data.differences) {
+  for (const { node, browser, lay, begins } of data.differences) {
     parts.push(...browser.map(rect => rectText('browser', node, rect)), ...lay.map(rect =>
-      rectText(innermost ? 'lay innermost' : 'lay', node, rect)));
+      rectText(begins ? 'lay begins' : 'lay', node, rect)));
   }
   const bottom = Math.max(1, ...data.pieces.map(piece => piece[3] + piece[5])) / 64;
   stage.insertAdjacentHTML('beforeend', `<svg width="${data.width}" height="${bottom}">${parts.join('')}</svg>`);

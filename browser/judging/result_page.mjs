@@ -19,15 +19,22 @@ function dataOf(result, answer, report) {
     const [word, node] = key.split(' ');
     for (const rect of rects) pieces.push([word === 'text' ? 't' : 'b', +node, ...rect]);
   }
-  const differences = result.differences.map(({ node, kind, browser, lay, near, innermost }) =>
-    ({ node, kind, browser, lay, near, innermost }));
+  const differences = result.differences.map(({ node, kind, browser, lay, near, begins }) => ({ node, kind, browser, lay, near, begins }));
   return JSON.stringify({ pieces, differences, width: result.width }).replace(/</g, '\\u003c');
 }
-function differenceRow({ node, kind, selector, tag, browser, lay, near, inParent, innermost, rules }) {
+function differenceRow({ node, kind, selector, tag, browser, lay, near, inParent, begins, rules }) {
   const links = rules.map(anchor => `<a href="${escaped(BROWSERS)}#${anchor}">${escaped(titleOf(anchor))}</a>`).join(', ');
-  const words = [near ? 'within 1 px' : '', inParent ? 'right in its parent' : '', innermost ? 'innermost' : ''].filter(Boolean).join(', ');
-  return `<tr data-node="${node}"${innermost ? ' class="innermost"' : ''}><td>${node}</td><td title="${escaped(selector)}">${escaped(tag || kind)}<br>` +
-    `<small>${escaped(words)}</small>${links ? `<br><small>see ${links}</small>` : ''}</td><td>${place(lay)}</td><td>${place(browser)}</td></tr>`;
+  const words = [near ? 'within 1 px' : '', inParent ? 'right in its parent' : ''].filter(Boolean).join(', ');
+  return `<tr data-node="${node}"${begins ? ' class="begins"' : ''}><td>${node}</td><td title="${escaped(selector)}">${escaped(tag || kind)}` +
+    `${words ? `<br><small>${escaped(words)}</small>` : ''}${links ? `<br><small>see ${links}</small>` : ''}</td><td>${place(lay)}</td><td>${place(browser)}</td></tr>`;
+}
+// The differences, first those that no other one explains.
+function differenceTable(differences) {
+  if (!differences.length) return '<p>None.</p>';
+  const [first, rest] = [true, false].map(begins => differences.filter(one => one.begins === begins).map(differenceRow).join('\n'));
+  const part = (title, rows) => rows ? `<tr><th colspan="4">${title}</th></tr>${rows}` : '';
+  return '<table class="differences"><tr><th>node</th><th></th><th>lay: x, y, size</th><th>browser</th></tr>' +
+    `${part('where they begin', first)}${part('what follows', rest)}</table>`;
 }
 function warningRow({ what, count, places }) {
   const links = places.map(({ node, selector }) =>
@@ -44,7 +51,8 @@ function sentence({ verdict, fault, differing, differences, warnings }) {
   if (verdict === 'refused') return `lay refuses the document: ${escaped(fault)}`;
   const frozen = frozenOf(warnings).length ? ' What was frozen agrees by itself.' : '';
   if (!differing) return `Everything stands where the browser has it, to 1/32 px.${frozen}`;
-  return `${differing} ${differing === 1 ? 'piece differs' : 'pieces differ'}; ${differences.filter(({ innermost }) => innermost).length} of them hold no other that does.${frozen}`;
+  const begin = differences.filter(({ begins }) => begins).length;
+  return `${differing} ${differing === 1 ? 'piece differs' : 'pieces differ'}, which ${begin === 1 ? 'begins at one' : `begins at ${begin}`} of them.${frozen}`;
 }
 // `pictures` are the files of the screenshot, each with where it begins.
 export function resultPage(result, answer, report, pictures) {
@@ -62,7 +70,7 @@ export function resultPage(result, answer, report, pictures) {
 <aside><p>${sentence(result)}</p>${counts(result)}
 <p><small>${escaped(page)}<br>${width} px, ${escaped(browser)}${mode ? ', ' + mode : ''}. Lengths in px. Red is lay's, orange the browser's.
 <a href="${escaped(name)}.run.json">document</a>, <a href="${escaped(name)}.report.txt">report</a>, <a href="${escaped(name)}.json">JSON</a>; drop the first two into browser/view.html.</small></p>
-<h2>Differences</h2>${differences.length ? `<table class="differences"><tr><th>node</th><th></th><th>lay: x, y, size</th><th>browser</th></tr>${differences.map(differenceRow).join('\n')}</table>` : '<p>None.</p>'}
+<h2>Differences</h2>${differenceTable(differences)}
 <h2>Warnings</h2>${warnings.length ? `<ul>${warnings.map(warningRow).join('')}</ul>` : '<p>None.</p>'}</aside>
 <script type="application/json" id="data">${dataOf(result, answer, report)}</script>
 <script>${script}</script>

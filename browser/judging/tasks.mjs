@@ -21,9 +21,15 @@ function pagesOf(word) {
   if (!statSync(word).isDirectory()) return [[word, basename(word)]];
   return pagesIn(word).map(path => [path, relative(word, path)]);
 }
-const listed = file => readFileSync(file, 'utf8').split('\n').map(line => line.trim()).filter(line => line && !line.startsWith('#'));
+export const listed = file => readFileSync(file, 'utf8').split('\n').map(line => line.trim()).filter(line => line && !line.startsWith('#'));
 const safe = text => text.replace(/\.(html?|xhtml|xht)$/i, '').replace(/[^\w.-]+/g, '-').slice(0, 120);
 
+// What this shard has of all; `whole` is how many there are.
+export function ofShard(options, all) {
+  const [place, count] = (options.shard || '1/1').split('/').map(Number);
+  options.whole = all.length;
+  return all.filter((_, i) => i % count === place - 1);
+}
 // The tasks of this shard: { file, page, width, height, name }, each name once.
 export function tasksOf(options) {
   const words = options.files.concat(options.list ? listed(options.list) : []), tasks = [], names = new Map();
@@ -33,7 +39,5 @@ export function tasksOf(options) {
     const page = isAddress(file) ? file : resolve(file);
     tasks.push({ file, page, width, height: options.height, name: count > 1 ? `${plain}-${count}` : plain });
   }
-  options.whole = tasks.length;
-  const [place, count] = (options.shard || '1/1').split('/').map(Number);
-  return tasks.filter((_, i) => i % count === place - 1);
+  return ofShard(options, tasks);
 }

@@ -11,9 +11,10 @@ browser/judge_page --join LINES.jsonl .. [--out FOLDER]           puts the lines
   --browser NAME     chromium or firefox (chromium)
   --out FOLDER       writes a page, a picture, JSON, the document and the report of each page, and an index
   --differing        writes those of pages that differ alone
-  --lines FILE       writes a line of JSON a page (FOLDER/pages.jsonl)
-  --jobs N           judges N pages at a time (1)
-  --shard I/N        takes every Nth page, from the Ith on
+  --lines FILE       writes a line of JSON a page, or a pair of test and reference (FOLDER/pages.jsonl)
+  --continue         keeps the lines of a run that ended early, and judges the pages that have none or failed
+  --jobs N           judges N pages or pairs at a time (1)
+  --shard I/N        takes every Nth page or pair, from the Ith on
   --list FILE        takes the pages that a file names too, one a line
   --program PATH     the program \`lay\` (LAY, or what is built in crates/lay/out)
   --network          lets the browser ask for addresses that begin with http
@@ -22,7 +23,7 @@ browser/judge_page --join LINES.jsonl .. [--out FOLDER]           puts the lines
 The status is 0 where each block and each text of all pages stands where the browser has it, 1 where one differs or a page can't be
 judged, 2 for wrong words.`;
 const WITH_VALUE = ['width', 'height', 'browser', 'out', 'lines', 'jobs', 'shard', 'list', 'program'];
-const ALONE = ['differing', 'network', 'help', 'join', 'reftest', 'mismatch'];
+const ALONE = ['continue', 'differing', 'network', 'help', 'join', 'reftest', 'mismatch'];
 const isWhole = (text, least, most) => /^\d{1,7}$/.test(text) && +text >= least && +text <= most;
 
 // What is wrong with the words, or ''.
@@ -34,6 +35,7 @@ function faultOf(options) {
   const [place, count] = (options.shard || '1/1').split('/');
   if (!isWhole(count ?? '', 1, 1000000) || !isWhole(place, 1, +count)) return '--shard takes I/N, as 3/8';
   if (!options.files.length && !options.list && !options.help) return 'no page was named';
+  if (options.continue && !options.lines && !options.out) return '--continue needs --lines or --out';
   return '';
 }
 // The options with their values; `fault` says what is wrong.

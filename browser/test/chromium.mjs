@@ -10,7 +10,8 @@ const FLAGS = ['--headless', '--no-sandbox', '--disable-gpu', '--remote-debuggin
   '--allow-file-access-from-files', '--disable-renderer-backgrounding',
   '--disable-backgrounding-occluded-windows', '--disable-background-timer-throttling', '--host-resolver-rules=MAP * ~NOTFOUND',
     '--window-size=800,600'];
-const LIMIT = Number(process.env.LAY_SECONDS || 60) * 1000;
+// How long a command may take, in milliseconds.
+export const LIMIT = Number(process.env.LAY_SECONDS || 60) * 1000;
 
 export const pause = milliseconds => new Promise(done => setTimeout(done, milliseconds));
 // Waits for `work`, but not longer.

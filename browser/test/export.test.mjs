@@ -4,11 +4,11 @@ import assert from 'node:assert/strict';
 import { spawnSync } from 'node:child_process';
 import { Chromium } from './chromium.mjs';
 import { Firefox } from './firefox.mjs';
+import { installed } from './installed.mjs';
 import { compare, sums } from './compare.mjs';
 import { exporting, layOut } from './lay.mjs';
 
 const article = new URL('pages/article.html', import.meta.url).href;
-const installed = name => spawnSync(name, ['--version'], { timeout: 20000 }).status === 0;
 const chromium = process.env.CHROMIUM || 'chromium', firefox = process.env.FIREFOX || 'firefox-esr';
 
 async function exported(page) {

@@ -1,13 +1,12 @@
 // What exporters get wrong, each with a page: what `lay` makes of its document stands where the browser has it, and the warnings say where.
 import { test } from 'node:test';
 import assert from 'node:assert/strict';
-import { spawnSync } from 'node:child_process';
 import { Chromium } from './chromium.mjs';
 import { Firefox } from './firefox.mjs';
+import { installed } from './installed.mjs';
 import { compare, joined, sums } from './compare.mjs';
 import { exporting, layOut } from './lay.mjs';
 
-const installed = name => spawnSync(name, ['--version'], { timeout: 20000 }).status === 0;
 const chromium = process.env.CHROMIUM || 'chromium', firefox = process.env.FIREFOX || 'firefox-esr';
 const FROZEN_TABLE = 'automatic table (column widths frozen)', STILL = 'absolute box at its static position (frozen)';
 // [page, { warning: how often }]
@@ -20,6 +19,7 @@ const PAGES = [
   ['negative_lengths', {}],
   ['inline_parts', {}],
   ['tabs', {}],
+  ['full_lines', { [FROZEN_TABLE]: 1 }],
 ];
 const url = name => new URL(`pages/${name}.html`, import.meta.url).href;
 

@@ -4,9 +4,8 @@ import { createServer, connect } from 'node:net';
 import { mkdtempSync, rmSync, writeFileSync } from 'node:fs';
 import { tmpdir } from 'node:os';
 import { join } from 'node:path';
-import { pause, within } from './chromium.mjs';
+import { LIMIT, pause, within } from './chromium.mjs';
 
-const LIMIT = 60000;
 // No requests of the browser's own, and scroll bars that take no room.
 const SETTINGS = { 'network.proxy.type': 1, 'network.proxy.http': '127.0.0.1', 'network.proxy.http_port': 9,
   'network.proxy.ssl': '127.0.0.1', 'network.proxy.ssl_port': 9, 'app.update.enabled': false, 'datareporting.policy.dataSubmissionEnabled': false,
@@ -35,7 +34,7 @@ export class Firefox {
     browser.gone = new Promise(done => { browser.process.on('exit', done); browser.process.on('error', done); });
     for (let tries = 0; !browser.socket; tries++) {
       try { browser.socket = await joined(port); } catch (error) {
-        if (tries > 200) { await browser.close(); throw error; }
+        if (tries > LIMIT / 200) { await browser.close(); throw error; }
         await pause(200);
       }
     }

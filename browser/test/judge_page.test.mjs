@@ -1,17 +1,20 @@
 // The command: its words, its lines, its pages, shards, tests with references.
 import { test } from 'node:test';
 import assert from 'node:assert/strict';
-import { execFile, spawnSync } from 'node:child_process';
+import { execFile } from 'node:child_process';
 import { existsSync, mkdtempSync, readFileSync, rmSync, writeFileSync } from 'node:fs';
 import { tmpdir } from 'node:os';
 import { join } from 'node:path';
 import { pathToFileURL } from 'node:url';
 import { Chromium } from './chromium.mjs';
+import { installed } from './installed.mjs';
 import { TITLES } from '../judging/rules.mjs';
 
 const command = new URL('../judge_page', import.meta.url).pathname, pages = new URL('pages/', import.meta.url).pathname;
-const chromium = process.env.CHROMIUM || 'chromium', skip = spawnSync(chromium, ['--version'], { timeout: 20000 }).status !== 0;
-const judge = (...words) => new Promise(done => execFile(process.execPath, [command, ...words], { timeout: 300000, maxBuffer: 1 << 26 },
+const skip = !installed(process.env.CHROMIUM || 'chromium');
+// How long one command may take, in milliseconds.
+const LIMIT = Math.max(300, 10 * Number(process.env.LAY_SECONDS || 0)) * 1000;
+const judge = (...words) => new Promise(done => execFile(process.execPath, [command, ...words], { timeout: LIMIT, maxBuffer: 1 << 26 },
   (error, stdout, stderr) => done({ status: error ? error.code : 0, stdout, stderr })));
 const folder = mkdtempSync(join(tmpdir(), 'lay-test-judge-'));
 process.on('exit', () => rmSync(folder, { recursive: true, force: true }));
@@ -40,7 +43,8 @@ test('a page that differs: JSON, a page with both rectangles, and status 1', { s
   assert.equal(status, 1);
   assert.match(stdout, /texts 2 of 3.*1 other warning/);
   assert.equal(result.verdict, 'differs');
-  const [difference] = result.differences.filter(({ innermost }) => innermost);
+  const [difference] = result.differences;
+  assert.ok(difference.begins && difference.innermost);
   assert.equal(difference.selector, '#moved');
   assert.equal(difference.browser[0][0] - difference.lay[0][0], 9 * 64);
   assert.deepEqual(result.warnings[0].places.map(({ selector }) => selector), ['#moved']);
@@ -92,6 +96,23 @@ test('shards of a folder put together are the whole', { skip }, async () => {
   assert.match(lacking.stdout, /shard 2\/2 is missing/);
   assert.equal(lacking.status, 1);
 });
+test('a run that ended early goes on', { skip }, async () => {
+  const lines = join(folder, 'early.jsonl'), words = [join(pages, 'reftests'), '--lines', lines, '--width', '420'];
+  await judge(...words);
+  const whole = linesOf(lines), [head, first, second, third] = whole;
+  const kept = [head, { ...first, seen: 'before' }, { ...second, verdict: 'failed' }].map(value => JSON.stringify(value) + '\n');
+  writeFileSync(lines, kept.join('') + JSON.stringify(third).slice(0, 50));
+  const { stdout } = await judge(...words, '--continue'), again = linesOf(lines);
+  assert.equal(again.length, whole.length);
+  assert.equal(again[1].seen, 'before');
+  assert.deepEqual(new Set(again.slice(1).map(({ page }) => page)), new Set(whole.slice(1).map(({ page }) => page)));
+  assert.ok(again.slice(1).every(({ verdict }) => verdict !== 'failed'));
+  assert.match(stdout, new RegExp(`all: ${whole.length - 1} pages`));
+  const other = await judge(...words.slice(0, -1), '500', '--continue');
+  assert.match(other.stderr, /is of other pages/);
+  assert.equal(other.status, 2);
+  assert.equal(linesOf(lines).length, whole.length);
+});
 test('a page that can\'t be opened is told, and the others are judged', { skip }, async () => {
   const empty = join(folder, 'empty.html');
   writeFileSync(empty, '');
@@ -102,8 +123,29 @@ test('a page that can\'t be opened is told, and the others are judged', { skip }
 test('tests with references', { skip }, async () => {
   const { status, stdout } = await judge('--reftest', join(pages, 'reftests'));
   assert.equal(status, 0, stdout);
-  assert.match(stdout, /6 pairs: 6 pass/);
+  assert.match(stdout, /all: 6 pairs, 6 pass/);
+  const two = await judge('--reftest', ...['margins.html', 'float-beside.html'].map(name => join(pages, 'reftests', name)));
+  assert.match(two.stdout, /all: 2 pairs, 2 pass/);
+  const parts = [];
+  for (const place of [1, 2]) {
+    parts.push(join(folder, `pairs${place}.jsonl`));
+    await judge('--reftest', join(pages, 'reftests'), '--shard', `${place}/2`, '--lines', parts[place - 1], '--jobs', '2');
+  }
+  const joined = await judge('--join', ...parts);
+  assert.match(joined.stdout, /all: 6 pairs, 6 pass/);
+  assert.equal(joined.status, 0, joined.stdout);
+  const lacking = await judge('--join', parts[1]);
+  assert.match(lacking.stdout, /shard 1\/2 is missing/);
+  assert.equal(lacking.status, 1);
   const other = await judge('--reftest', join(pages, 'reftests', 'margins.html'), join(pages, 'reftests', 'covered-ref.html'));
   assert.equal(other.status, 1);
   assert.match(other.stdout, /fails: \d+ places differ/);
+});
+test('a test that goes on after loading is waited for', { skip }, async () => {
+  const plain = join(folder, 'plain.html'), late = join(folder, 'late.html'), head = '<!doctype html><meta charset=utf-8><body><p>';
+  writeFileSync(plain, `${head}one</p>`);
+  writeFileSync(late, `${head}two</p><script>document.documentElement.className = 'reftest-wait';
+    setTimeout(() => { document.querySelector('p').textContent = 'one'; document.documentElement.className = ''; }, 800)</script>`);
+  const { status, stdout } = await judge('--reftest', late, plain);
+  assert.equal(status, 0, stdout);
 });

@@ -6,7 +6,7 @@ const here = path => new URL(path, import.meta.url);
 const built = ['lay', 'lay_unproved'].map(name => here(`../../crates/lay/out/${name}`).pathname);
 export const program = process.env.LAY || built.find(path => existsSync(path)) || built[0];
 export const source = readFileSync(here('../export.js'), 'utf8');
-const LIMITS = { maxBuffer: 1 << 28, timeout: 120000 };
+const LIMITS = { maxBuffer: 1 << 28, timeout: Math.max(120, Number(process.env.LAY_SECONDS || 0)) * 1000 };
 
 export function layOut(run) {
   const answer = spawnSync(program, ['scratch'], { input: JSON.stringify(run), ...LIMITS });

@@ -4,9 +4,10 @@ import assert from 'node:assert/strict';
 import { spawnSync } from 'node:child_process';
 import { readFileSync } from 'node:fs';
 import { Chromium } from './chromium.mjs';
+import { installed } from './installed.mjs';
 import { program } from './lay.mjs';
 
-const chromium = process.env.CHROMIUM || 'chromium', skip = spawnSync(chromium, ['--version'], { timeout: 20000 }).status !== 0;
+const skip = !installed(process.env.CHROMIUM || 'chromium');
 const root = new URL('../../', import.meta.url), read = path => readFileSync(new URL(path, root), 'utf8');
 const laid = (document, word = 'scratch') => spawnSync(program, [word], { input: JSON.stringify(document) }).stdout.toString();
 let browser, page;

@@ -5,9 +5,9 @@ import { mkdtempSync, rmSync, writeFileSync } from 'node:fs';
 import { tmpdir } from 'node:os';
 import { join } from 'node:path';
 import { pathToFileURL } from 'node:url';
-import { spawnSync } from 'node:child_process';
 import { Chromium } from './chromium.mjs';
 import { Firefox } from './firefox.mjs';
+import { installed } from './installed.mjs';
 import { exporting, layOut } from './lay.mjs';
 
 const standards = '<!doctype html><meta charset=utf-8><title>page</title>';
@@ -66,7 +66,6 @@ const PAGES = [
   ['shadow tree (flattened)', '<div><template shadowrootmode=open><p>one</p></template></div>'],
 ];
 
-const installed = name => spawnSync(name, ['--version'], { timeout: 20000 }).status === 0;
 const BROWSERS = [['Chromium', process.env.CHROMIUM || 'chromium', Chromium], ['Firefox', process.env.FIREFOX || 'firefox-esr', Firefox]];
 
 for (const [name, program, Browser] of BROWSERS) describe(name, { skip: !installed(program) }, () => {

@@ -5,7 +5,7 @@ from urllib.parse import unquote
 from .images import size_of
 from .styles import declarations, of_attributes, sheet_of
 
-MOST_DEPTH, MOST_NODES, MOST_TEXT, MOST_SPAN, MOST_SIDE = 128, 65536, 65536, 64, 1000000
+MOST_DEPTH, MOST_NODES, MOST_TEXT, MOST_TEXTS, MOST_SPAN, MOST_SIDE = 128, 65536, 65536, 1048576, 64, 1000000
 REPLACED = {'img': None, 'input': (153, 21), 'select': (60, 19), 'button': (60, 21), 'textarea': (182, 36), 'meter': (80, 16),
     'progress': (160, 16),
             'iframe': (300, 150), 'video': (300, 150), 'audio': (300, 54), 'canvas': (300, 150), 'embed': (300, 150), 'object': (300, 150),
@@ -23,7 +23,7 @@ class Maker:
     """Makes the nodes of a document, and notes what it leaves out."""
 
     def __init__(self, values, folder):
-        self.values, self.folder, self.nodes, self.left_out, self.sheets = values, folder, [], {}, []
+        self.values, self.folder, self.nodes, self.left_out, self.sheets, self.bytes = values, folder, [], {}, [], 0
 
     def note(self, words):
         self.left_out[words] = self.left_out.get(words, 0) + 1
@@ -65,7 +65,7 @@ class Maker:
         fields = {}
         for name, attribute in (('colspan', 'span' if element.name in ('col', 'colgroup') else 'colspan'), ('rowspan', 'rowspan')):
             value = element.attributes.get(attribute, '')
-            if value.isdigit() and int(value) > 1 and element.name in ('td', 'th', 'col', 'colgroup'):
+            if value.isdecimal() and int(value) > 1 and element.name in ('td', 'th', 'col', 'colgroup'):
                 fields[name] = min(MOST_SPAN, int(value))
         return fields
 
@@ -75,7 +75,7 @@ class Maker:
             self.note('`%s`, an empty box of %d × %d px' % (element.name, *REPLACED[element.name]))
             return list(REPLACED[element.name])
         found = size_of(self.folder / unquote(element.attributes.get('src', '').split('?')[0])) if element.attributes.get('src') else None
-        given = [int(text) for text in (element.attributes.get('width', ''), element.attributes.get('height', '')) if text.isdigit()]
+        given = [int(text) for text in (element.attributes.get('width', ''), element.attributes.get('height', '')) if text.isdecimal()]
         if not found and len(given) < 2:
             self.note('the size of an image that isn\'t there: 16 × 16 px')
         return [min(MOST_SIDE, max(1, side)) for side in (found or (given if len(given) == 2 else (16, 16)))]
@@ -121,7 +121,12 @@ class Maker:
         text = re.sub('[\ud800-\udfff]', '\ufffd', text.replace('\r\n', '\n'))
         step = MOST_TEXT // 4
         for at in range(0, len(text), step):
-            self.new(parent, 'text', text=text[at:at + step])
+            part = text[at:at + step]
+            self.bytes += len(part.encode())
+            if self.bytes > MOST_TEXTS:
+                self.note('a text behind 1,048,576 bytes of text')
+                return
+            self.new(parent, 'text', text=part)
 
     def read_sheet(self, element):
         """Notes what a page's own sheets say, with shorthands as what they stand for."""

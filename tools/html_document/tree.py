@@ -17,6 +17,8 @@ ENDS = {
 }
 WALLS = {'table', 'td', 'th', 'caption', 'button', 'html', 'body'}
 RAW = {'script', 'style'}
+# So many elements stand in each other; a deeper one stands beside the last of them, as in browsers.
+MOST_OPEN = 512
 # The line end behind their start tag is no part of their text.
 SKIPS_A_LINE = {'pre', 'textarea', 'listing'}
 
@@ -37,6 +39,10 @@ class Builder(HTMLParser):
         self.html = Element('html')
         self.head, self.body, self.open = None, None, [self.html]
         self.is_quirky = True
+
+    def parse_marked_section(self, i, report=1):
+        """What begins with `<![` is a comment up to the next `>`, where Python's parser knows some names and stops at others."""
+        return self.parse_bogus_comment(i, report)
 
     def handle_decl(self, decl):
         self.is_quirky = decl.lower().strip() != 'doctype html' and 'strict' not in decl.lower()
@@ -95,6 +101,8 @@ class Builder(HTMLParser):
         return max([k for k, name in enumerate(names) if name == 'table'] + [0])
 
     def push(self, element):
+        if len(self.open) >= MOST_OPEN:
+            self.open.pop()
         self.open[-1].kids.append(element)
         self.open.append(element)
 
