@@ -19,3 +19,7 @@ pub mod Counts
 pub mod Walks
 pub mod PaintedOnce
 pub mod LastHolding
+pub mod EdgePoints
+pub mod Inside
+pub mod Ahead
+pub mod Stacked

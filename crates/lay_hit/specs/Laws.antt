@@ -1,5 +1,6 @@
--- Each box and each text of a tree is painted once, and lines are not. The order of painting is one walk over the nodes. The
--- last piece that holds a point is the only one behind which none does.
+-- Each box and each text of a tree is painted once, and lines are not. The order of painting is one walk over the nodes, and puts
+-- boxes in front of each other as the standard says it of two boxes. The last piece that holds a point is the only one behind which
+-- none does. Rectangles that meet at an edge share no point.
 use Rattle.std.specs.Prelude.{ℕ, ℤ, ◌≡◌, ◌<◌, ◌↔◌, Bool, true, false, List, length, filter, slice_get, IfSome, IsPermutation, Some}
 use Rattle.lay_style.specs.declared.style.Style.{Style}
 use Rattle.lay_doc.specs.Document.{Document, IsDocument}
@@ -11,6 +12,7 @@ use Rattle.lay_frag.specs.Pieces.{Context, frags_of}
 use Rattle.lay_hit.specs.PaintKinds.{node_kind}
 use Rattle.lay_hit.specs.Pages.{id_of, is_box_or_text, page_of}
 use Rattle.lay_hit.specs.Wholes.{whole}
+use Rattle.lay_hit.specs.Stacking.{ArePaintedIn, IsStacked}
 use Rattle.lay_hit.specs.Hits.{holds, last_holding, painted}
 
 abbrev pub is_text_piece : FragKind → Bool
@@ -47,3 +49,9 @@ pub record IsLastHolding (x y : ℤ) (fs : List Frag) (f : Frag) : Type 0 where
 
 abbrev pub OneLastHolding : Type 0
 OneLastHolding = (x y : ℤ) (fs : List Frag) (f : Frag) → (last_holding x y fs ≡ Some f) ↔ IsLastHolding x y fs f
+
+-- There is an order of nodes in which the pieces are painted, and it is that of 9.9.1 and Appendix E.
+abbrev pub PaintedInOrder : Type 0
+PaintedInOrder = (d : Document) (styles : List Style) (tree : List Context) → IsDocument d
+    → (order : List ℕ) × ArePaintedIn (page_of d.nodes styles (frags_of tree)) (painted d styles tree) order
+    × IsStacked (page_of d.nodes styles (frags_of tree)) order

@@ -14,4 +14,6 @@ pub mod Questions
 pub mod NodePieces
 pub mod Fronts
 pub mod Waiting
+pub mod Stacking
+pub mod Edges
 pub mod Laws

@@ -23,6 +23,9 @@ mod waiting;
 
 pub use hit_testing::hit;
 pub use kinds::{PaintKind, paint_kind};
-pub use laws::{one_last_holding, painting_is_walk, paints_each_once};
+pub use laws::{
+    edges_share_nothing, empty_hold_nothing, one_last_holding, painted_in_order, painting_is_walk,
+    paints_each_once, parts_hold_all,
+};
 pub use line::hit_line;
 pub use point::Point;

@@ -7,3 +7,8 @@ pub mod Texts
 pub mod OneSheet
 pub mod SomeSheet
 pub mod Closing
+pub mod Trimming
+pub mod PrintedBytes
+pub mod PrintedSelectors
+pub mod PrintedBlocks
+pub mod PrintedSheets

@@ -1,10 +1,12 @@
 -- What a sheet's text means is settled by these laws, which say it apart from how it is found.
 use Rattle.std.specs.Prelude.{ℕ, ◌≡◌, ◌+◌, ◌-◌, ◌==◌, ◌||◌, List, [], ◌∷◌, ◌++◌, Bool, true, false, if◌then◌else◌}
-use Rattle.std.specs.List.{list_any}
+use Rattle.std.specs.Char.{is_ascii_whitespace}
+use Rattle.std.specs.List.{list_all, list_any, AllZip}
 use Rattle.lay_sheet.specs.declared.plain.Place.{Place}
 use Rattle.lay_sheet.specs.declared.plain.Place.TheVariants.{Outside}
 use Rattle.lay_sheet.specs.PlainText.{is_mark, ends_comment, place_behind, plain_text}
 use Rattle.lay_sheet.specs.Sheets.{RuleValue, IsSheet}
+use Rattle.lay_sheet.specs.Printing.{PrintedRule, SpellsRule, sheet_text}
 
 -- a byte that ends a string with this mark, or is a backslash
 abbrev pub parts_string : ℕ → ℕ → Bool
@@ -81,3 +83,9 @@ ends_at_rule b = (b == 59) || (b == 123)
 abbrev pub AtRuleSaysNothing : Type 0
 AtRuleSaysNothing = (inner rest : List ℕ) (rules : List RuleValue) → place_after Outside inner ≡ Outside →
     list_any ends_at_rule (plain_text inner) ≡ false → IsSheet rest rules → IsSheet (64 ∷ inner ++ 59 ∷ rest) rules
+
+-- a printed sheet reads as itself: as the rule sets that it spells, in their order, whatever white space stands where the grammar lets
+-- some stand (Appendix G)
+abbrev pub PrintedSheetReads : Type 0
+PrintedSheetReads = (space : List ℕ) (sheet : List PrintedRule) (rules : List RuleValue) → list_all is_ascii_whitespace space ≡ true →
+    AllZip SpellsRule sheet rules → IsSheet (sheet_text space sheet) rules

@@ -4,4 +4,5 @@ pub mod Pieces
 pub mod SelectorTexts
 pub mod Declarations
 pub mod Sheets
+pub mod Printing
 pub mod Laws

@@ -2,6 +2,7 @@
 
 ghost use Rattle.lay_sheet.specs.Laws.{StringHides, CommentIsSpace, EscapeHides, OneSheet, SomeSheet};
 ghost use Rattle.lay_sheet.specs.Laws.{OpenStringEnds, OpenCommentEnds, OpenBlockEnds, SheetsFollow, AtRuleSaysNothing};
+ghost use Rattle.lay_sheet.specs.Laws.{PrintedSheetReads};
 
 /// What stands in a string isn't seen.
 pub fn string_hides()
@@ -51,4 +52,9 @@ pub fn sheets_follow()
 /// A statement that begins with `@` ends with its first semicolon, and what stands behind it is a sheet by itself.
 pub fn at_rule_says_nothing()
     ensures { AtRuleSaysNothing }
+{}
+
+/// A sheet that is printed in the grammar of the standard reads as the rule sets that were printed.
+pub fn printed_sheet_reads()
+    ensures { PrintedSheetReads }
 {}
