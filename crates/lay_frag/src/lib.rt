@@ -9,10 +9,12 @@ mod frag;
 mod lines;
 mod piece_line;
 mod placed;
+mod same;
 mod tree;
 
 pub use frag::{Frag, FragKind};
-pub use lines::text_of;
+pub use lines::{push_context, text_of};
 pub use piece_line::push_frag;
 pub use placed::{Pieces, Placed};
+pub use same::{same_context, same_pieces};
 pub use tree::Tree;

@@ -55,7 +55,7 @@ writes_more s t u x y first second = record {
   rest = rest_of s t x y first ∙ (ap (λ (ys : List ℕ). first.gone ++ ys) second.rest ∙ sym (append_assoc first.gone second.gone u.held));
 }
 
-by_bool : {P : Type 0} (b : Bool) → (b ≡ true → P) → (b ≡ false → P) → P
+pub by_bool : {P : Type 0} (b : Bool) → (b ≡ true → P) → (b ≡ false → P) → P
 by_bool true t f = t refl
 by_bool false t f = f refl
 
@@ -146,7 +146,3 @@ at_both_ends x y z = append_assoc x y z ∙ ap (λ (ys : List ℕ). ys ++ (y ++ 
 
 pub at_place : {A : Type 0} (xs : List A) (k : ℕ) (x : A) → k < length xs → x ≡ get_or xs k x → slice_get xs k ≡ Some x
 at_place xs k x below is = slice_get-get_or xs k x below ∙ ap Some (sym is)
-
--- four texts in a row
-pub in_a_row : (x y z w : List ℕ) → ((x ++ y) ++ z) ++ w ≡ x ++ ((y ++ z) ++ w)
-in_a_row x y z w = append_assoc (x ++ y) z w ∙ (append_assoc x y (z ++ w) ∙ ap (λ (ys : List ℕ). x ++ ys) (sym (append_assoc y z w)))

@@ -1,21 +1,28 @@
 //! The report of a run.
 
-ghost use Rattle.std.specs.Prelude.{◌≡◌, ◌≤◌, IfErr, OnErr, OnOk, length, string_bytes, if◌then◌else◌};
+ghost use Rattle.std.specs.Prelude.{◌≡◌, ◌≤◌, IfErr, OnErr, OnOk, length, if◌then◌else◌};
 ghost use Rattle.lay_history.specs.Histories.{accepted, list_in, shown_by, shown_version};
 ghost use Rattle.lay_history.specs.Trees.{tree_at};
 ghost use Rattle.lay_outside.specs.Outside.{Rose, Took, TookFront};
 ghost use Rattle.lay_report.specs.Report.{entry_text, final_text, history_text, run_report, scratch_report, shown_lines, tree_lines};
 ghost use Rattle.lay_report.specs.Writing.{Pushes};
 
-use crate::buffer::hand_on;
-use crate::entry::{push_entry, push_version};
+use crate::buffer::{hand_on, hold_entry, hold_number};
 use crate::fault::ReportFault;
-use crate::pieces::push_tree;
+use crate::pieces::{push_tree, push_tree_after};
+use crate::tree_text::TreeText;
 use lay_frag::Tree;
 use lay_history::edits::{Entry, Reply};
 use lay_history::{PublishedTree, tree_at};
 use lay_outside::Sink;
 use std::alloc::Global;
+
+/// The trees that a history shows, and the allocator for the text of the last one.
+#[derive(Drop)]
+struct Shown<'a> {
+    alloc: Global,
+    trees: &'a [PublishedTree],
+}
 
 /// Writes the report of a run of editors: its history with the trees that it shows, the last version with its tree, and
 /// how much was laid out. WriteFault comes only where the sink's count of faults rose; after an error the sink has taken
@@ -32,9 +39,9 @@ pub fn write_run<K: Sink>(
     ensures failed { IfErr result (λ e. e ≡ ReportFault.WriteFault → Rose (K.faults sink.old) (K.faults sink.new)) }
     ensures never_falls { K.faults sink.old ≤ K.faults sink.new }
 {
-    let mut buffer = String::new(alloc);
+    let mut buffer = Vec::new(alloc);
     push_history(alloc, history, trees, &mut buffer, sink)?;
-    push_version(&mut buffer, "laid ", laid)?;
+    hold_number(alloc, "laid ", laid, &mut buffer)?;
     hand_on(&mut buffer, sink)
 }
 
@@ -47,9 +54,9 @@ pub fn write_scratch<K: Sink>(alloc: Global, tree: &Tree, sink: &mut K) -> Resul
     ensures failed { IfErr result (λ e. e ≡ ReportFault.WriteFault → Rose (K.faults sink.old) (K.faults sink.new)) }
     ensures never_falls { K.faults sink.old ≤ K.faults sink.new }
 {
-    let mut buffer = String::new(alloc);
-    push_entry(alloc, &mut buffer, &Entry::Publish { version: 0 })?;
-    push_version(&mut buffer, "final ", 0)?;
+    let mut buffer = Vec::new(alloc);
+    hold_entry(alloc, &Entry::Publish { version: 0 }, &mut buffer)?;
+    hold_number(alloc, "final ", 0, &mut buffer)?;
     push_tree(tree, &mut buffer, sink)?;
     hand_on(&mut buffer, sink)
 }
@@ -59,80 +66,85 @@ fn push_history<K: Sink>(
     alloc: Global,
     history: &[Entry],
     trees: &[PublishedTree],
-    buffer: &mut String,
+    buffer: &mut Vec<u8>,
     sink: &mut K,
 ) -> Result<(), ReportFault>
-    ensures { Pushes (record { taken = K.taken sink.old; faults = K.faults sink.old; held = string_bytes buffer.old })
-        (record { taken = K.taken sink.new; faults = K.faults sink.new; held = string_bytes buffer.new })
+    ensures { Pushes (record { taken = K.taken sink.old; faults = K.faults sink.old; held = buffer.old.items })
+        (record { taken = K.taken sink.new; faults = K.faults sink.new; held = buffer.new.items })
         (history_text history.now trees.now) result }
 {
+    let shown = Shown { alloc, trees };
+    let mut last = None;
     for entry in history {
-        push_entry_text(alloc, entry, trees, buffer, sink)?;
+        push_entry_text(&shown, entry, &mut last, buffer, sink)?;
     }
-    push_final(accepted(history), trees, buffer, sink)
+    push_final(&shown, accepted(history), &mut last, buffer, sink)
 }
 
 /// Writes the last version and its tree.
-fn push_final<K: Sink>(
+fn push_final<'a, K: Sink>(
+    shown: &Shown<'a>,
     version: u64,
-    trees: &[PublishedTree],
-    buffer: &mut String,
+    last: &mut Option<TreeText<'a>>,
+    buffer: &mut Vec<u8>,
     sink: &mut K,
 ) -> Result<(), ReportFault>
-    ensures { Pushes (record { taken = K.taken sink.old; faults = K.faults sink.old; held = string_bytes buffer.old })
-        (record { taken = K.taken sink.new; faults = K.faults sink.new; held = string_bytes buffer.new })
-        (final_text version trees.now) result }
+    ensures { Pushes (record { taken = K.taken sink.old; faults = K.faults sink.old; held = buffer.old.items })
+        (record { taken = K.taken sink.new; faults = K.faults sink.new; held = buffer.new.items })
+        (final_text version shown.now.trees.now) result }
 {
-    push_version(buffer, "final ", version)?;
-    push_shown(Some(version), trees, buffer, sink)
+    hold_number(shown.alloc, "final ", version, buffer)?;
+    push_shown(shown, Some(version), last, buffer, sink)
 }
 
 /// Writes the line of an entry, and the lines of the tree that it shows.
-fn push_entry_text<K: Sink>(
-    alloc: Global,
+fn push_entry_text<'a, K: Sink>(
+    shown: &Shown<'a>,
     entry: &Entry,
-    trees: &[PublishedTree],
-    buffer: &mut String,
+    last: &mut Option<TreeText<'a>>,
+    buffer: &mut Vec<u8>,
     sink: &mut K,
 ) -> Result<(), ReportFault>
-    ensures { Pushes (record { taken = K.taken sink.old; faults = K.faults sink.old; held = string_bytes buffer.old })
-        (record { taken = K.taken sink.new; faults = K.faults sink.new; held = string_bytes buffer.new })
-        (entry_text trees.now entry.now) result }
+    ensures { Pushes (record { taken = K.taken sink.old; faults = K.faults sink.old; held = buffer.old.items })
+        (record { taken = K.taken sink.new; faults = K.faults sink.new; held = buffer.new.items })
+        (entry_text shown.now.trees.now entry.now) result }
 {
-    push_entry(alloc, buffer, entry)?;
-    push_shown(shown_version(entry), trees, buffer, sink)
+    hold_entry(shown.alloc, entry, buffer)?;
+    push_shown(shown, shown_version(entry), last, buffer, sink)
 }
 
 /// Writes the lines of the tree of a version that is shown.
-fn push_shown<K: Sink>(
+fn push_shown<'a, K: Sink>(
+    shown: &Shown<'a>,
     version: Option<u64>,
-    trees: &[PublishedTree],
-    buffer: &mut String,
+    last: &mut Option<TreeText<'a>>,
+    buffer: &mut Vec<u8>,
     sink: &mut K,
 ) -> Result<(), ReportFault>
-    ensures { Pushes (record { taken = K.taken sink.old; faults = K.faults sink.old; held = string_bytes buffer.old })
-        (record { taken = K.taken sink.new; faults = K.faults sink.new; held = string_bytes buffer.new })
-        (shown_lines trees.now version) result }
+    ensures { Pushes (record { taken = K.taken sink.old; faults = K.faults sink.old; held = buffer.old.items })
+        (record { taken = K.taken sink.new; faults = K.faults sink.new; held = buffer.new.items })
+        (shown_lines shown.now.trees.now version) result }
 {
     match version {
-        Some(version) => push_tree_at(version, trees, buffer, sink),
+        Some(version) => push_tree_at(shown, version, last, buffer, sink),
         None => Ok(()),
     }
 }
 
 /// Writes the lines of the tree of a version.
-fn push_tree_at<K: Sink>(
+fn push_tree_at<'a, K: Sink>(
+    shown: &Shown<'a>,
     version: u64,
-    trees: &[PublishedTree],
-    buffer: &mut String,
+    last: &mut Option<TreeText<'a>>,
+    buffer: &mut Vec<u8>,
     sink: &mut K,
 ) -> Result<(), ReportFault>
-    ensures { Pushes (record { taken = K.taken sink.old; faults = K.faults sink.old; held = string_bytes buffer.old })
-        (record { taken = K.taken sink.new; faults = K.faults sink.new; held = string_bytes buffer.new })
-        (tree_lines (tree_at version trees.now)) result }
+    ensures { Pushes (record { taken = K.taken sink.old; faults = K.faults sink.old; held = buffer.old.items })
+        (record { taken = K.taken sink.new; faults = K.faults sink.new; held = buffer.new.items })
+        (tree_lines (tree_at version shown.now.trees.now)) result }
 {
-    match tree_at(trees, version) {
-        Some(tree) => push_tree(tree, buffer, sink),
+    match tree_at(shown.trees, version) {
+        Some(tree) => push_tree_after(shown.alloc, tree, last, buffer, sink),
         None => Ok(()),
     }
 }

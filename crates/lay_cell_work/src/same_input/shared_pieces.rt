@@ -4,8 +4,7 @@ ghost use Rattle.std.specs.Prelude.{◌≡◌, ◌↔◌, IsTrue, map};
 ghost use Rattle.lay_placements.specs.InnerPieces.{inner_pieces_at, pieces_or_none};
 
 use lay_context::SharedPieces;
-use lay_frag::{Frag, Pieces};
-use lay_same::same_pieces;
+use lay_frag::{Frag, Pieces, same_pieces};
 use std::sync::Arc;
 
 /// Whether the pieces of the anonymous formatting contexts in two others are the same.
