@@ -41,9 +41,10 @@ pub(crate) fn piece_line(alloc: Global, text: &str) -> Result<String> {
 }
 
 fn line(alloc: Global, frag: &Frag) -> Result<String> {
-    let mut line = String::new(alloc);
+    let mut line = Vec::new(alloc);
     ample(push_frag(&mut line, frag))?;
-    Ok(String::from_str(alloc, line.as_str().trim_end())?)
+    let text = str::from_utf8(line.as_slice()).unwrap_or("bytes that are no text");
+    Ok(String::from_str(alloc, text.trim_end())?)
 }
 
 /// The tree of the next cells.

@@ -1,3 +1,4 @@
 pub mod Roots
 pub mod Viewports
 pub mod KeptCells
+pub mod TouchedLists

@@ -1,1 +1,2 @@
 pub mod EditedLists
+pub mod TouchedLists

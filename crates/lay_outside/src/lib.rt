@@ -2,8 +2,8 @@
 //!
 //! A source and a sink tell a contract which bytes are left and which were taken, where they can, and
 //! count their faults; `specs/Outside.antt` says what a read and a write mean. The sources and sinks
-//! over memory are exact, and can be made to fail. The adapters over real streams tell no content:
-//! that a file, a pipe or a terminal behaves so is trusted.
+//! over memory are exact, and can be made to fail. The adapters over real streams tell what std's
+//! reader and writer tell. That a file, a pipe or a terminal hands on every byte is trusted.
 #![tactic(auto)]
 
 mod gate;

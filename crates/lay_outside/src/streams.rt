@@ -1,6 +1,7 @@
-//! The real streams. What they give and take is not told.
+//! The real streams. They tell the bytes that std's reader and writer tell: those of a slice or a vector are known, those of a
+//! file, a pipe or a terminal aren't.
 
-ghost use Rattle.std.specs.Prelude.{◌≡◌, None};
+ghost use Rattle.std.specs.Prelude.{◌≡◌};
 
 use crate::{Failed, Sink, Source};
 use std::io::{Read, Write};
@@ -22,7 +23,7 @@ impl<R> InputSource<R> {
 }
 
 impl<R: Read + Drop> Source for InputSource<R> {
-    ghost left = { λ _. None };
+    ghost left = { λ s. R.remaining s.reader };
 
     ghost faults = { λ s. s.faults };
 
@@ -54,7 +55,7 @@ impl<W> OutputSink<W> {
 }
 
 impl<W: Write + Drop> Sink for OutputSink<W> {
-    ghost taken = { λ _. None };
+    ghost taken = { λ s. W.contents s.writer };
 
     ghost faults = { λ s. s.faults };
 
