@@ -3,3 +3,4 @@ pub mod OneText
 pub mod OpenInlines
 pub mod PlainWords
 pub mod Words
+mod ClusterPlaces

@@ -5,3 +5,4 @@ pub mod InlineSegments
 pub mod InlineStarts
 pub mod OpenBoxes
 pub mod PlainWords
+pub mod ClusterLaws

@@ -56,21 +56,21 @@ pub lists_touch_reached_contexts_lem : TouchedContextsAreReached → ListsTouchR
 lists_touch_reached_contexts_lem one from to _ j none lt = inl (j, stays_itself from j lt)
 lists_touch_reached_contexts_lem one from to _ j (then edits mid edit _ led is) lt = elim (after_one one mid edit to is j lt) [
   | inl kept ↦ elim (lists_touch_reached_contexts_lem one from mid edits kept.0 led kept.1.within) [
-      | inl was ↦ inl (was.0, stays_on from mid to was.0 kept.0 j was.1 kept.1)
-      | inr way ↦ inr (further from mid edits edit to kept.0 j is kept.1 way)
-    ]
+    | inl was ↦ inl (was.0, stays_on from mid to was.0 kept.0 j was.1 kept.1)
+    | inr way ↦ inr (further from mid edits edit to kept.0 j is kept.1 way)
+  ]
   | inr reached ↦ inr (record {
-      first = edits;
-      edit = edit;
-      rest = [];
-      edits_are = refl;
-      before = mid;
-      next = to;
-      led = led;
-      edited = is;
-      leads = none;
-      i = j;
-      stays = stays_itself to j lt;
-      reached = reached;
-    })
+    first = edits;
+    edit = edit;
+    rest = [];
+    edits_are = refl;
+    before = mid;
+    next = to;
+    led = led;
+    edited = is;
+    leads = none;
+    i = j;
+    stays = stays_itself to j lt;
+    reached = reached;
+  })
 ]
