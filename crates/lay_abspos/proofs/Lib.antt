@@ -1,3 +1,4 @@
+pub mod Cited
 pub mod RelativeLemmas
 pub mod Filled
 pub mod OneAbsoluteBox

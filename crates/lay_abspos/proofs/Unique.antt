@@ -5,7 +5,7 @@ use Rattle.lay_units.specs.declared.records.Len.{Len}
 use Rattle.lay_units.specs.declared.records.Len.TheVariants.{Auto as auto, Of as of}
 use Rattle.lay_units.specs.declared.records.AbsOut.{AbsOut}
 use Rattle.lay_units.specs.declared.records.BlockIn.{BlockIn}
-use Rattle.lay_widths.proofs.Unique.{bounded_same}
+use Rattle.lay_abspos.proofs.Cited.{bounded_same}
 use Rattle.lay_abspos.specs.declared.axis.Axis.{Axis}
 use Rattle.lay_abspos.specs.declared.axis.Offsets.{Offsets}
 use Rattle.lay_abspos.specs.AbsoluteAxis.{across, available_beside, Cases, GivenAll, SolvesAxis, IsHeld, width_in}

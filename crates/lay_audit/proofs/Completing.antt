@@ -5,7 +5,7 @@ use Rattle.std.proofs.lemmas.Bool.{cases_eq, cases_lt}
 use Rattle.std.proofs.lemmas.List.{get_or-set_other, get_or-set_same}
 use Rattle.std.proofs.lemmas.Option.{same_Some, none-some}
 use Rattle.lay_history.specs.Edits.EditLists.{IsFirst, after_all, first}
-use Rattle.lay_history.proofs.EditsLemmas.Firsts.{first_is}
+use Rattle.lay_audit.proofs.Cited.{first_is, get_some}
 use Rattle.lay_doc.specs.declared.edit.EditFault.{EditFault}
 use Rattle.lay_doc.specs.declared.edit.Edit.{Edit as Change}
 use Rattle.lay_history.specs.declared.edits.command.Cmd.{Cmd}
@@ -16,7 +16,6 @@ use Rattle.lay_history.specs.declared.edits.history.Entry.{Entry}
 use Rattle.lay_history.specs.declared.edits.history.Entry.TheVariants.{Publish, Latest, Sync}
 use Rattle.lay_history.specs.Histories.{accepted, list_in, last_or, version_in}
 use Rattle.lay_history.specs.Trees.{PublishedTreeValue, tree_at}
-use Rattle.lay_history.proofs.Lists.{get_some}
 use Rattle.lay_context.specs.Laws.{OneSolution}
 use Rattle.lay_audit.specs.declared.step.Step.TheVariants as step
 use Rattle.lay_audit.specs.LegalReports.{Basis, IsWholeRun}

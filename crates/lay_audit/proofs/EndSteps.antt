@@ -8,8 +8,7 @@ use Rattle.lay_history.specs.declared.edits.history.Entry.{Entry}
 use Rattle.lay_history.specs.Histories.{accepted, shown_version}
 use Rattle.lay_history.specs.Trees.{PublishedTreeValue, tree_at}
 use Rattle.lay_report.specs.Report.{entry_line, entry_text, final_line, final_text, laid_line, shown_lines}
-use Rattle.lay_report.proofs.Joined.{decimal_lacks, lacks_append}
-use Rattle.lay_report.proofs.ReportLines.{laid_body}
+use Rattle.lay_audit.proofs.Cited.{decimal_lacks, lacks_append, laid_body}
 use Rattle.lay_context.specs.Laws.{OneSolution}
 use Rattle.lay_audit.specs.LegalReports.{Basis, IsLegalReport, IsWholeRun}
 use Rattle.lay_audit.specs.Lines.{behind_line, first_line}

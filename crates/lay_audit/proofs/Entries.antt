@@ -4,7 +4,7 @@ use Rattle.std.specs.Fmt.{decimal}
 use Rattle.std.specs.List.{All}
 use Rattle.std.proofs.lemmas.Option.{get_or_from_slice_get, same_Some}
 use Rattle.lay_doc.specs.declared.edit.Edit.{Edit as Change}
-use Rattle.lay_history.proofs.EditsLemmas.Firsts.{first_within}
+use Rattle.lay_audit.proofs.Cited.{decimal_lacks, entry_body, entry_ended, entry_lacks, entry_same, final_body, first_within, lacks_append, same_front}
 use Rattle.lay_history.specs.declared.edits.command.Cmd.{Cmd}
 use Rattle.lay_history.specs.declared.edits.command.Cmd.TheVariants as command
 use Rattle.lay_history.specs.declared.edits.command.Reply.{Reply}
@@ -14,9 +14,6 @@ use Rattle.lay_history.specs.declared.edits.history.Entry.TheVariants.{Edit, Pub
 use Rattle.lay_history.specs.Laws.{ShowsSame}
 use Rattle.lay_report.specs.Laws.{IsEntryWithin, IsReplyWithin}
 use Rattle.lay_report.specs.Report.{entry_line, final_line}
-use Rattle.lay_report.proofs.Joined.{decimal_lacks, lacks_append, same_front}
-use Rattle.lay_report.proofs.ReportLines.{entry_body, entry_ended, entry_lacks, final_body}
-use Rattle.lay_report.proofs.Telling.{entry_same}
 use Rattle.lay_audit.specs.declared.step.Step.{Step}
 use Rattle.lay_audit.specs.declared.step.Step.TheVariants as step
 use Rattle.lay_audit.specs.Lines.{behind_line, first_line}

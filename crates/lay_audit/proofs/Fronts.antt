@@ -7,9 +7,7 @@ use Rattle.std.proofs.lemmas.Option.{same_Some, none-some}
 use Rattle.lay_history.specs.declared.edits.command.Cmd.{Cmd}
 use Rattle.lay_history.specs.declared.edits.history.Entry.{Entry}
 use Rattle.lay_history.specs.Calls.{AnswersScripts, Call, call_if_of, call_in, calls, calls_of, script_calls, script_of}
-use Rattle.lay_history.proofs.Lists.{take_more}
-use Rattle.lay_history.proofs.OneMore.{calls_more}
-use Rattle.lay_history.proofs.Shown.{own_first}
+use Rattle.lay_audit.proofs.Cited.{calls_more, own_first, take_more}
 use Rattle.lay_audit.specs.Presents.{answered_of}
 
 -- a script's calls

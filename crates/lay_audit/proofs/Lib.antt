@@ -1,3 +1,4 @@
+pub mod Cited
 pub mod CheckLemmas
 mod LineFacts
 mod VerdictLaws

@@ -3,7 +3,7 @@ use Rattle.std.proofs.Common.{◌≡◌, ℕ, zero, suc, ◌+◌, ◌<◌, ◌�
 use Rattle.std.proofs.Math.Seq.{drop-cons}
 use Rattle.std.proofs.lemmas.List.{take_more}
 use Rattle.std.proofs.lemmas.List.Concat.{flat_map-append}
-use Rattle.lay_report.proofs.Joined.{AllLack, lacks_parts}
+use Rattle.lay_audit.proofs.Cited.{AllLack, lacks_parts}
 use Rattle.lay_audit.specs.WholeLines.{AllLackEnds, AreLines, LacksEnd, ended, joined}
 use Rattle.lay_audit.specs.Lines.{StartAlike, behind_line, first_line}
 

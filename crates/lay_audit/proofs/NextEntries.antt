@@ -13,9 +13,7 @@ use Rattle.lay_history.specs.declared.edits.history.Entry.TheVariants.{Edit, Pub
 use Rattle.lay_history.specs.Calls.{AnswersScripts, call_in, calls, calls_of, script_calls, script_of}
 use Rattle.lay_history.specs.Histories.{accepted, list_in, last_or, last_published, published, version_in}
 use Rattle.lay_history.specs.Legal.{AnswersEdits, AnswersLatest, AnswersSync, IsLegal, MayFollow, doc_after}
-use Rattle.lay_history.proofs.Lists.{take_whole}
-use Rattle.lay_history.proofs.OneMore.{accepted_more, doc_after_more, legal_more, published_more}
-use Rattle.lay_history.proofs.Versions.{all_below, last_of_all}
+use Rattle.lay_audit.proofs.Cited.{accepted_more, all_below, doc_after_more, last_of_all, legal_more, published_more, take_whole}
 use Rattle.lay_audit.specs.declared.step.Step.{Step}
 use Rattle.lay_audit.specs.declared.step.Step.TheVariants as step
 use Rattle.lay_audit.specs.LegalReports.{Basis}

@@ -13,8 +13,7 @@ use Rattle.lay_history.specs.declared.edits.history.Entry.TheVariants.{Publish}
 use Rattle.lay_history.specs.Histories.{accepted, doc_at, list_in, lists, last_or, last_published, published, version_in}
 use Rattle.lay_history.specs.Legal.{IsLegal}
 use Rattle.lay_history.specs.Trees.{HasTrees, PublishedTreeValue, tree_at, versions_of}
-use Rattle.lay_history.proofs.OneMore.{doc_before, published_more}
-use Rattle.lay_history.proofs.Versions.{last_of_all, none_greater}
+use Rattle.lay_audit.proofs.Cited.{doc_before, last_of_all, none_greater, published_more}
 use Rattle.lay_context.specs.Laws.{OneSolution}
 use Rattle.lay_context.specs.Solves.{Solves}
 use Rattle.lay_audit.specs.declared.step.Step.{Step}

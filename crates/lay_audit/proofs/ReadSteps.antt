@@ -8,7 +8,7 @@ use Rattle.lay_history.specs.Calls.{AnswersScripts}
 use Rattle.lay_history.specs.Histories.{accepted, last_published, shown_version}
 use Rattle.lay_history.specs.Legal.{IsLegal}
 use Rattle.lay_history.specs.Trees.{PublishedTreeValue}
-use Rattle.lay_history.proofs.ShownVersions.{shown_last}
+use Rattle.lay_audit.proofs.Cited.{shown_last}
 use Rattle.lay_report.specs.Report.{entry_line, entry_text, final_line, final_text, laid_line, run_report, shown_lines, tree_lines}
 use Rattle.lay_context.specs.Laws.{OneSolution}
 use Rattle.lay_audit.specs.declared.step.Step.{Step}

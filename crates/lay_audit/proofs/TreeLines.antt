@@ -2,7 +2,7 @@
 use Rattle.std.proofs.Common.{◌≡◌, ℕ, List, length, Some, refl, ◌∙◌}
 use Rattle.lay_frag.specs.Pieces.{Context}
 use Rattle.lay_frag.specs.Lines.{tree_text}
-use Rattle.lay_report.proofs.ReportLines.{tree_all_lack, tree_bodies, tree_joined}
+use Rattle.lay_audit.proofs.Cited.{tree_all_lack, tree_bodies, tree_joined}
 use Rattle.lay_audit.specs.WholeLines.{IsOfLines, joined}
 use Rattle.lay_audit.proofs.LineFacts.{lack_ends}
 

@@ -3,12 +3,11 @@ use Rattle.std.proofs.Common.{◌≡◌, ℕ, zero, suc, ◌+◌, ◌-◌, ◌*�
 use Rattle.std.proofs.lemmas.Bool.{eqb-true}
 use Rattle.std.proofs.Math.Seq.{drop-cons}
 use Rattle.std.proofs.lemmas.List.{drop_all, get_or-map}
-use Rattle.lay_style.proofs.Places.{place_within}
+use Rattle.lay_boxgen.proofs.Cited.{length-ids, place_within}
 use Rattle.lay_style.specs.declared.style.Style.{Style}
 use Rattle.lay_style.specs.Places.{place_of}
 use Rattle.lay_doc.specs.declared.node.Node.{Node}
 use Rattle.lay_doc.specs.Document.{Document, IsDocument, parents_of, depths_of, ids_of}
-use Rattle.lay_doc.proofs.NodeColumns.{length-ids}
 use Rattle.lay_boxgen.specs.Boxes.{Tree, Trees, tree, no_trees, also, trees_of}
 use Rattle.lay_boxgen.specs.BoxBounds.{BoxesAreFew}
 use Rattle.lay_boxgen.specs.Forms.{is_inline, is_absolute}

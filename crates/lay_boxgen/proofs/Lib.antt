@@ -1,3 +1,4 @@
+pub mod Cited
 mod Kept
 mod KeptRuns
 pub mod BoxMeasures

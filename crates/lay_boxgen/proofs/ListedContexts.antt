@@ -3,7 +3,7 @@ use Rattle.std.proofs.Common.{◌≡◌, ◌<◌, ℕ, zero, suc, ◌+◌, ◌==
 use Rattle.lay_style.specs.declared.style.Style.{Style}
 use Rattle.lay_style.specs.Places.{place_of}
 use Rattle.lay_doc.specs.Document.{Document, IsDocument, ids_of}
-use Rattle.lay_doc.proofs.NodeColumns.{length-ids}
+use Rattle.lay_boxgen.proofs.Cited.{length-ids}
 use Rattle.lay_boxgen.specs.Boxes.{Tree, Trees, tree, no_trees, also, trees_of, facts_of}
 use Rattle.lay_boxgen.specs.Contexts.{IsContextAt, IsContextThere}
 use Rattle.lay_boxgen.specs.InnerBoxes.{AllBoxes, AllIn, AllOf, IsInnerContext, LeadsOn, IsBehind, BoxesLeadOn}

@@ -3,7 +3,8 @@ use Rattle.std.proofs.Common.{ℕ, ◌+◌, ◌≤◌, List, [], ◌∷◌, leng
 use Rattle.lay_style.specs.declared.style.Style.{Style}
 use Rattle.lay_doc.specs.declared.node.Node.{Node}
 use Rattle.lay_box_tree.specs.BoxColumns.{box_parents}
-use Rattle.lay_box_tree.proofs.BoxForests.{IsForest, append, grow, none, parents-append, length-parents, whole}
+use Rattle.lay_boxgen.proofs.Cited.{append, grow, IsForest, none, parents-append, whole}
+use Rattle.lay_box_tree.proofs.BoxForests.{length-parents}
 use Rattle.lay_boxgen.specs.Boxes.{Tree, Trees, tree, no_trees, also, trees_of, facts_of}
 use Rattle.lay_boxgen.specs.declared.facts.Facts.{Facts}
 use Rattle.lay_boxgen.specs.Listing.{listed, all_listed}

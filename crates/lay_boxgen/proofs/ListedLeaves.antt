@@ -11,7 +11,8 @@ use Rattle.lay_boxgen.specs.Listing.{listed, all_listed, listed_part}
 use Rattle.lay_boxgen.specs.Parts.{part}
 use Rattle.lay_box_tree.specs.declared.box_tree.BoxNode.{BoxNode}
 use Rattle.lay_boxgen.specs.declared.facts.Facts.{Facts}
-use Rattle.lay_box_tree.proofs.BoxForests.{read_left, read_right, parents-append, length-parents}
+use Rattle.lay_boxgen.proofs.Cited.{parents-append, read_left, read_right}
+use Rattle.lay_box_tree.proofs.BoxForests.{length-parents}
 use Rattle.lay_boxgen.proofs.ListedForests.{boxes_are_a_tree_lem}
 use Rattle.lay_boxgen.proofs.FirstBoxes.{StartsOpen, part_starts_open}
 use Rattle.lay_boxgen.proofs.InnerLeaves.{IsOver, HasLeaves, AllHaveLeaves, part_has_leaves}

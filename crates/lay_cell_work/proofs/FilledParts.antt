@@ -7,7 +7,7 @@ use Rattle.lay_sizes.specs.SizeColumns.{sizes_at}
 use Rattle.lay_placements.specs.InnerPieces.{AreNearInnerPieces}
 use Rattle.lay_flow_boxes.specs.PlaceInputs.{PlaceInput, PlaceInputFits, height_rule_of}
 use Rattle.lay_table.specs.TableInputs.{TableInput, TableInputFits}
-use Rattle.lay_context.proofs.OwnHeights.{own_height_fits}
+use Rattle.lay_cell_work.proofs.Cited.{own_height_fits}
 
 pub refilled_flow : (i : PlaceInput) (inner : List OwnBox) (pieces : List (List Frag)) → PlaceInputFits i → length inner ≡ length i.inner → length pieces ≡ length i.pieces
     → OwnBoxesFit inner → AreNearInnerPieces pieces → PlaceInputFits (record i { inner = inner; pieces = pieces; own_height = height_rule_of (sizes_at i.sizes 0) })

@@ -1,3 +1,4 @@
+pub mod Cited
 pub mod CellLawsLemmas
 pub mod ClaimListsLemmas
 pub mod OutcomeLawsLemmas

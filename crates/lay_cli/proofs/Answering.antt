@@ -4,7 +4,7 @@ use Rattle.lay_units.specs.declared.memory.NoMemory.{NoMemory}
 use Rattle.lay_json.specs.declared.fault.InputFault.{InputFault}
 use Rattle.lay_json.specs.declared.fault.InputFault.TheVariants.{TooLong, NoMemory as ran_out}
 use Rattle.lay_json.specs.Styled.StyledReading.{IsStyledReading}
-use Rattle.lay_json.proofs.StyledLemmas.OneStyledReading.{styled_too_long}
+use Rattle.lay_cli.proofs.Cited.{styled_too_long}
 use Rattle.lay_cli.specs.declared.run_input.Input.{Input}
 use Rattle.lay_cli.specs.declared.run_input.Input.TheVariants.{Run as a_run, Refusal}
 use Rattle.lay_cli.specs.Answers.{IsFaultInput, IsInput}

@@ -5,7 +5,7 @@ use Rattle.lay_json.specs.declared.fault.InputFault.{InputFault}
 use Rattle.lay_json.specs.declared.fault.InputFault.TheVariants.{TooLong, NoMemory as ran_out}
 use Rattle.lay_json.specs.declared.styled.check.Check.{Check}
 use Rattle.lay_json.specs.Styled.StyledChecks.{IsStyledCheck}
-use Rattle.lay_json.proofs.StyledLemmas.OneStyledCheck.{check_too_long_lem}
+use Rattle.lay_cli.proofs.Cited.{check_too_long_lem}
 use Rattle.lay_core.specs.State.{State}
 use Rattle.lay_words.specs.declared.form.Form.TheVariants as form
 use Rattle.lay_cli.specs.declared.check_input.CheckInput.{CheckInput}

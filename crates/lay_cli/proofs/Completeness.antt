@@ -2,13 +2,12 @@
 use Rattle.std.proofs.Common.{◌≡◌, ◌⊎◌, ℕ, List, refl, inl, inr, Option, Some, None, IfSome, Ok, Err}
 use Rattle.lay_run.specs.Runs.{Run}
 use Rattle.lay_json.specs.Styled.StyledReading.{IsStyledReading}
-use Rattle.lay_json.proofs.StyledLemmas.OneStyledReading.{one_styled_reading_lem}
+use Rattle.lay_cli.proofs.Cited.{one_styled_check_lem, one_styled_reading_lem}
 use Rattle.lay_core.specs.State.{State}
 use Rattle.lay_words.specs.declared.form.Form.{Form}
 use Rattle.lay_words.specs.declared.form.Form.TheVariants as form
 use Rattle.lay_json.specs.declared.styled.check.Check.{Check}
 use Rattle.lay_json.specs.Styled.StyledChecks.{IsStyledCheck}
-use Rattle.lay_json.proofs.StyledLemmas.OneStyledCheck.{one_styled_check_lem}
 use Rattle.lay_cli.specs.Answers.{IsAskedWell, IsRefusal, IsRefused, OfRun, Refuses, Reports}
 use Rattle.lay_cli.specs.Checks.{IsCheckRefusal}
 use Rattle.lay_cli.specs.Endings.{Ends, SinkValue}

@@ -31,7 +31,7 @@ use Rattle.lay_positioned.specs.HoldersOutward.{Holder, IsHolderOutward, further
 use Rattle.lay_positioned.specs.Layouts.{content_corner, step}
 use Rattle.lay_abspos.specs.Offsets.{IsOffset, axis_of_height, corner_inside}
 use Rattle.lay_positioned.specs.Settings.{absolute_setting, root_setting, setting_beside}
-use Rattle.lay_positioned.proofs.SettingValues.{containing}
+use Rattle.lay_context.proofs.Cited.{containing}
 use Rattle.lay_context_sizes.specs.ContextSizes.{HasSizes, IsSizedAs, SizedContext}
 use Rattle.lay_context_sizes.specs.TableContexts.{is_table}
 use Rattle.lay_context_sizes.specs.declared.setting.Setting.{Setting}

@@ -1,3 +1,4 @@
+pub mod Cited
 pub mod AbsolutePlaces
 pub mod AllMeasured
 pub mod CornerSteps

@@ -3,16 +3,13 @@ use Rattle.std.proofs.Common.{◌≡◌, ℕ, zero, suc, ◌+◌, ◌<◌, List,
 use Rattle.std.proofs.lemmas.List.{ext_get_or}
 use Rattle.lay_doc.specs.Document.{Document, IsDocument, parents_of, declarations_of}
 use Rattle.lay_face.specs.FaceValue.{FaceValue}
-use Rattle.lay_doc.proofs.OneStyles.{one_style_column_lem}
-use Rattle.lay_doc.proofs.NodeColumns.{length-parents}
+use Rattle.lay_context.proofs.Cited.{are_contexts, length-parents, levels_are, levels_of, one_context_list_lem, one_style_column_lem}
 use Rattle.lay_frag.specs.Pieces.{Context as PageContext}
 use Rattle.lay_contexts.specs.ContextList.{AreContextsOf}
-use Rattle.lay_contexts.proofs.ContextNumbers.{are_contexts, one_context_list_lem}
 use Rattle.lay_contexts.specs.FormattingContexts.{FormattingContext, AreFormattingContexts}
 use Rattle.lay_contexts.specs.FormattingContextList.{AreFormattingContextsOf}
 use Rattle.lay_contexts.specs.FormattingLaws.{FormattingContextsStandInOrder, OneFormattingContextList}
 use Rattle.lay_positioned.specs.Levels.{HasLevels}
-use Rattle.lay_positioned.proofs.LevelSteps.{levels_are, levels_of}
 use Rattle.lay_placements.specs.declared.corner.Corner.{Corner}
 use Rattle.lay_context.specs.declared.task.Phase.TheVariants.{Size, Place}
 use Rattle.lay_context.specs.declared.task.Task.{Task}

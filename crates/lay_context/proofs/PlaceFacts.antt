@@ -4,7 +4,7 @@ use Rattle.lay_context_sizes.specs.MeasuredContexts.{MeasuredContext}
 use Rattle.lay_placements.specs.Placements.{Placement}
 use Rattle.lay_flow_boxes.specs.PlaceInputs.{PlaceInput}
 use Rattle.lay_placement.specs.ContextPlacements.{IsPlacement}
-use Rattle.lay_placement.proofs.StandingCounts.{length_standings}
+use Rattle.lay_context.proofs.Cited.{length_standings, one_own_place_lem}
 use Rattle.lay_table.specs.TableInputs.{TableInput}
 use Rattle.lay_table.specs.TablePlacements.{IsTablePlacement, standings_to as table_standings_to}
 use Rattle.lay_table.specs.TableStandings.{TablePlaces, standing_of}
@@ -12,7 +12,6 @@ use Rattle.lay_table_sizes.specs.TableSizesValue.{TableSizesValue}
 use Rattle.lay_context.specs.declared.value.Value.TheVariants as value
 use Rattle.lay_sizes.specs.declared.own_boxes.OwnBox.{OwnBox}
 use Rattle.lay_placements.specs.declared.corner.Corner.{Corner}
-use Rattle.lay_abspos.proofs.OnePlace.{one_own_place_lem}
 use Rattle.lay_context_sizes.specs.ContextSizes.{SizedContext}
 use Rattle.lay_context_sizes.specs.Inputs.{MeasureInput}
 use Rattle.lay_abspos.specs.OwnOffsets.{IsOwnOffset, StandInput}

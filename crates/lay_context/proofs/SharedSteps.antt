@@ -7,7 +7,7 @@ use Rattle.lay_line_items.specs.InlineContents.{KeptSegments}
 use Rattle.lay_flow_boxes.specs.AskedContents.{AreAskedContents, is_any_asked}
 use Rattle.lay_flow_boxes.specs.declared.asked_contents.Asked.{Asked}
 use Rattle.lay_flow_boxes.specs.declared.asked_contents.Asked.TheVariants.{Texts as texts, Anchors as anchors, Nothing as nothing}
-use Rattle.lay_flow_boxes.proofs.AskedSteps.{asked_any, asked_contents}
+use Rattle.lay_context.proofs.Cited.{asked_any, asked_contents}
 use Rattle.lay_contexts.specs.FormattingContexts.{FormattingContext, boxes_in}
 use Rattle.lay_context.specs.Measured.{is_measured}
 use Rattle.lay_context.specs.SharedContents.{AreShared, HaveContents, TextsAreKept, asked_in, contents_in}

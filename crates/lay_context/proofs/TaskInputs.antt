@@ -11,8 +11,7 @@ use Rattle.lay_positioned.specs.Absolute.{is_absolute, is_own_absolute}
 use Rattle.lay_positioned.specs.Layouts.{Layout}
 use Rattle.lay_positioned.specs.Settings.{absolute_setting}
 use Rattle.lay_positioned.specs.Ways.{AreAlikeAt, IsOnWay}
-use Rattle.lay_positioned.proofs.OneSetting.{alike}
-use Rattle.lay_positioned.proofs.SettingValues.{same_setting}
+use Rattle.lay_context.proofs.Cited.{alike, same_setting}
 use Rattle.lay_sizes.specs.declared.own_boxes.OwnBox.{OwnBox}
 use Rattle.lay_context.specs.declared.input.Input.{Input}
 use Rattle.lay_context.specs.declared.input.Input.TheVariants as input

@@ -4,7 +4,7 @@ use Rattle.std.proofs.lemmas.Bool.{cases_lt}
 use Rattle.std.proofs.lemmas.List.{append-nil}
 use Rattle.std.proofs.lemmas.Grind.{elements}
 use Rattle.lay_frag.specs.Pieces.{Context as PageContext, frags_of, page_pieces, IsContextInRange, IsTreeInRange}
-use Rattle.lay_frag.proofs.PieceLemmas.{length-page_pieces}
+use Rattle.lay_context.proofs.Cited.{length-page_pieces}
 use Rattle.lay_contexts.specs.FormattingContexts.{FormattingContext, formatting_context_at}
 use Rattle.lay_placements.specs.declared.corner.Corner.{Corner}
 use Rattle.lay_context.specs.Workings.{Workings}

@@ -3,7 +3,7 @@ use Rattle.std.proofs.Common.{ℕ, zero, suc, ◌<◌, ◌≤◌, Bool, true, fa
 use Rattle.lay_box_tree.specs.declared.box_tree.BoxNode.{BoxNode}
 use Rattle.lay_box_tree.specs.ContextBoxes.{AreContextBoxes}
 use Rattle.lay_box_tree.specs.Containing.{container_of, is_anonymous}
-use Rattle.lay_box_tree.proofs.ContainerSteps.{container_before}
+use Rattle.lay_context_sizes.proofs.Cited.{container_before}
 use Rattle.lay_placements.specs.ContainingBlocks.{height_holder}
 
 holder_by : (boxes : List BoxNode) (c : ℕ) (b : Bool) → AreContextBoxes boxes → c < length boxes → (if b then container_of boxes c else c) ≤ c

@@ -1,3 +1,4 @@
+pub mod Cited
 pub mod HolderSteps
 pub mod OneSizes
 pub mod OneWidths

@@ -11,15 +11,13 @@ use Rattle.lay_sizes.specs.declared.sizing.BoxSizes.{BoxSizes}
 use Rattle.lay_sizes.specs.declared.sizing.ContainingBlock.{ContainingBlock}
 use Rattle.lay_sizes.specs.BoxSizes.{IsSized}
 use Rattle.lay_sizes.specs.SizeColumns.{no_sizes, sizes_at}
-use Rattle.lay_sizes.proofs.OneSizes.{one_box_sizes_lem}
+use Rattle.lay_context_sizes.proofs.Cited.{container_before, one_absolute_sizes_lem, one_box_sizes_lem, one_stretched_height_lem, one_table_left_lem}
 use Rattle.lay_table_sizes.specs.TableSizesValue.{TableSizesValue}
 use Rattle.lay_table_sizes.specs.Laws.{OneCellSizes, OneTableSizes}
 use Rattle.lay_box_tree.specs.Containing.{container_of}
 use Rattle.lay_box_tree.specs.ContextBoxes.{AreContextBoxes, is_inner}
-use Rattle.lay_box_tree.proofs.ContainerSteps.{container_before}
 use Rattle.lay_placements.specs.ContainingBlocks.{block_around, height_holder}
 use Rattle.lay_box_tree.specs.BoxColumns.{box_at}
-use Rattle.lay_abspos.proofs.OneAbsoluteBox.{one_absolute_sizes_lem, one_stretched_height_lem, one_table_left_lem}
 use Rattle.lay_context_sizes.specs.ContextSizes.{IsSizedAs, IsStretchedIn, IsWrapperLeft, SizedContext, table_rule}
 use Rattle.lay_context_sizes.specs.FlowSizes.{HasFlowSizes, IsOwnSized, inside_rule}
 use Rattle.lay_context_sizes.specs.Inputs.{SizeInput, containing_block_in}

@@ -3,7 +3,7 @@ use Rattle.std.proofs.Common.{◌≡◌, ℕ, ◌+◌, ◌<◌, ◌≤◌, true,
 use Rattle.std.proofs.lemmas.Bool.{cases_lt}
 use Rattle.std.proofs.lemmas.Int.{ints}
 use Rattle.std.proofs.lemmas.Grind.{elements}
-use Rattle.lay_table_sizes.proofs.SizeSteps.{read_before, read_last}
+use Rattle.lay_context_sizes.proofs.Cited.{container_before, read_before, read_last}
 use Rattle.lay_units.specs.Units.{IsPosition}
 use Rattle.lay_box_tree.specs.declared.box_tree.BoxNode.{BoxNode}
 use Rattle.lay_sizes.specs.declared.sizing.BoxSizes.{BoxSizes}
@@ -12,7 +12,6 @@ use Rattle.lay_sizes.specs.SizeBounds.{SizeFits}
 use Rattle.lay_sizes.specs.SizeColumns.{HaveSizeBounds, no_sizes, sizes_at}
 use Rattle.lay_box_tree.specs.Containing.{container_of}
 use Rattle.lay_box_tree.specs.ContextBoxes.{AreContextBoxes, is_inner}
-use Rattle.lay_box_tree.proofs.ContainerSteps.{container_before}
 use Rattle.lay_placements.specs.ContainingBlocks.{block_around, height_holder}
 use Rattle.lay_context_sizes.specs.FlowSizes.{HaveInsideSizes, IsBoxSized}
 use Rattle.lay_context_sizes.proofs.HolderSteps.{holder_before}

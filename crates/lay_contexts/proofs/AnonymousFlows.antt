@@ -20,7 +20,7 @@ use Rattle.lay_boxgen.specs.declared.facts.Facts.{Facts}
 use Rattle.lay_box_tree.specs.declared.box_tree.Flow.{Flow}
 use Rattle.lay_box_tree.specs.declared.box_tree.Flow.TheVariants.{InFlow, Floating, Absolute}
 use Rattle.lay_boxgen.specs.declared.facts.Form.{Form}
-use Rattle.lay_boxgen.proofs.BoxMeasures.{append, child_wrapped_less, filter_less, in_wrapper_less, parented_less, relevant_less, remade_less, run_wrapped_less, stage_less, sum_is, sum_with, total, totals}
+use Rattle.lay_contexts.proofs.Cited.{append, child_wrapped_less, filter_less, in_wrapper_less, parented_less, relevant_less, remade_less, run_wrapped_less, stage_less, sum_is, sum_with, total, totals}
 use Rattle.lay_contexts.specs.FlowLaws.{AnonymousBoxesAreInFlow, IsInFlowWhereAnonymous}
 use Rattle.lay_contexts.proofs.ListedFacts.{all_boxes}
 use Rattle.lay_contexts.proofs.NodeFacts.{IsNodeTree, node_tree}

@@ -21,10 +21,7 @@ use Rattle.lay_boxgen.specs.Parts.{all_put, is_closed, nothing, own_tree, part, 
 use Rattle.lay_box_tree.specs.declared.box_tree.BoxNode.{BoxNode}
 use Rattle.lay_boxgen.specs.declared.facts.Facts.{Facts}
 use Rattle.lay_boxgen.specs.declared.node_trees.NodeTree.{NodeTree}
-use Rattle.lay_boxgen.proofs.CutNodes.{tree-cut}
-use Rattle.lay_boxgen.proofs.CutParts.{part-cut}
-use Rattle.lay_boxgen.proofs.EveryBox.{every-generated, every-in_box, every-kept, every-relevant, every-remade}
-use Rattle.lay_boxgen.proofs.NodeForms.{IsNodeBox, is-node_box}
+use Rattle.lay_contexts.proofs.Cited.{every-generated, every-in_box, every-kept, every-relevant, every-remade, is-node_box, IsNodeBox, part-cut, tree-cut}
 use Rattle.lay_contexts.specs.ContextTree.{parent_of}
 use Rattle.lay_contexts.proofs.Members.{NodeAt, node-at}
 

@@ -16,9 +16,7 @@ use Rattle.lay_boxgen.specs.Parts.{all_put, is_closed, nothing, part, put, put_l
 use Rattle.lay_box_tree.specs.declared.box_tree.BoxNode.{BoxNode}
 use Rattle.lay_boxgen.specs.declared.facts.Facts.{Facts}
 use Rattle.lay_boxgen.specs.declared.node_trees.NodeTree.{NodeTree}
-use Rattle.lay_boxgen.proofs.BoxMeasures.{sum_is, sum_with, total, totals}
-use Rattle.lay_boxgen.proofs.CutParts.{part-cut}
-use Rattle.lay_boxgen.proofs.NodeForms.{IsNodeBox, is-node_box}
+use Rattle.lay_contexts.proofs.Cited.{is-node_box, IsNodeBox, part-cut, sum_is, sum_with, total, totals}
 use Rattle.lay_contexts.proofs.Kept.{all_held, held, inside_of, mark, one_if, sum_held}
 use Rattle.lay_contexts.proofs.KeptOnce.{closed, generated_less}
 

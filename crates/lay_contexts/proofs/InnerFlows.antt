@@ -16,7 +16,7 @@ use Rattle.lay_box_tree.specs.declared.box_tree.Flow.{Flow}
 use Rattle.lay_box_tree.specs.declared.box_tree.Flow.TheVariants.{InFlow, Floating, Absolute}
 use Rattle.lay_boxgen.specs.declared.facts.Form.{Form}
 use Rattle.lay_boxgen.specs.declared.facts.Form.TheVariants.{Block, InlineBlock, Inline, Text, Replaced, Wrapper, InlineWrapper, Table, Caption, RowGroup, HeaderGroup, FooterGroup, Row, ColumnGroup, Column, Cell, Anchor}
-use Rattle.lay_boxgen.proofs.EveryBox.{every-generated, every-in_box, every-kept, every-relevant, every-remade}
+use Rattle.lay_contexts.proofs.Cited.{every-generated, every-in_box, every-kept, every-relevant, every-remade}
 use Rattle.lay_contexts.specs.FlowLaws.{InnerBoxesKeepFlow, StandsWhereInner, is_anchor}
 use Rattle.lay_contexts.proofs.ListedFacts.{all_boxes}
 use Rattle.lay_contexts.proofs.NodeFacts.{IsNodeTree, IsOfNode, node_tree}

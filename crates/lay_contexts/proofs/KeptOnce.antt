@@ -12,7 +12,7 @@ use Rattle.lay_boxgen.specs.MissingParents.{parented}
 use Rattle.lay_boxgen.specs.Parts.{is_closed}
 use Rattle.lay_boxgen.specs.TableWrappers.{in_wrapper}
 use Rattle.lay_boxgen.specs.declared.facts.Facts.{Facts}
-use Rattle.lay_boxgen.proofs.BoxMeasures.{total, totals, sum_with, sum_is, append, filter_less, relevant_less, child_wrapped_less, parented_less, in_wrapper_less, run_wrapped_less, remade_less, stage_less}
+use Rattle.lay_contexts.proofs.Cited.{append, child_wrapped_less, filter_less, in_wrapper_less, parented_less, relevant_less, remade_less, run_wrapped_less, stage_less, sum_is, sum_with, total, totals}
 use Rattle.lay_contexts.proofs.Kept.{one_if}
 
 -- the box of the inner context of the node with this id

@@ -1,3 +1,4 @@
+pub mod Cited
 pub mod EditedLemmas
 pub mod AnonymousFlows
 pub mod Apart

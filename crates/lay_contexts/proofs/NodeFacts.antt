@@ -14,7 +14,7 @@ use Rattle.lay_boxgen.specs.NodeBoxes.{facts_with, form_of, node_box}
 use Rattle.lay_boxgen.specs.NodeTrees.{anchor_facts, and_child, as_child, as_own, box_with, first_tree, node_trees, tree_at}
 use Rattle.lay_boxgen.specs.declared.facts.Facts.{Facts}
 use Rattle.lay_boxgen.specs.declared.facts.Form.{Form}
-use Rattle.lay_boxgen.proofs.NodeForms.{IsNodeBox, is-node_box}
+use Rattle.lay_contexts.proofs.Cited.{is-node_box, IsNodeBox}
 use Rattle.lay_contexts.specs.NodeTreeLaws.{child_trees, children_places, places_from}
 use Rattle.lay_contexts.proofs.ChildTrees.{children_stand_in_order}
 

@@ -19,9 +19,7 @@ use Rattle.lay_boxgen.specs.NodeTrees.{anchor_facts, and_child, as_child, as_own
 use Rattle.lay_boxgen.specs.Parts.{is_closed, nothing, part, put, put_list}
 use Rattle.lay_boxgen.specs.declared.facts.Facts.{Facts}
 use Rattle.lay_boxgen.specs.declared.facts.Form.{Form}
-use Rattle.lay_boxgen.proofs.CutParts.{part-cut}
-use Rattle.lay_boxgen.proofs.NodeForms.{IsBoxOf, IsNodeBox, is-node_box}
-use Rattle.lay_boxgen.proofs.Putting.{put-trees_of}
+use Rattle.lay_contexts.proofs.Cited.{is-node_box, IsBoxOf, IsNodeBox, part-cut, put-trees_of}
 use Rattle.lay_contexts.specs.NodeTreeLaws.{child_trees, children_places}
 use Rattle.lay_contexts.proofs.ChildTrees.{in-order}
 use Rattle.lay_contexts.specs.OwnNodes.{AreOwnNodes, IsOwnNode, OwnNode, OwnNodesDecide, own_at}

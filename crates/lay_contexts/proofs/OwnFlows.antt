@@ -7,7 +7,7 @@ use Rattle.lay_boxgen.specs.Listing.{listed_part}
 use Rattle.lay_boxgen.specs.NodeTrees.{as_own, box_with, tree_at}
 use Rattle.lay_boxgen.specs.Parts.{nothing, put_list}
 use Rattle.lay_boxgen.specs.declared.facts.Facts.{Facts}
-use Rattle.lay_boxgen.proofs.WholeParts.{context_is_one_box}
+use Rattle.lay_contexts.proofs.Cited.{context_is_one_box}
 use Rattle.lay_contexts.specs.FlowLaws.{OwnBoxesKeepFlow, flow_at}
 use Rattle.lay_contexts.specs.NodeTreeLaws.{child_trees, children_places}
 use Rattle.lay_contexts.proofs.ChildTrees.{children_stand_in_order}

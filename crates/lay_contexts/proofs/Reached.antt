@@ -4,6 +4,7 @@ use Rattle.lay_style.specs.declared.style.Style.{Style}
 use Rattle.lay_doc.specs.declared.node.Node.{Node}
 use Rattle.lay_doc.specs.Document.{ids_of, parents_of, is_element_at}
 use Rattle.lay_doc.specs.Tree.{IsTree}
+use Rattle.lay_contexts.proofs.Cited.{is-node_box, IsBoxOf, IsNodeBox, kept_by, parent_generates}
 use Rattle.lay_doc.proofs.NodeColumns.{length-parents}
 use Rattle.lay_boxgen.specs.Boxes.{Tree, Trees, tree, no_trees, also, trees_of, facts_of, remade, all_remade, in_box}
 use Rattle.lay_boxgen.specs.Contexts.{box_at, is_marked, keeps, keeps_form, GeneratesBox}
@@ -16,8 +17,6 @@ use Rattle.lay_boxgen.specs.Runs.{is_white_box}
 use Rattle.lay_boxgen.specs.declared.facts.Facts.{Facts}
 use Rattle.lay_boxgen.specs.declared.facts.Form.{Form}
 use Rattle.lay_boxgen.specs.declared.facts.Form.TheVariants.{Anchor, Text}
-use Rattle.lay_boxgen.proofs.Above.{kept_by, parent_generates}
-use Rattle.lay_boxgen.proofs.NodeForms.{IsBoxOf, IsNodeBox, is-node_box}
 use Rattle.lay_contexts.specs.ContextTree.{IsAround, parent, further, parent_of}
 use Rattle.lay_contexts.proofs.Kept.{append, generated_holds, held, no_text_tree, sum_held, sum_is}
 use Rattle.lay_contexts.proofs.Members.{InTrees, NodeAt, forest, in-trees, is-child, node-at, tree-is}

@@ -10,10 +10,7 @@ use Rattle.lay_boxgen.specs.Listing.{listed_part}
 use Rattle.lay_boxgen.specs.NodeTrees.{as_child, as_own, box_with, children_of, tree_at}
 use Rattle.lay_boxgen.specs.Parts.{nothing, part, put_list, whole}
 use Rattle.lay_boxgen.specs.declared.facts.Facts.{Facts}
-use Rattle.lay_boxgen.proofs.ListedForests.{boxes_are_a_tree_lem}
-use Rattle.lay_boxgen.proofs.ListedLeaves.{inner_boxes_are_leaves_lem}
-use Rattle.lay_boxgen.proofs.NodeForms.{IsNodeBox, is-node_box}
-use Rattle.lay_boxgen.proofs.WholeParts.{context_is_one_box}
+use Rattle.lay_contexts.proofs.Cited.{boxes_are_a_tree_lem, context_is_one_box, inner_boxes_are_leaves_lem, is-node_box, IsNodeBox}
 use Rattle.lay_box_tree.specs.ContextBoxes.{AreContextBoxes}
 use Rattle.lay_contexts.specs.ContextTree.{boxes_of_place}
 use Rattle.lay_contexts.specs.DocumentContexts.{AreDocumentContexts, root_spot, spot_at}

@@ -3,7 +3,7 @@ use Rattle.std.proofs.Common.{◌≡◌, ℕ, ◌+◌, zero, suc, List, [], ◌�
 use Rattle.std.proofs.lemmas.List.Concat.{flat_map-append}
 use Rattle.lay_history.specs.declared.edits.command.Cmd.{Cmd}
 use Rattle.lay_history.specs.Calls.{Call, call_if_of, calls_of, script_calls}
-use Rattle.lay_history.proofs.Shown.{heads_same, own_first, tails_same}
+use Rattle.lay_core.proofs.Cited.{heads_same, own_first, tails_same}
 
 not_empty : {X : Type 0} (x : X) (xs : List X) → [] ≡ x ∷ xs → ⊥
 not_empty x xs e = let n = ap length e in omega (arith, n)

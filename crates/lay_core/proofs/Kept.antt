@@ -14,8 +14,7 @@ use Rattle.lay_history.specs.Histories.{accepted, doc_at, list_in, lists, last_o
 use Rattle.lay_history.specs.Legal.{MayFollow}
 use Rattle.lay_history.specs.Calls.{call_in, calls}
 use Rattle.lay_history.specs.Trees.{PublishedTreeValue, versions_of}
-use Rattle.lay_history.proofs.OneMore.{accepted_more, call_count_more, doc_after_more, doc_before, legal_more, published_more}
-use Rattle.lay_history.proofs.Versions.{all_below, entries_are, few_versions, none_greater}
+use Rattle.lay_core.proofs.Cited.{accepted_more, all_below, call_count_more, doc_after_more, doc_before, entries_are, few_versions, legal_more, none_greater, published_more}
 use Rattle.lay_context.specs.Solves.{Solves}
 use Rattle.lay_document_cells.specs.State.{IsOfDocument, State as DocumentCells}
 use Rattle.lay_core.specs.Changes.{ChangesTo}

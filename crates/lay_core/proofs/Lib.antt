@@ -1,3 +1,4 @@
+pub mod Cited
 pub mod CoreLawsLemmas
 pub mod CellSteps
 pub mod CellWork

@@ -6,7 +6,7 @@ use Rattle.lay_history.specs.declared.edits.history.Entry.TheVariants.{Publish}
 use Rattle.lay_frag.specs.Pieces.{Context}
 use Rattle.lay_history.specs.Histories.{accepted}
 use Rattle.lay_history.specs.Calls.{calls}
-use Rattle.lay_history.proofs.OneMore.{calls_more}
+use Rattle.lay_core.proofs.Cited.{calls_more}
 use Rattle.lay_document_cells.specs.State.{State as DocumentCells}
 use Rattle.lay_core.specs.State.{State}
 use Rattle.lay_core.specs.Publishing.{PublishesUnless, RefreshesTo, is_last, with_tree}

@@ -6,7 +6,7 @@ use Rattle.lay_history.specs.declared.edits.command.Reply.TheVariants.{Accepted,
 use Rattle.lay_history.specs.declared.edits.history.Entry.TheVariants.{Publish}
 use Rattle.lay_history.specs.Histories.{accepted, last_or, last_published, published}
 use Rattle.lay_history.specs.Legal.{AnswersLatest, AnswersSync, IsWhole}
-use Rattle.lay_history.proofs.OneMore.{accepted_more, last_of_more, published_more}
+use Rattle.lay_core.proofs.Cited.{accepted_more, last_of_more, published_more}
 use Rattle.lay_core.specs.State.{State}
 use Rattle.lay_core.specs.Publishing.{PublishesUnless, RefreshesTo, is_last, is_version}
 use Rattle.lay_core.specs.Steps.{ShowsLatest, ShowsPresent, ShowsVersion, is_due}

@@ -5,7 +5,7 @@ use Rattle.std.proofs.lemmas.List.{take-append-drop}
 use Rattle.std.proofs.lemmas.List.Concat.{flat_map-append}
 use Rattle.lay_history.specs.declared.edits.history.Entry.{Entry}
 use Rattle.lay_history.specs.Histories.{doc_at, published, version_in}
-use Rattle.lay_history.proofs.ShownVersions.{shown_last}
+use Rattle.lay_core.proofs.Cited.{shown_last}
 use Rattle.lay_context.specs.Solves.{Solves}
 use Rattle.lay_core.specs.Laws.{ShownTrees}
 use Rattle.lay_core.proofs.LastTree.{IsFound, found, listed}

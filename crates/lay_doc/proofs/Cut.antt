@@ -5,7 +5,7 @@ use Rattle.std.specs.List.{remove_range, insert}
 use Rattle.std.proofs.lemmas.Bool.{cases_lt, lt-ltb, le-ltb}
 use Rattle.std.proofs.lemmas.List.{length-append, length-drop, length-take-le, get_or_append_left, get_or-append_right, get_or-take, get_or-drop, map-append, take-map, drop-map, take_more, take_all, drop_all}
 use Rattle.lay_style.specs.Places.{place_of}
-use Rattle.lay_style.proofs.Places.{place_fresh}
+use Rattle.lay_doc.proofs.Cited.{place_fresh}
 use Rattle.lay_doc.specs.declared.index.IdIndex.{IdIndex}
 use Rattle.lay_doc.specs.Index.{number_in, IsIndexOf}
 

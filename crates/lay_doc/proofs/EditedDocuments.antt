@@ -5,7 +5,7 @@ use Rattle.std.proofs.lemmas.Bool.{leb-false, ltb-false, not-false, or_parts}
 use Rattle.std.proofs.lemmas.List.Sums.{sum_by-cons}
 use Rattle.lay_units.specs.Limits.{longest_text, most_depth, most_nodes, most_text}
 use Rattle.lay_style.specs.Places.{place_of}
-use Rattle.lay_style.proofs.Places.{place_within}
+use Rattle.lay_doc.proofs.Cited.{place_within}
 use Rattle.lay_doc.specs.declared.node.Node.{Node}
 use Rattle.lay_doc.specs.declared.edit.Edit.TheVariants.{SetStyle, ClearStyle, SetText, Insert, Remove, Bad}
 use Rattle.lay_doc.specs.declared.edit.EditFault.{EditFault}

@@ -7,7 +7,7 @@ use Rattle.std.proofs.lemmas.Grind.{elements}
 use Rattle.std.proofs.lemmas.List.{get_or-map, length-append, length-map}
 use Rattle.std.proofs.lemmas.List.Edits.{length-insert}
 use Rattle.lay_style.specs.Places.{place_of}
-use Rattle.lay_style.proofs.Places.{map_none, place_here, place_later}
+use Rattle.lay_doc.proofs.Cited.{map_none, place_here, place_later}
 use Rattle.lay_doc.specs.declared.index.IdIndex.{IdIndex}
 use Rattle.lay_doc.specs.Tree.{shifted}
 use Rattle.lay_doc.specs.Index.{is_up_to, number_in, IsIndexOf}

@@ -1,3 +1,4 @@
+pub mod Cited
 pub mod NodeColumns
 pub mod Changed
 pub mod Slots

@@ -5,7 +5,7 @@ use Rattle.lay_doc.specs.Document.{Document, IsDocument}
 use Rattle.lay_doc.specs.declared.edit.Edit.{Edit}
 use Rattle.lay_doc.specs.Edits.{after, fault}
 use Rattle.lay_doc.specs.Laws.{PutsNode}
-use Rattle.lay_doc.proofs.NodeColumns.{length-parents}
+use Rattle.lay_document_cells.proofs.Cited.{length-parents, one_at}
 use Rattle.lay_face.specs.FaceValue.{FaceValue}
 use Rattle.lay_frag.specs.Pieces.{Context as PageContext}
 use Rattle.lay_contexts.specs.Contexts.{AreContexts, Context}
@@ -17,7 +17,6 @@ use Rattle.lay_cells.specs.Reads.{AllClean, IsFirstDirtyKey}
 use Rattle.lay_cells.specs.Reshapes.{Reshapes}
 use Rattle.lay_cells.specs.Shapes.{IsIn}
 use Rattle.lay_cells.specs.Sound.{IsSound}
-use Rattle.lay_cells.proofs.Lists.{one_at}
 use Rattle.lay_shape.specs.Keys.{AreOfOwnNodes}
 use Rattle.lay_shape.specs.Laws.{ContextsAreOfOwnNodes}
 use Rattle.lay_shape.specs.Shapes.{shape_of}

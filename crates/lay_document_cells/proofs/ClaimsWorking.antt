@@ -3,7 +3,7 @@ use Rattle.std.proofs.Common.{◌≡◌, ◌+◌, ◌≤◌, ℕ, inl, inr, ⊎_
 use Rattle.lay_cells.specs.Looks.{IsAt}
 use Rattle.lay_cells.specs.Places.{AtPlace}
 use Rattle.lay_cells.specs.Steps.{draws_after}
-use Rattle.lay_cells.proofs.Lists.{one_at}
+use Rattle.lay_document_cells.proofs.Cited.{one_at}
 use Rattle.lay_cells.specs.declared.answers.Claimed.TheVariants.{Granted, Reused, Taken}
 use Rattle.lay_cells.specs.declared.answers.Claimed.{Claimed}
 use Rattle.lay_shape.specs.declared.cell_key.CellKey.{CellKey}

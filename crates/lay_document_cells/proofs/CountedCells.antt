@@ -1,7 +1,7 @@
 -- Cells that are all clean were granted three times for each context.
 use Rattle.std.proofs.Common.{◌≡◌, ◌⊎◌, inl, inr, ⊎_elim, ℕ, ◌+◌, ◌-◌, ◌*◌, ◌≤◌, ◌<◌, List, length, refl, arith, ap, sym, subst, ◌∙◌}
 use Rattle.std.proofs.lemmas.Bool.{cases_lt}
-use Rattle.lay_doc.proofs.NodeColumns.{length-parents}
+use Rattle.lay_document_cells.proofs.Cited.{length-parents}
 use Rattle.lay_cells.specs.Reads.{AllClean}
 use Rattle.lay_cells.specs.Shapes.{IsIn}
 use Rattle.lay_contexts.specs.Contexts.{Context}

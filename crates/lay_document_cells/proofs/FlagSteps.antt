@@ -7,7 +7,7 @@ use Rattle.lay_contexts.specs.Contexts.{Context}
 use Rattle.lay_contexts.specs.FormattingContexts.{FormattingContext}
 use Rattle.lay_contexts.specs.FormattingContextList.{first_number}
 use Rattle.lay_context.specs.Measured.{is_measured}
-use Rattle.lay_context.proofs.FlagSteps.{read_before, read_last}
+use Rattle.lay_document_cells.proofs.Cited.{read_before, read_last}
 use Rattle.lay_shape.specs.Touched.ContextFlags.{AreContextFlagsTo}
 
 length_more : (flags : List Bool) (b : Bool) → length (flags ++ b ∷ []) ≡ length flags + 1

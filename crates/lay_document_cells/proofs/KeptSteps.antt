@@ -15,7 +15,7 @@ use Rattle.lay_cells.specs.declared.answers.Claimed.TheVariants.{Granted, Reused
 use Rattle.lay_cells.specs.declared.answers.Finished.{Finished}
 use Rattle.lay_cells.specs.declared.answers.Look.TheVariants as look
 use Rattle.lay_cells.specs.declared.answers.Released.{Released}
-use Rattle.lay_cells.proofs.Lists.{one_at}
+use Rattle.lay_document_cells.proofs.Cited.{one_at}
 use Rattle.lay_shape.specs.declared.cell_key.CellKey.{CellKey}
 use Rattle.lay_cells.specs.Progress.Grants.{ClaimsCount, FinishesCount, GiveBacksCount, grants, laid_of_all}
 use Rattle.lay_cells.specs.Progress.Progress.{FinishesKeepRows, GiveBacksKeepRows}

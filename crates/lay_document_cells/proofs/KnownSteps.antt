@@ -15,8 +15,7 @@ use Rattle.lay_cells.specs.Steps.{ClaimsIn, FinishesIn, GivesBackIn}
 use Rattle.lay_cells.specs.declared.answers.Claimed.{Claimed}
 use Rattle.lay_cells.specs.declared.answers.Finished.{Finished}
 use Rattle.lay_cells.specs.declared.answers.Released.{Released}
-use Rattle.lay_cells.proofs.OneState.{one_reshape_lem}
-use Rattle.lay_cells.proofs.Unchanged.{reshapes_to_itself}
+use Rattle.lay_document_cells.proofs.Cited.{one_reshape_lem, reshapes_to_itself}
 use Rattle.lay_context.specs.Medium.{Medium}
 use Rattle.lay_context.specs.Solves.{medium_of}
 use Rattle.lay_contexts.specs.Contexts.{Context}

@@ -1,3 +1,4 @@
+pub mod Cited
 mod Answered
 mod Batching
 mod ClaimsWorking

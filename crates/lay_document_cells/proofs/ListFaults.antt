@@ -7,7 +7,7 @@ use Rattle.lay_history.specs.Edits.Answers.{AnswersFirst}
 use Rattle.lay_history.specs.Edits.EditLists.{fault_at, first}
 use Rattle.lay_history.specs.declared.edits.batch_fault.BatchFault.{BatchFault}
 use Rattle.lay_history.specs.declared.edits.batch_fault.BatchFault.TheVariants.{At, NoMemory}
-use Rattle.lay_history.proofs.EditsLemmas.Lists.{none_first}
+use Rattle.lay_document_cells.proofs.Cited.{none_first}
 
 pub none_at_first : (d : Document) (edits : List Edit) → first d edits ≡ None → fault_at d edits 0 ≡ None
 none_at_first d [] none = refl

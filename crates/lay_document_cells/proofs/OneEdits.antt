@@ -1,14 +1,12 @@
 -- An edit leaves one state.
 use Rattle.std.proofs.Common.{◌≡◌, ℕ, ◌≤◌, List, [], length, map, refl, arith, ap, sym, subst, ◌∙◌}
-use Rattle.lay_contexts.proofs.ContextNumbers.{are_contexts}
-use Rattle.lay_contexts.proofs.FewContexts.{few_contexts}
+use Rattle.lay_document_cells.proofs.Cited.{are_contexts, few_contexts, length-parents}
 use Rattle.lay_contexts.specs.FormattingLaws.{OneFormattingContextList}
 use Rattle.lay_contexts.specs.Laws.{OneContextList}
 use Rattle.lay_doc.specs.declared.edit.Edit.{Edit}
 use Rattle.lay_doc.specs.Document.{Document, IsDocument, declarations_of, parents_of}
 use Rattle.lay_history.specs.Edits.EditLists.{after_all}
 use Rattle.lay_doc.specs.Laws.{OneStyleColumn}
-use Rattle.lay_doc.proofs.NodeColumns.{length-parents}
 use Rattle.lay_style.specs.declared.style.Style.{Style}
 use Rattle.lay_cells.specs.Laws.{OneMarking, OneReshape}
 use Rattle.lay_cells.specs.Rows.{entry_of}

@@ -9,8 +9,7 @@ use Rattle.lay_cells.specs.declared.answers.Claimed.{Claimed}
 use Rattle.lay_cells.specs.declared.answers.Claimed.TheVariants.{Granted, Reused, Taken}
 use Rattle.lay_cells.specs.declared.answers.Look.{Look}
 use Rattle.lay_cells.specs.declared.answers.Look.TheVariants as look
-use Rattle.lay_cells.proofs.Lists.{map_at, one_at, set_same}
-use Rattle.lay_cells.proofs.OneAnswer.{not_both, one_row}
+use Rattle.lay_document_cells.proofs.Cited.{map_at, not_both, one_at, one_row, set_same}
 use Rattle.lay_cells.specs.Progress.Progress.{ClaimsKeepRows, KeepsRows}
 use Rattle.lay_shape.specs.declared.cell_key.CellKey.{CellKey}
 use Rattle.lay_cell_work.specs.CellInputs.{CellInput}

@@ -11,8 +11,7 @@ use Rattle.lay_cells.specs.Sound.{IsSound}
 use Rattle.lay_cells.specs.Steps.{ClaimsIn}
 use Rattle.lay_cells.specs.declared.answers.Claimed.TheVariants.{Reused}
 use Rattle.lay_cells.specs.declared.answers.Look.TheVariants as look
-use Rattle.lay_cells.proofs.Lists.{one_at}
-use Rattle.lay_cells.proofs.OneAnswer.{one_row}
+use Rattle.lay_document_cells.proofs.Cited.{one_at, one_row}
 use Rattle.lay_shape.specs.declared.cell_key.CellKey.{CellKey}
 use Rattle.lay_cell_work.specs.CellInputs.{CellInput}
 use Rattle.lay_cell_work.specs.CellLocal.{IsCellLocal}

@@ -13,8 +13,7 @@ use Rattle.lay_cells.specs.declared.answers.Claimed.{Claimed}
 use Rattle.lay_cells.specs.declared.answers.Claimed.TheVariants.{Granted, Reused, Taken}
 use Rattle.lay_cells.specs.declared.answers.Look.{Look}
 use Rattle.lay_cells.specs.declared.answers.Look.TheVariants as look
-use Rattle.lay_cells.proofs.Lists.{map_at, one_at}
-use Rattle.lay_cells.proofs.OneAnswer.{one_row}
+use Rattle.lay_document_cells.proofs.Cited.{map_at, one_at, one_row}
 use Rattle.lay_cells.specs.Progress.Progress.{ClaimsKeepRows, FinishesKeepRows, GiveBacksKeepRows}
 use Rattle.lay_cells.specs.Progress.Settled.{CleansAt, FinishedCellsAreClean, GrantedClaimsAreReleased, ReusedCellsAreClean, claim_number}
 use Rattle.lay_shape.specs.declared.cell_key.CellKey.{CellKey}

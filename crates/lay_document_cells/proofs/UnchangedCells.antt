@@ -8,7 +8,7 @@ use Rattle.lay_cells.specs.Places.{AtPlace}
 use Rattle.lay_cells.specs.Reuses.{CanReuse}
 use Rattle.lay_cells.specs.Rows.{entry_of}
 use Rattle.lay_cells.specs.Shapes.{Entry}
-use Rattle.lay_cells.proofs.Lists.{one_at}
+use Rattle.lay_document_cells.proofs.Cited.{one_at}
 use Rattle.lay_context.specs.Medium.{Medium}
 use Rattle.lay_context.specs.Solves.{medium_of}
 use Rattle.lay_contexts.specs.Contexts.{Context}

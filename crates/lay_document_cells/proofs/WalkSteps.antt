@@ -7,7 +7,7 @@ use Rattle.lay_cells.specs.Places.{AreCleanFrom, IsClaimed, IsFirstDirtyFrom}
 use Rattle.lay_cells.specs.Reads.{AllClean, IsFirstDirtyKey}
 use Rattle.lay_cells.specs.Rows.{entry_of}
 use Rattle.lay_cells.specs.Shapes.{IsShape}
-use Rattle.lay_cells.proofs.Lists.{map_at, map_got, one_at}
+use Rattle.lay_document_cells.proofs.Cited.{map_at, map_got, one_at}
 use Rattle.lay_shape.specs.declared.cell_key.CellKey.{CellKey}
 use Rattle.lay_cell_work.specs.Claims.{Claim}
 use Rattle.lay_cell_work.specs.CellLaws.SoundCells.{CellRow}

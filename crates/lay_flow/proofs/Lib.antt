@@ -1,3 +1,4 @@
+pub mod Cited
 pub mod BlocksLemmas
 pub mod ColumnWrites
 pub mod SoFar

@@ -21,7 +21,7 @@ use Rattle.lay_floats.specs.Fits.{BoxFits, RequestFits, SolidFits}
 use Rattle.lay_floats.specs.FloatPlace.{IsFloatPlace, placed_at}
 use Rattle.lay_floats.specs.SolidPlace.{IsSolidPlace}
 use Rattle.lay_floats.specs.Within.{IsWithin, BoxWithin, RequestWithin}
-use Rattle.lay_floats.proofs.Bounds.{place_within_lem}
+use Rattle.lay_flow.proofs.Cited.{place_within_lem}
 use Rattle.lay_flow.specs.declared.blocks.shape.Shape.{Shape}
 use Rattle.lay_flow.specs.Blocks.Lengths.{length_at}
 use Rattle.lay_flow.specs.Blocks.MarginRuns.{block_at}

@@ -5,7 +5,7 @@ use Rattle.std.proofs.lemmas.Bool.{cases_eq, cases_lt}
 use Rattle.lay_face.specs.FaceValue.{FaceValue}
 use Rattle.lay_box_tree.specs.declared.box_tree.BoxNode.{BoxNode}
 use Rattle.lay_flow.specs.Blocks.Children.{flag_at}
-use Rattle.lay_flow.proofs.PassEnds.{flags_at}
+use Rattle.lay_flow_boxes.proofs.Cited.{flags_at}
 use Rattle.lay_box_tree.specs.Containing.{container_of}
 use Rattle.lay_line_items.specs.InlineContents.{AreContents, AreMarkedContents, KeptSegments, kept_at, kept_where}
 use Rattle.lay_line_items.specs.InlineSegments.{segments_in}

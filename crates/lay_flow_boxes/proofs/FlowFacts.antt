@@ -12,8 +12,7 @@ use Rattle.lay_box_tree.specs.declared.box_role.Role.TheVariants as role
 use Rattle.lay_box_tree.specs.declared.box_tree.BoxNode.{BoxNode}
 use Rattle.lay_box_tree.specs.Containers.{AreContainers, IsContainer, box_parent, counts, further as at_further, own as at_own, parent as at_parent}
 use Rattle.lay_box_tree.specs.Roles.{is_inline_level, role_at}
-use Rattle.lay_box_tree.proofs.BoxForests.{length-parents}
-use Rattle.lay_box_tree.proofs.NearestContainers.{containers_are_a_tree}
+use Rattle.lay_flow_boxes.proofs.Cited.{container_before, container_within, containers_are_a_tree, containers_are_nearest_lem, length-parents, parent_is, parents_length}
 use Rattle.lay_floats.specs.declared.requests.Side.{Side}
 use Rattle.lay_floats.specs.declared.requests.Clear.{Clear as Cleared}
 use Rattle.lay_flow.specs.declared.blocks.flow_box.FlowBox.{FlowBox}
@@ -27,7 +26,6 @@ use Rattle.lay_flow.specs.Blocks.FlowBoxes.{AreFlowBoxes, BlockBoxFits, FloatBox
 use Rattle.lay_flow.specs.Blocks.FlowPlaces.{AreNearPlaces, FlowPlacesValue, IsFlowOf, box_place_at}
 use Rattle.lay_flow.specs.Blocks.Lengths.{length_at}
 use Rattle.lay_flow.specs.Blocks.Weights.{weight}
-use Rattle.lay_flow.proofs.BlocksLemmas.BoxTrees.{parent_is, parents_length}
 use Rattle.lay_lines.specs.Content.LineContents.{LineContentValue}
 use Rattle.lay_line_measures.specs.BoxMeasuresValue.{BoxMeasuresValue}
 use Rattle.lay_sizes.specs.declared.sizing.BoxSizes.{BoxSizes}
@@ -42,7 +40,6 @@ use Rattle.lay_flow_boxes.specs.ContextBlocks.{AreFlowBoxesOf, block_box, cleare
 use Rattle.lay_flow_boxes.specs.InlineContainers.{holds, is_beside_lines, is_block_box, is_inline_container, is_of, is_own_container, stands_in}
 use Rattle.lay_flow_boxes.specs.NearLefts.{AreNearLefts, IsNearLeft}
 use Rattle.lay_flow_boxes.specs.PlaceInputs.{HeightRuleFits}
-use Rattle.lay_box_tree.proofs.ContainerSteps.{container_before, container_within, containers_are_nearest_lem}
 
 -- a height that is given is a used size
 pub given_fits : (height : Len) → IsUsedSizeOrAuto height → IsUsedSize (given_or_auto height (pos 0))

@@ -5,7 +5,7 @@ use Rattle.std.proofs.lemmas.Bool.Decides.{nat_tests}
 use Rattle.std.proofs.lemmas.Grind.{elements}
 use Rattle.lay_box_tree.specs.declared.box_tree.BoxNode.{BoxNode}
 use Rattle.lay_flow.specs.Blocks.Children.{flag_at}
-use Rattle.lay_flow.proofs.PassEnds.{flags_at}
+use Rattle.lay_flow_boxes.proofs.Cited.{flags_at}
 use Rattle.lay_flow_boxes.specs.declared.inline_containers.Level.{Level}
 use Rattle.lay_box_tree.specs.Containing.{container_of}
 use Rattle.lay_flow_boxes.specs.InlineContainers.{holds, is_of}

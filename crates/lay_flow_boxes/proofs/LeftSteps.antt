@@ -11,7 +11,7 @@ use Rattle.lay_sizes.specs.SizeColumns.{sizes_at}
 use Rattle.lay_box_tree.specs.Containing.{container_of}
 use Rattle.lay_box_tree.specs.ContextBoxes.{AreContextBoxes}
 use Rattle.lay_flow_boxes.specs.Outside.{outside}
-use Rattle.lay_box_tree.proofs.ContainerSteps.{container_before}
+use Rattle.lay_flow_boxes.proofs.Cited.{container_before}
 use Rattle.lay_flow_boxes.specs.ContextBlocks.{left_of_box, HasLefts}
 use Rattle.lay_flow_boxes.specs.NearLefts.{AreNearLefts, IsNearLeft}
 

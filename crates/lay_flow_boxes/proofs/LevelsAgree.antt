@@ -7,8 +7,7 @@ use Rattle.lay_box_tree.specs.Roles.{is_inline_level, role_at, role_of}
 use Rattle.lay_box_tree.specs.declared.box_role.Role.{Role}
 use Rattle.lay_box_tree.specs.declared.box_role.Role.TheVariants as role
 use Rattle.lay_box_tree.specs.declared.box_tree.BoxNode.{BoxNode}
-use Rattle.lay_box_tree.proofs.BoxForests.{length-parents}
-use Rattle.lay_box_tree.proofs.NearestContainers.{one_container}
+use Rattle.lay_flow_boxes.proofs.Cited.{containers_are_nearest_lem, length-parents, one_container, some_before}
 use Rattle.lay_measure.specs.Children.{Child, child_as, holds_lines, is_inline_level as is_inline_child}
 use Rattle.lay_measure.specs.MeasureInValue.{MeasureInValue}
 use Rattle.lay_measure.specs.PreferredWidths.{as_child, children, own_widths}
@@ -16,7 +15,6 @@ use Rattle.lay_measure.specs.LineParts.{contribution}
 use Rattle.lay_measure.specs.declared.preferred_widths.PreferredWidths.{PreferredWidths}
 use Rattle.lay_box_tree.specs.Containing.{container_of}
 use Rattle.lay_box_tree.specs.ContextBoxes.{AreContextBoxes}
-use Rattle.lay_box_tree.proofs.ContainerSteps.{containers_are_nearest_lem, some_before}
 use Rattle.lay_flow_boxes.specs.declared.inline_containers.Level.TheVariants.{Block as block_level, Inline as inline_level}
 use Rattle.lay_flow_boxes.specs.InlineContainers.{holds, is_beside_lines, is_block_box, is_of, is_own_container, stands_in}
 use Rattle.lay_flow_boxes.specs.LineItems.{AreHeldByOthers, IsIn, holds_nothing}

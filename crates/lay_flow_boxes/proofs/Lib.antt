@@ -1,3 +1,4 @@
+pub mod Cited
 pub mod WordsLemmas
 pub mod AloneSteps
 pub mod AskedSteps

@@ -13,8 +13,7 @@ use Rattle.lay_box_tree.specs.declared.box_tree.BoxKind.TheVariants as kind
 use Rattle.lay_box_tree.specs.declared.box_tree.BoxNode.{BoxNode}
 use Rattle.lay_box_tree.specs.declared.box_tree.Flow.{Flow}
 use Rattle.lay_box_tree.specs.declared.box_tree.Flow.TheVariants.{InFlow, Floating, Absolute}
-use Rattle.lay_box_tree.proofs.BoxForests.{length-parents}
-use Rattle.lay_box_tree.proofs.NearestContainers.{one_container}
+use Rattle.lay_flow_boxes.proofs.Cited.{containers_are_nearest_lem, length-parents, one_container, some_before}
 use Rattle.lay_style.specs.declared.style_words.Float.{Float}
 use Rattle.lay_style.specs.declared.style_words.Float.TheVariants as floating
 use Rattle.lay_space.specs.declared.item.Item.{Item}
@@ -24,7 +23,6 @@ use Rattle.lay_line_items.specs.InlineStarts.{takes_room}
 use Rattle.lay_line_items.specs.OpenBoxes.{is_inline}
 use Rattle.lay_box_tree.specs.Containing.{container_of}
 use Rattle.lay_box_tree.specs.ContextBoxes.{AreContextBoxes}
-use Rattle.lay_box_tree.proofs.ContainerSteps.{containers_are_nearest_lem, some_before}
 use Rattle.lay_flow_boxes.specs.declared.inline_containers.Level.TheVariants.{Block as block_level, Inline as inline_level}
 use Rattle.lay_flow_boxes.specs.InlineContainers.{holds, is_beside_lines, is_block_box, is_inline_container, is_own_container}
 use Rattle.lay_flow_boxes.specs.LineItems.{AreHeldByOthers, BoxesInLinesAreItems, IsIn, IsInLinesAs, ItemsAreBoxesInLines, Sort, as_anchor, as_atomic, as_inline, as_left_float, as_right_float, as_text, end, holds_nothing, named, sorts_of, start}

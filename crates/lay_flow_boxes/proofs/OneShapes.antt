@@ -17,7 +17,7 @@ use Rattle.lay_sizes.specs.declared.own_boxes.OwnBox.{OwnBox}
 use Rattle.lay_sizes.specs.SizeColumns.{sizes_at}
 use Rattle.lay_box_tree.specs.Containing.{container_of}
 use Rattle.lay_box_tree.specs.ContextBoxes.{AreContextBoxes}
-use Rattle.lay_box_tree.proofs.ContainerSteps.{container_before}
+use Rattle.lay_flow_boxes.proofs.Cited.{container_before}
 use Rattle.lay_flow_boxes.specs.ContextBlocks.{left_of_box, AreFlowBoxesOf, HasLefts}
 use Rattle.lay_flow_boxes.specs.FlowShapes.{measures_in}
 use Rattle.lay_flow_boxes.specs.Laws.{OneFlowShape}

@@ -1,3 +1,4 @@
+pub mod Cited
 pub mod PaintedLemmas
 pub mod Orders
 pub mod Rising

@@ -2,7 +2,7 @@
 use Rattle.std.proofs.Common.{◌≡◌, ◌∙◌, ℕ, zero, suc, ◌+◌, ◌-◌, ◌<◌, ◌≤◌, List, [], ◌∷◌, ◌++◌, length, replicate, slice_get, slice_index, slice_index_or, set, Option, Some, None, refl, sym, ap, arith, inl, inr}
 use Rattle.std.proofs.lemmas.Bool.{cases_eq}
 use Rattle.std.proofs.lemmas.List.{map-set, get_or-map, get_or-replicate, length-replicate, length-append, length-set, get_or-set_same, get_or-set_other}
-use Rattle.lay_frag.proofs.PieceLemmas.{slice_get-append_left, slice_get-append_right}
+use Rattle.lay_hit.proofs.Cited.{slice_get-append_left, slice_get-append_right}
 use Rattle.lay_frag.specs.declared.frag.Frag.{Frag}
 use Rattle.lay_hit.specs.NodePieces.{AreNumbers, node_pieces, piece_of}
 

@@ -11,7 +11,7 @@ use Rattle.lay_doc.specs.declared.node.Node.{Node}
 use Rattle.lay_frag.specs.declared.frag.Frag.{Frag}
 use Rattle.lay_frag.specs.declared.frag.FragKind.{FragKind}
 use Rattle.lay_frag.specs.declared.frag.FragKind.TheVariants as frag_kind
-use Rattle.lay_frag.proofs.PieceLemmas.{take_one_more}
+use Rattle.lay_hit.proofs.Cited.{take_one_more}
 use Rattle.lay_hit.specs.declared.question.Question.{Question}
 use Rattle.lay_hit.specs.declared.kinds.PaintKind.{PaintKind}
 use Rattle.lay_hit.specs.PaintKinds.{is_inline, kind_at}

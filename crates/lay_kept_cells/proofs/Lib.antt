@@ -1,3 +1,4 @@
+pub mod Cited
 pub mod StepsLemmas
 pub mod ListStepsLemmas
 pub mod TableLemmas

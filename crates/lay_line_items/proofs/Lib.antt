@@ -1,3 +1,4 @@
+pub mod Cited
 pub mod GatheredRuns
 pub mod OneText
 pub mod OpenInlines

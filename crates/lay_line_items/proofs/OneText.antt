@@ -13,7 +13,7 @@ use Rattle.lay_space.specs.declared.item.Item.TheVariants as item
 use Rattle.lay_space.specs.Modes.{collapses}
 use Rattle.lay_space.specs.CleanTexts.{IsClean}
 use Rattle.lay_space.specs.WhiteSpace.{left_over, processed, text_left}
-use Rattle.lay_space.proofs.CleanTexts.{clean_stays}
+use Rattle.lay_line_items.proofs.Cited.{clean_stays}
 use Rattle.lay_line_items.specs.InlineItems.{items_below, items_of, mode_of, text_of}
 use Rattle.lay_line_items.specs.InlineSegments.{items_in, measured, widths_in}
 use Rattle.lay_line_items.proofs.OpenInlines.{box_next}

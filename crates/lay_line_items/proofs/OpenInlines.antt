@@ -9,7 +9,7 @@ use Rattle.lay_box_tree.specs.Roles.{role_of}
 use Rattle.lay_box_tree.specs.declared.box_role.Role.{Role}
 use Rattle.lay_box_tree.specs.declared.box_role.Role.TheVariants as role
 use Rattle.lay_box_tree.specs.declared.box_tree.BoxNode.{BoxNode}
-use Rattle.lay_box_tree.proofs.BoxForests.{length-parents}
+use Rattle.lay_line_items.proofs.Cited.{length-parents}
 use Rattle.lay_space.specs.declared.item.Item.{Item}
 use Rattle.lay_space.specs.declared.item.Item.TheVariants as item
 use Rattle.lay_line_items.specs.InlineItems.{items_below, items_at, items_as}

@@ -9,7 +9,7 @@ use Rattle.lay_face.specs.FaceValue.{FaceValue}
 use Rattle.lay_face.specs.declared.clusters.Setting.{Setting}
 use Rattle.lay_face.specs.Clusters.{widths_of}
 use Rattle.lay_face.specs.PlainTexts.{IsNear, IsPlain, plain_width_of, plain_widths}
-use Rattle.lay_face.proofs.PlainTexts.{plain_widths_are}
+use Rattle.lay_line_items.proofs.Cited.{plain_widths_are}
 use Rattle.lay_space.specs.CleanTexts.{IsClean}
 use Rattle.lay_space.specs.declared.item.Mode.TheVariants.{Pre}
 use Rattle.lay_space.specs.declared.tokens.ClusterKind.TheVariants.{Linefeed, Tab, Other}

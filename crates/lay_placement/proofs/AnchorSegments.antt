@@ -19,7 +19,7 @@ use Rattle.lay_space.specs.Laws.{content_of, is_out_of_flow}
 use Rattle.lay_space.specs.Segments.{cut, last_segment, segments_of, text_of}
 use Rattle.lay_space.specs.Tokens.{begins_line, cluster_tokens, is_collapsible, tokens_of, tokens_of_item, without_leading_spaces}
 use Rattle.lay_space.specs.WhiteSpace.{processed, space_after}
-use Rattle.lay_space.proofs.KeptContent.{breaks_keep_content_lem}
+use Rattle.lay_placement.proofs.Cited.{breaks_keep_content_lem}
 use Rattle.lay_line_items.specs.InlineItems.{items_of}
 use Rattle.lay_line_items.specs.InlineSegments.{items_in, measured, measured_item, segments_in}
 use Rattle.lay_flow_boxes.specs.LineItems.{Sort, anchor, named, sorts_of}

@@ -20,13 +20,11 @@ use Rattle.lay_flow.specs.Blocks.BlockPositions.{is_lines}
 use Rattle.lay_flow.specs.Blocks.Boxes.{box_at}
 use Rattle.lay_flow.specs.Blocks.MarginRuns.{block_of}
 use Rattle.lay_box_tree.specs.Containing.{container_of}
-use Rattle.lay_box_tree.proofs.ContainerSteps.{container_within}
+use Rattle.lay_placement.proofs.Cited.{boxes_in_lines_lem, container_within, kind_with}
 use Rattle.lay_flow_boxes.specs.ContextBlocks.{content_of_box, holds_lines, is_anchor, line_container, lines_in, own_block}
 use Rattle.lay_flow_boxes.specs.InlineContainers.{is_inline_container}
 use Rattle.lay_flow_boxes.specs.LineItems.{IsInLinesAs, Sort, anchor, as_anchor, as_atomic, as_inline, as_left_float, as_right_float, as_text, sorts_of}
 use Rattle.lay_flow_boxes.specs.PlaceInputs.{PlaceInput}
-use Rattle.lay_flow_boxes.proofs.FlowFacts.{kind_with}
-use Rattle.lay_flow_boxes.proofs.LinesAreItems.{boxes_in_lines_lem}
 use Rattle.lay_placement.specs.ContextPlaces.{ContextPlaces, HasPlaces, measures_of, rows_at}
 use Rattle.lay_placement.specs.Laws.{AnchorsAreOnLines}
 use Rattle.lay_placement.proofs.AnchorSegments.{anchor_in_segments, sort_is_there}

@@ -7,7 +7,7 @@ use Rattle.lay_flow.specs.Blocks.BlockSizes.{BlockFits}
 use Rattle.lay_sizes.specs.declared.sizing.BoxSizes.{BoxSizes}
 use Rattle.lay_sizes.specs.SizeBounds.{SizeFits}
 use Rattle.lay_flow_boxes.specs.PlaceInputs.{HeightRuleFits}
-use Rattle.lay_flow_boxes.proofs.FlowFacts.{given_fits}
+use Rattle.lay_placement.proofs.Cited.{given_fits}
 use Rattle.lay_placement.specs.OneBox.{empty_block}
 
 -- it is within the bounds of blocks

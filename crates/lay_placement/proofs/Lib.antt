@@ -1,3 +1,4 @@
+pub mod Cited
 pub mod AnchorContents
 mod AnchorKinds
 pub mod AnchorRows

@@ -1,13 +1,10 @@
 -- The placement of a formatting context is the only one beside what it is given.
 use Rattle.std.proofs.Common.{◌≡◌, sym, ap, ◌∙◌}
 use Rattle.lay_flow.specs.Blocks.FlowPlaces.{IsFlowOf}
-use Rattle.lay_flow.proofs.BlocksLemmas.OneContextFlow.{one_flow_of_lem}
+use Rattle.lay_placement.proofs.Cited.{is_flow_tree, one_column_of_moves_lem, one_flow_of_lem, one_flow_shape_lem}
 use Rattle.lay_box_tree.specs.ContextBoxes.{AreContextBoxes}
-use Rattle.lay_abspos.proofs.RelativeLemmas.OneMoves.{one_column_of_moves_lem}
 use Rattle.lay_flow_boxes.specs.FlowShapes.{measures_in}
 use Rattle.lay_flow_boxes.specs.PlaceInputs.{PlaceInput}
-use Rattle.lay_flow_boxes.proofs.FlowFacts.{is_flow_tree}
-use Rattle.lay_flow_boxes.proofs.OneShapes.{one_flow_shape_lem}
 use Rattle.lay_placement.specs.ContextPlacements.{placement_of}
 use Rattle.lay_placement.specs.ContextPlaces.{ContextPlaces, HasPlaces}
 use Rattle.lay_placement.specs.Laws.{OnePlacement}

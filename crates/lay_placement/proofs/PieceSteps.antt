@@ -10,7 +10,7 @@ use Rattle.lay_flow_boxes.specs.PlaceInputs.{PlaceInput}
 use Rattle.lay_placements.specs.InnerPieces.{inner_pieces_at}
 use Rattle.lay_placements.specs.PieceParts.{with_pieces}
 use Rattle.lay_placements.specs.Splicing.{spliced}
-use Rattle.lay_placements.proofs.PieceSteps.{more_pieces}
+use Rattle.lay_placement.proofs.Cited.{more_pieces}
 use Rattle.lay_placement.specs.BoxStandings.{standing_of_box}
 use Rattle.lay_placement.specs.ContextPieces.{pieces_of_box, pieces_on_line, pieces_to, spliced_at}
 use Rattle.lay_placement.specs.ContextPlaces.{ContextPlaces}

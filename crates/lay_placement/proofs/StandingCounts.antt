@@ -6,7 +6,7 @@ use Rattle.lay_flow_boxes.specs.PlaceInputs.{PlaceInput}
 use Rattle.lay_placements.specs.declared.standing.Standing.{Standing}
 use Rattle.lay_placements.specs.Placements.{Placement}
 use Rattle.lay_placements.specs.Standings.{no_standing, standing_at}
-use Rattle.lay_placements.proofs.StandingColumns.{read_before, read_last}
+use Rattle.lay_placement.proofs.Cited.{read_before, read_last}
 use Rattle.lay_placement.specs.BoxStandings.{standing_of_box, standings_to}
 use Rattle.lay_placement.specs.ContextPlacements.{IsPlacement}
 use Rattle.lay_placement.specs.ContextPlaces.{ContextPlaces}

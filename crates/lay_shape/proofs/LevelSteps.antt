@@ -2,7 +2,7 @@
 use Rattle.std.proofs.Common.{◌≡◌, ℕ, zero, suc, ◌+◌, ◌<◌, ◌≤◌, List, length, refl, ap, arith}
 use Rattle.lay_contexts.specs.Contexts.{AreContexts, Context, context_at}
 use Rattle.lay_positioned.specs.Levels.{one_if}
-use Rattle.lay_positioned.proofs.LevelSteps.{one_at_most}
+use Rattle.lay_shape.proofs.Cited.{one_at_most}
 use Rattle.lay_shape.specs.Levels.{level_in, level_of}
 use Rattle.lay_shape.specs.Ways.{is_absolute}
 

@@ -1,3 +1,4 @@
+pub mod Cited
 pub mod TouchedLemmas
 pub mod KeptShapesLemmas
 pub mod ShapeLawsLemmas

@@ -19,17 +19,13 @@ use Rattle.lay_boxgen.specs.Listing.{listed_part}
 use Rattle.lay_boxgen.specs.NodeBoxes.{node_box}
 use Rattle.lay_boxgen.specs.NodeTrees.{as_own, box_with, tree_at}
 use Rattle.lay_boxgen.specs.Parts.{nothing, put_list}
-use Rattle.lay_boxgen.proofs.NodeForms.{IsNodeBox, is-node_box}
-use Rattle.lay_boxgen.proofs.WholeParts.{context_is_one_box}
+use Rattle.lay_shape.proofs.Cited.{box_within, children_stand_in_order, context_is_one_box, context_within, is-node_box, IsNodeBox, of_node}
 use Rattle.lay_contexts.specs.ContextList.{AreContextsOf}
 use Rattle.lay_contexts.specs.ContextTree.{boxes_of_place}
 use Rattle.lay_contexts.specs.Contexts.{Context, boxes_in}
 use Rattle.lay_contexts.specs.DocumentContexts.{root_spot, spot_at}
 use Rattle.lay_contexts.specs.NodeTreeLaws.{child_trees, children_places}
 use Rattle.lay_contexts.specs.declared.context_spot.ContextSpot.{ContextSpot}
-use Rattle.lay_contexts.proofs.ListedSteps.{context_within}
-use Rattle.lay_contexts.proofs.ChildTrees.{children_stand_in_order}
-use Rattle.lay_contexts.proofs.NodeFacts.{box_within, of_node}
 use Rattle.lay_shape.specs.Keys.{node_of}
 use Rattle.lay_shape.specs.Laws.{ContextsAreOfOwnNodes}
 

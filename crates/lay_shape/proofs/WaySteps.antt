@@ -6,8 +6,7 @@ use Rattle.lay_cells.specs.Shapes.{IsEachOnce, IsIn}
 use Rattle.lay_contexts.specs.Contexts.{AreContexts, Context, boxes_in, context_at}
 use Rattle.lay_positioned.specs.Holders.{IsHolderFor, holder_for}
 use Rattle.lay_positioned.specs.Levels.{one_if}
-use Rattle.lay_positioned.proofs.OneSetting.{one_holder_for}
-use Rattle.lay_positioned.proofs.SettingValues.{holder_is}
+use Rattle.lay_shape.proofs.Cited.{holder_is, one_holder_for}
 use Rattle.lay_shape.specs.Building.{is_inner_absolute, leads_on}
 use Rattle.lay_shape.specs.Levels.{level_of}
 use Rattle.lay_shape.specs.Ways.{IsOnWay, IsOnWayFrom, beyond, further, here, is_absolute, is_fixed, way_from, way_of}

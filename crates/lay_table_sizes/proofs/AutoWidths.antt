@@ -13,7 +13,7 @@ use Rattle.lay_widths.specs.Lengths.{edges_of}
 use Rattle.lay_widths.specs.MinMax.{AtMost}
 use Rattle.lay_widths.specs.declared.widths.BlockOut.{BlockOut}
 use Rattle.lay_widths.specs.declared.widths.UsedWidths.{UsedWidths}
-use Rattle.lay_widths.proofs.Unique.{one_float_width_lem}
+use Rattle.lay_table_sizes.proofs.Cited.{one_float_width_lem}
 use Rattle.lay_table_sizes.specs.AutoWidth.{IsAutoWidth}
 use Rattle.lay_table_sizes.specs.CellBounds.{cell_edges, cell_minimum}
 use Rattle.lay_table_sizes.specs.BoundLaws.{AutoTablesHaveRoom, AutoWidthsFitTheRoom, CellBoundsHaveOrder, GivenWidthsAreGreatest, IsUnbounded, OneAutoWidth}

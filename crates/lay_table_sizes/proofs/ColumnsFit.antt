@@ -18,13 +18,12 @@ use Rattle.lay_box_tree.specs.declared.box_tree.BoxKind.TheVariants as kind
 use Rattle.lay_box_tree.specs.declared.box_tree.BoxNode.{BoxNode}
 use Rattle.lay_box_tree.specs.BoxColumns.{style_of_box}
 use Rattle.lay_sizes.specs.SizeBounds.{IsUsedSizeOrAuto}
-use Rattle.lay_sizes.proofs.SizesFit.{size_is_used, used_size_is_used, zero_is_size}
+use Rattle.lay_table_sizes.proofs.Cited.{size_is_used, used_size_is_used, widths_are_within_lem, zero_is_size}
 use Rattle.lay_grid.specs.ColumnsFit.{CellFits, ColumnsFit}
 use Rattle.lay_grid.specs.Lengths.{ArePositions, MayBePosition}
 use Rattle.lay_grid.specs.Shares.{own_width}
 use Rattle.lay_grid.specs.declared.columns.FirstCell.{FirstCell}
 use Rattle.lay_grid.specs.Within.{AreUpTo, CellUpTo, IsUpTo}
-use Rattle.lay_grid.proofs.WidthsWithin.{widths_are_within_lem}
 use Rattle.lay_table_grid.specs.UsedSides.{AreUsedSides}
 use Rattle.lay_table_grid.specs.GridBounds.{CellFits as GridCellFits, TableGridFits}
 use Rattle.lay_table_grid.specs.TableGrid.{TableGridValue}

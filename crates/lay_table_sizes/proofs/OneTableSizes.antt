@@ -5,16 +5,13 @@ use Rattle.lay_units.specs.declared.length.Unit.{Unit as Length}
 use Rattle.lay_style.specs.declared.style.Style.{Style}
 use Rattle.lay_box_tree.specs.declared.box_tree.BoxNode.{BoxNode}
 use Rattle.lay_widths.specs.declared.widths.BlockOut.{BlockOut}
-use Rattle.lay_widths.proofs.Unique.{one_block_width_lem}
+use Rattle.lay_table_sizes.proofs.Cited.{held_same, one_block_width_lem, one_columns_lem, one_list_of_columns_lem}
 use Rattle.lay_sizes.specs.BoxSizes.{widths_beside}
 use Rattle.lay_sizes.specs.SizeColumns.{no_sizes}
 use Rattle.lay_sizes.specs.declared.sizing.BoxSizes.{BoxSizes}
 use Rattle.lay_sizes.specs.declared.sizing.ContainingBlock.{ContainingBlock}
-use Rattle.lay_sizes.proofs.OneSizes.{held_same}
 use Rattle.lay_grid.specs.Columns.{AreColumns}
-use Rattle.lay_grid.proofs.OneColumns.{one_columns_lem}
 use Rattle.lay_grid.specs.Automatic.AutoColumns.{AreAutoColumns}
-use Rattle.lay_grid.proofs.AutomaticLemmas.OneColumns.{one_list_of_columns_lem}
 use Rattle.lay_table_sizes.specs.ColumnBounds.{greatest_content, least_content, spaces}
 use Rattle.lay_table_sizes.specs.TableLayouts.{is_fixed}
 use Rattle.lay_table_sizes.proofs.AutoWidths.{one_auto_width_lem}

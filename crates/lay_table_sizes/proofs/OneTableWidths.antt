@@ -7,7 +7,7 @@ use Rattle.lay_measure.specs.MeasureInValue.{no_widths}
 use Rattle.lay_measure.specs.declared.preferred_widths.PreferredWidths.{PreferredWidths}
 use Rattle.lay_grid.specs.Shares.{own_at}
 use Rattle.lay_grid.specs.declared.automatic.bounds.Bound.{Bound}
-use Rattle.lay_grid.proofs.AutomaticLemmas.OneBounds.{one_list_of_bounds_lem}
+use Rattle.lay_table_sizes.proofs.Cited.{one_list_of_bounds_lem}
 use Rattle.lay_table_sizes.specs.ColumnBounds.{bounds_in}
 use Rattle.lay_table_sizes.specs.TableLayouts.{is_fixed}
 use Rattle.lay_table_grid.specs.GridLaws.{OneTableGrid}

@@ -14,7 +14,7 @@ use Rattle.lay_sizes.specs.BoxSizes.{widths_beside}
 use Rattle.lay_sizes.specs.SizeBounds.{IsInset, SizeFits}
 use Rattle.lay_sizes.specs.SizeColumns.{HaveSizeBounds, sizes_at}
 use Rattle.lay_sizes.specs.declared.sizing.BoxSizes.{BoxSizes}
-use Rattle.lay_sizes.proofs.SizesFit.{WidthsFit, held_fit, size_is_used}
+use Rattle.lay_table_sizes.proofs.Cited.{held_fit, size_is_used, WidthsFit}
 use Rattle.lay_table_sizes.specs.CellSizes.{content_width}
 use Rattle.lay_table_sizes.specs.TableSizes.{AreWrapperWidths, held, held_width, sizes_of_box, wrapper_block}
 use Rattle.lay_table_sizes.specs.declared.cell_size.CellSize.{CellSize}

@@ -5,7 +5,7 @@ use Rattle.lay_doc.specs.Tree.{IsTree, IsUnder, itself, child}
 use Rattle.lay_box_tree.specs.BoxColumns.{box_parents}
 use Rattle.lay_box_tree.specs.Containers.{box_parent}
 use Rattle.lay_box_tree.specs.declared.box_tree.BoxNode.{BoxNode}
-use Rattle.lay_box_tree.proofs.BoxForests.{length-parents}
+use Rattle.lay_abspos.proofs.Cited.{length-parents}
 use Rattle.lay_abspos.specs.Relative.SubtreeEnds.{AreEnds, AreEndsTo, IsEnd, IsOpenTo}
 
 -- the boxes that end at k have it, from the one behind `at` on

@@ -5,7 +5,7 @@ use Rattle.std.proofs.lemmas.Bool.{cases_lt}
 use Rattle.std.proofs.lemmas.Grind.{elements}
 use Rattle.lay_box_tree.specs.declared.box_tree.BoxNode.{BoxNode}
 use Rattle.lay_box_tree.specs.Containers.{box_parent}
-use Rattle.lay_box_tree.proofs.BoxForests.{length-parents}
+use Rattle.lay_abspos.proofs.Cited.{length-parents}
 use Rattle.lay_abspos.specs.Relative.FormerParents.{AreFormerParents, IsFormerParent}
 use Rattle.lay_box_tree.specs.ContextBoxes.{AreContextBoxes}
 use Rattle.lay_sizes.specs.declared.sizing.BoxSizes.{BoxSizes}

@@ -4,7 +4,7 @@ use Rattle.std.proofs.lemmas.Bool.{cases_lt, cases_eq, both_ways}
 use Rattle.lay_box_tree.specs.declared.box_tree.BoxNode.{BoxNode}
 use Rattle.lay_box_tree.specs.InlineParts.{id_at, is_inline_at, is_part_at}
 use Rattle.lay_box_tree.specs.LatestParts.{IsLatest}
-use Rattle.lay_box_tree.proofs.PartEnds.{no-part, other-part}
+use Rattle.lay_abspos.proofs.Cited.{no-part, other-part}
 use Rattle.lay_abspos.specs.Relative.OpenParts.{AreNextTo, IsNextTo}
 
 -- a box more that is no further part

@@ -3,11 +3,10 @@ use Rattle.std.proofs.Common.{◌≡◌, ◌⊎◌, inl, inr, ℕ, zero, suc, �
 use Rattle.std.proofs.lemmas.Bool.{cases_lt, cases_Bool, both_ways}
 use Rattle.std.proofs.lemmas.List.{length_push}
 use Rattle.lay_doc.specs.Tree.{IsTree, IsUnder, end_of}
-use Rattle.lay_doc.proofs.Subtrees.{has_subtree_lem}
+use Rattle.lay_abspos.proofs.Cited.{has_subtree_lem, length-parents}
 use Rattle.lay_box_tree.specs.BoxColumns.{box_parents}
 use Rattle.lay_box_tree.specs.Containers.{box_parent}
 use Rattle.lay_box_tree.specs.declared.box_tree.BoxNode.{BoxNode}
-use Rattle.lay_box_tree.proofs.BoxForests.{length-parents}
 use Rattle.lay_box_tree.specs.InlineParts.{id_at, is_inline_at, is_part_at}
 use Rattle.lay_abspos.specs.Relative.FormerParents.{AreFormerParents, IsFormerParent, WasIn}
 use Rattle.lay_abspos.proofs.RelativeLemmas.Ends.{each-longer}

@@ -23,7 +23,7 @@ use Rattle.lay_boxgen.specs.Contexts.{box_at, box_of_node}
 use Rattle.lay_boxgen.specs.Display.{element_form, flow_of, is_floated, is_out_of_flow_position, replaced_display, used_display}
 use Rattle.lay_boxgen.specs.NodeBoxes.{establishes_context, form_of, node_box, node_flow, replaced_form}
 use Rattle.lay_boxgen.specs.WhiteSpace.{text_form, white_form}
-use Rattle.lay_contexts.proofs.EditedLemmas.SameTrees.{SameNode}
+use Rattle.lay_after_edits.proofs.Cited.{SameNode}
 use Rattle.lay_after_edits.specs.Contexts.Reach.{AreTextsAlike, IsAlike, IsSeen}
 
 -- what is read of a list at a place

@@ -10,7 +10,7 @@ use Rattle.lay_doc.specs.Document.{Document, IsDocument, declarations_of, ids_of
 use Rattle.lay_doc.specs.Edits.{after}
 use Rattle.lay_doc.specs.Laws.{PutsNode}
 use Rattle.lay_doc.specs.Tree.{IsUnder}
-use Rattle.lay_doc.proofs.NodeColumns.{length-ids}
+use Rattle.lay_after_edits.proofs.Cited.{anchors_keep_contexts_around, length-ids, marked-true, place-is}
 use Rattle.lay_boxgen.specs.Forms.{is_absolute}
 use Rattle.lay_boxgen.specs.declared.facts.Facts.{Facts}
 use Rattle.lay_boxgen.specs.declared.facts.Form.{Form}
@@ -19,12 +19,9 @@ use Rattle.lay_boxgen.specs.Listing.{boxes_at, boxes_of}
 use Rattle.lay_boxgen.specs.NodeBoxes.{facts_with, form_of, node_flow}
 use Rattle.lay_contexts.specs.ContextTree.{boxes_of_place}
 use Rattle.lay_contexts.specs.ListedContexts.{AreContextPlaces}
-use Rattle.lay_contexts.proofs.OneStand.{marked-true}
 use Rattle.lay_contexts.specs.Edited.Anchors.{HasAbsoluteBox, IsRestyling, ReachesNode}
 use Rattle.lay_contexts.specs.Edited.Reached.{IsUnderThere, place_in, subject_of}
 use Rattle.lay_contexts.specs.Edited.Touched.{Edits}
-use Rattle.lay_contexts.proofs.EditedLemmas.NamedPlaces.{place-is}
-use Rattle.lay_contexts.proofs.EditedLemmas.RestyledAnchors.{anchors_keep_contexts_around}
 use Rattle.lay_after_edits.specs.Contexts.Anchored.{FlowsAbsolutely, IsAnchored, IsStyleEdit}
 use Rattle.lay_after_edits.specs.Contexts.Edited.{IsEdited}
 use Rattle.lay_after_edits.specs.Contexts.Reach.{IsChange}

@@ -4,11 +4,9 @@ use Rattle.std.proofs.lemmas.Bool.{cases_lt}
 use Rattle.std.proofs.lemmas.Grind.{elements}
 use Rattle.std.proofs.lemmas.List.{get_or-map}
 use Rattle.lay_style.specs.declared.style.Style.{Style}
-use Rattle.lay_style.proofs.Places.{place_within}
+use Rattle.lay_after_edits.proofs.Cited.{are_contexts, context_within, end_is_slot, length-ids, length-parents, place_within}
 use Rattle.lay_doc.specs.declared.edit.Edit.{Edit}
 use Rattle.lay_doc.specs.Document.{Document, IsDocument, ids_of, parents_of}
-use Rattle.lay_doc.proofs.NodeColumns.{length-ids, length-parents}
-use Rattle.lay_doc.proofs.Subtrees.{end_is_slot}
 use Rattle.lay_box_tree.specs.declared.box_tree.BoxNode.{BoxNode}
 use Rattle.lay_boxgen.specs.Contexts.{IsContextAt}
 use Rattle.lay_contexts.specs.ContextList.{AreContextsOf}
@@ -16,8 +14,6 @@ use Rattle.lay_contexts.specs.Contexts.{AreContexts, Context, boxes_in, context_
 use Rattle.lay_contexts.specs.ContextTree.{boxes_of_place}
 use Rattle.lay_contexts.specs.DocumentContexts.{root_spot, spot_at}
 use Rattle.lay_contexts.specs.declared.context_spot.ContextSpot.{ContextSpot}
-use Rattle.lay_contexts.proofs.ContextNumbers.{are_contexts}
-use Rattle.lay_contexts.proofs.ListedSteps.{context_within}
 use Rattle.lay_after_edits.specs.Contexts.Anchored.{IsAnchored, IsNarrowed}
 use Rattle.lay_after_edits.specs.Contexts.Building.{AreBuiltTo, IsBuilt}
 use Rattle.lay_after_edits.specs.Contexts.Edited.{IsEdited}

@@ -6,7 +6,7 @@ use Rattle.lay_doc.specs.declared.node.Node.{Node}
 use Rattle.lay_boxgen.specs.Contexts.{box_at, is_marked}
 use Rattle.lay_contexts.specs.ContextTree.{IsAround, further, parent, parent_of}
 use Rattle.lay_contexts.specs.ListedContexts.{AreContextPlaces}
-use Rattle.lay_contexts.proofs.OneStand.{marked-true}
+use Rattle.lay_after_edits.proofs.Cited.{marked-true}
 
 module _ (nodes : List Node) (styles : List Style) where
   pub above-root : (k a : ℕ) → IsAround nodes styles k a → 0 < k

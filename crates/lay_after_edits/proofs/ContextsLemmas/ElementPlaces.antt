@@ -7,7 +7,7 @@ use Rattle.lay_style.specs.declared.style.Style.{Style}
 use Rattle.lay_style.specs.Places.{place_of}
 use Rattle.lay_doc.specs.declared.node.Node.{Node}
 use Rattle.lay_doc.specs.Document.{Document, IsDocument, ids_of}
-use Rattle.lay_doc.proofs.NodeColumns.{length-ids}
+use Rattle.lay_after_edits.proofs.Cited.{context_within, length-ids, place-is}
 use Rattle.lay_box_tree.specs.BoxColumns.{box_at, no_box}
 use Rattle.lay_box_tree.specs.declared.box_tree.BoxNode.{BoxNode}
 use Rattle.lay_boxgen.specs.Contexts.{IsContextAt}
@@ -18,8 +18,6 @@ use Rattle.lay_contexts.specs.ContextTree.{boxes_of_place}
 use Rattle.lay_contexts.specs.DocumentContexts.{root_spot, spot_at}
 use Rattle.lay_contexts.specs.declared.context_spot.ContextSpot.{ContextSpot}
 use Rattle.lay_contexts.specs.ListedContexts.{AreContextPlaces}
-use Rattle.lay_contexts.proofs.ListedSteps.{context_within}
-use Rattle.lay_contexts.proofs.EditedLemmas.NamedPlaces.{place-is}
 use Rattle.lay_after_edits.specs.Contexts.Reach.{ArePlacesOf}
 
 same-read : (xs : List BoxNode) (k : ℕ) (x : BoxNode) → k < length xs → x ≡ slice_index_or xs k x → x ≡ box_at xs k

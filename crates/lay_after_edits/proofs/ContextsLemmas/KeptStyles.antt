@@ -8,10 +8,8 @@ use Rattle.lay_style.specs.ComputedStyle.{HasStyles, computed_style, declaration
 use Rattle.lay_doc.specs.declared.node.Node.{Node}
 use Rattle.lay_doc.specs.Document.{declarations_of, parents_of}
 use Rattle.lay_doc.specs.Tree.{IsTree}
-use Rattle.lay_doc.proofs.NodeColumns.{length-parents}
+use Rattle.lay_after_edits.proofs.Cited.{got, length-parents, same-declarations}
 use Rattle.lay_inherit.specs.StylesTo.{StylesTo}
-use Rattle.lay_contexts.proofs.EditedLemmas.OwnList.{got}
-use Rattle.lay_contexts.proofs.EditedLemmas.SameTrees.{same-declarations}
 use Rattle.lay_after_edits.specs.Contexts.Changed.{AreMadeAnew, AreStaying, IsStyleOf, KeepsUnmade, StylesStay}
 use Rattle.lay_after_edits.specs.Contexts.Links.{is_made}
 use Rattle.lay_after_edits.proofs.ContextsLemmas.Flags.{flag-before, flag-last}

@@ -12,7 +12,7 @@ use Rattle.lay_contexts.specs.Contexts.{Context, boxes_in, context_at}
 use Rattle.lay_contexts.specs.ContextTree.{StandsIn, boxes_of_place}
 use Rattle.lay_contexts.specs.DocumentContexts.{AreDocumentContexts, root_spot, spot_at}
 use Rattle.lay_contexts.specs.declared.context_spot.ContextSpot.{ContextSpot}
-use Rattle.lay_contexts.proofs.ContextNumbers.{blank_before, blank_last}
+use Rattle.lay_after_edits.proofs.Cited.{blank_before, blank_last}
 use Rattle.lay_after_edits.specs.Contexts.Building.{AreBuiltTo, IsBuilt}
 use Rattle.lay_after_edits.specs.Contexts.Links.{AreRestyled, HasLinks, is_made}
 use Rattle.lay_after_edits.specs.Contexts.Reach.{ArePlacesOf}

@@ -6,12 +6,10 @@ use Rattle.lay_style.specs.declared.style.Style.{Style}
 use Rattle.lay_doc.specs.declared.node.Node.{Node}
 use Rattle.lay_doc.specs.Document.{parents_of}
 use Rattle.lay_doc.specs.Tree.{IsTree}
-use Rattle.lay_doc.proofs.NodeColumns.{length-parents}
+use Rattle.lay_after_edits.proofs.Cited.{context_within, length-parents, marked-true}
 use Rattle.lay_boxgen.specs.Contexts.{box_at, is_marked}
 use Rattle.lay_contexts.specs.ContextTree.{IsAround, parent_of}
 use Rattle.lay_contexts.specs.ListedContexts.{AreContextPlaces}
-use Rattle.lay_contexts.proofs.ListedSteps.{context_within}
-use Rattle.lay_contexts.proofs.OneStand.{marked-true}
 use Rattle.lay_after_edits.specs.Contexts.Links.{is_made}
 use Rattle.lay_after_edits.specs.Contexts.Marks.{Marks}
 use Rattle.lay_after_edits.specs.Contexts.Near.{ArePassed, AreNearTo, AreReached, AreReachedTo, IsNoPlace, MarksNearest}

@@ -6,7 +6,7 @@ use Rattle.lay_doc.specs.Document.{Document, IsDocument, parents_of}
 use Rattle.lay_doc.specs.Tree.{IsUnder, child, end_of, itself}
 use Rattle.lay_boxgen.specs.Contexts.{IsContextAt}
 use Rattle.lay_contexts.specs.ContextTree.{IsAround, boxes_of_place, further, parent, parent_of}
-use Rattle.lay_contexts.proofs.ListedSteps.{context_within}
+use Rattle.lay_after_edits.proofs.Cited.{context_within}
 use Rattle.lay_after_edits.specs.Contexts.Reach.{AreAlike}
 use Rattle.lay_after_edits.proofs.ContextsLemmas.AlikeBoxes.{AlikeNode}
 use Rattle.lay_after_edits.proofs.ContextsLemmas.Restyling.{Restyling, not-under, same-boxes}

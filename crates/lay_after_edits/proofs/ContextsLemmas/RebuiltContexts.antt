@@ -5,11 +5,9 @@ use Rattle.lay_style.specs.declared.style.Style.{Style}
 use Rattle.lay_style.specs.ComputedStyle.{style_at}
 use Rattle.lay_doc.specs.declared.node.Node.{Node}
 use Rattle.lay_doc.specs.Document.{Document, IsDocument, parents_of}
-use Rattle.lay_doc.proofs.NodeColumns.{length-parents}
+use Rattle.lay_after_edits.proofs.Cited.{context_within, got, length-parents}
 use Rattle.lay_contexts.specs.ContextList.{AreContextsOf}
 use Rattle.lay_contexts.specs.Contexts.{Context}
-use Rattle.lay_contexts.proofs.ListedSteps.{context_within}
-use Rattle.lay_contexts.proofs.EditedLemmas.OwnList.{got}
 use Rattle.lay_after_edits.specs.Contexts.Changed.{AreAlikeTo, AreMadeAnew}
 use Rattle.lay_after_edits.specs.Contexts.Links.{is_made}
 use Rattle.lay_after_edits.specs.Contexts.Near.{AreReached}

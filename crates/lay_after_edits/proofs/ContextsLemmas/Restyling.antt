@@ -12,14 +12,8 @@ use Rattle.lay_doc.specs.Changes.{changed_at, style_fault, text_fault, with_styl
 use Rattle.lay_doc.specs.Document.{Document, IsDocument, declarations_of, ids_of, parents_of}
 use Rattle.lay_doc.specs.Edits.{fault}
 use Rattle.lay_doc.specs.Tree.{IsUnder, end_of}
-use Rattle.lay_doc.proofs.NodeColumns.{length-ids, length-parents}
-use Rattle.lay_doc.proofs.Subtrees.{has_subtree_lem}
-use Rattle.lay_style.proofs.Places.{place_within}
+use Rattle.lay_after_edits.proofs.Cited.{changed-keeping, got, has_subtree_lem, ids-stay, length-ids, length-parents, parents-stay, place_within, restyled, same-style, SameNode, Stays}
 use Rattle.lay_contexts.specs.Edited.Reached.{place_in, subject_of}
-use Rattle.lay_contexts.proofs.EditedLemmas.ChangedNodes.{Stays, changed-keeping, ids-stay, parents-stay}
-use Rattle.lay_contexts.proofs.EditedLemmas.EditedContexts.{restyled}
-use Rattle.lay_contexts.proofs.EditedLemmas.OwnList.{got}
-use Rattle.lay_contexts.proofs.EditedLemmas.SameTrees.{SameNode, same-style}
 use Rattle.lay_after_edits.specs.Contexts.Edited.{IsEdited}
 use Rattle.lay_after_edits.specs.Contexts.Reach.{AreAlike, AreTextsAlike, IsAlike, IsChange, StaysSeen}
 use Rattle.lay_after_edits.specs.Contexts.Rebuilt.{SameBoxes}

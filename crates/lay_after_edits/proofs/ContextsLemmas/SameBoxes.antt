@@ -6,14 +6,11 @@ use Rattle.lay_style.specs.declared.style.Style.{Style}
 use Rattle.lay_style.specs.ComputedStyle.{style_at}
 use Rattle.lay_doc.specs.declared.node.Node.{Node}
 use Rattle.lay_doc.specs.Document.{Document, IsDocument, parents_of}
-use Rattle.lay_doc.proofs.NodeColumns.{length-parents}
+use Rattle.lay_after_edits.proofs.Cited.{are-own, length-parents, own_nodes, own_nodes_decide, own_places, SameNode}
 use Rattle.lay_boxgen.specs.declared.facts.Facts.{Facts}
 use Rattle.lay_boxgen.specs.Contexts.{GeneratesBox, IsContextAt, below, box_at, has_box, is_marked, keeps, root}
 use Rattle.lay_contexts.specs.ContextTree.{IsAround, boxes_of_place, further, parent, parent_of}
 use Rattle.lay_contexts.specs.OwnNodes.{AreOwnNodes, IsOwnNode, OwnNode, own_at}
-use Rattle.lay_contexts.proofs.OwnBoxes.{own_nodes_decide}
-use Rattle.lay_contexts.proofs.EditedLemmas.OwnList.{are-own, own_nodes, own_places}
-use Rattle.lay_contexts.proofs.EditedLemmas.SameTrees.{SameNode}
 use Rattle.lay_after_edits.specs.Contexts.Rebuilt.{SameBoxes}
 use Rattle.lay_after_edits.specs.Contexts.Reach.{IsAlike}
 use Rattle.lay_after_edits.proofs.ContextsLemmas.AlikeBoxes.{AlikeNode, no-box, same-box}

@@ -8,11 +8,8 @@ use Rattle.lay_doc.specs.declared.node.Node.{Node}
 use Rattle.lay_doc.specs.Changes.{changed_at, with_style, with_text, without_style}
 use Rattle.lay_doc.specs.Document.{Document, ids_of}
 use Rattle.lay_doc.specs.Edits.{after}
-use Rattle.lay_doc.proofs.NodeColumns.{length-ids}
-use Rattle.lay_doc.proofs.Changed.{column_stays}
+use Rattle.lay_after_edits.proofs.Cited.{column_stays, got, length-ids, restyled}
 use Rattle.lay_history.specs.Edits.EditLists.{after_all}
-use Rattle.lay_contexts.proofs.EditedLemmas.EditedContexts.{restyled}
-use Rattle.lay_contexts.proofs.EditedLemmas.OwnList.{got}
 use Rattle.lay_after_edits.specs.Contexts.Changed.{AreStaying, ChangesAt, HasForm}
 use Rattle.lay_after_edits.specs.Contexts.Links.{is_made}
 use Rattle.lay_after_edits.specs.Contexts.Marks.{Marks}

@@ -4,7 +4,7 @@ use Rattle.std.proofs.lemmas.Bool.{cases_lt}
 use Rattle.std.proofs.lemmas.List.{length-map}
 use Rattle.std.proofs.lemmas.Option.{slice_get-map}
 use Rattle.lay_box_tree.specs.declared.box_tree.BoxNode.{BoxNode}
-use Rattle.lay_same.proofs.Lists.{at_place, same_lists}
+use Rattle.lay_after_edits.proofs.Cited.{at_place, same_lists}
 use Rattle.lay_after_edits.specs.Contexts.Unstyled.{all_unstyled, unstyled}
 
 read : (xs : List BoxNode) (k : ℕ) (x : BoxNode) → k < length xs → x ≡ slice_index_or xs k x → slice_get (all_unstyled xs) k ≡ Some (unstyled x)

@@ -7,9 +7,7 @@ use Rattle.lay_doc.specs.declared.node.Node.{Node}
 use Rattle.lay_doc.specs.Changes.{changed_at}
 use Rattle.lay_doc.specs.Document.{declarations_of, parents_of}
 use Rattle.lay_doc.specs.Tree.{IsTree, end_of}
-use Rattle.lay_doc.proofs.NodeColumns.{length-parents}
-use Rattle.lay_doc.proofs.Subtrees.{end_is_slot, parent_behind}
-use Rattle.lay_doc.proofs.Changed.{column_stays}
+use Rattle.lay_after_edits.proofs.Cited.{column_stays, end_is_slot, length-parents, parent_behind}
 use Rattle.lay_after_edits.specs.declared.styles.stretch.Stretch.{Stretch}
 use Rattle.lay_after_edits.specs.Styles.Stretches.{earlier, none_of, subtree_at}
 use Rattle.lay_after_edits.proofs.StylesLemmas.MovedStyles.{IsMoved}

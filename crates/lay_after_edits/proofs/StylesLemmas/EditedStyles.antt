@@ -1,7 +1,7 @@
 -- An edit keeps the styles outside of its stretch.
 use Rattle.std.proofs.Common.{◌≡◌, ℕ, zero, suc, ◌+◌, List, length, refl, sym, ap, ◌∙◌, arith, subst, Option, None, Some, option_map, slice_index}
 use Rattle.std.proofs.lemmas.Option.{same_Some}
-use Rattle.lay_contexts.proofs.EditedLemmas.EditedContexts.{put-in}
+use Rattle.lay_after_edits.proofs.Cited.{length-parents, put-in, there}
 use Rattle.lay_style.specs.declared.style.Style.{Style}
 use Rattle.lay_style.specs.Places.{place_of}
 use Rattle.lay_style.specs.ComputedStyle.{HasStyles}
@@ -14,8 +14,6 @@ use Rattle.lay_doc.specs.Edits.{after, after_insert, fault, insert_fault, insert
 use Rattle.lay_doc.specs.NewNodes.{NewNodeValue}
 use Rattle.lay_doc.specs.Removal.{after_remove, remove_fault}
 use Rattle.lay_doc.specs.Tree.{slot_of}
-use Rattle.lay_doc.proofs.NodeColumns.{length-parents}
-use Rattle.lay_doc.proofs.EditedDocuments.{there}
 use Rattle.lay_after_edits.specs.declared.styles.stretch.Stretch.{Stretch}
 use Rattle.lay_after_edits.specs.Styles.KeptStyles.{KeepsStyles}
 use Rattle.lay_after_edits.specs.Styles.Stretches.{inserted_at, none_of, removed_at, stretch_of, subtree_at}

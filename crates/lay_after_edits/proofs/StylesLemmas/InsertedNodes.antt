@@ -9,9 +9,7 @@ use Rattle.lay_style.specs.ComputedStyle.{declarations_at}
 use Rattle.lay_doc.specs.declared.node.Node.{Node}
 use Rattle.lay_doc.specs.Document.{declarations_of, inserted, moved, parents_of}
 use Rattle.lay_doc.specs.Tree.{IsTree, shifted}
-use Rattle.lay_doc.proofs.Inserted.{map-map, parents_inserted}
-use Rattle.lay_doc.proofs.NodeColumns.{length-parents}
-use Rattle.lay_doc.proofs.PutTrees.{shifted_high, shifted_low}
+use Rattle.lay_after_edits.proofs.Cited.{length-parents, map-map, parents_inserted, shifted_high, shifted_low}
 use Rattle.lay_after_edits.specs.Styles.Stretches.{earlier, inserted_at}
 use Rattle.lay_after_edits.proofs.StylesLemmas.MovedStyles.{IsMoved}
 use Rattle.lay_after_edits.proofs.StylesLemmas.StyleLists.{earlier_high, earlier_low}

@@ -1,9 +1,8 @@
 -- Where a node that is put in stands.
 use Rattle.std.proofs.Common.{◌≡◌, ℕ, ◌+◌, ◌==◌, ◌||◌, slice_index, Bool, true, false, not, refl, ap, ◌∙◌, arith, Option, None, Some, if◌then◌else◌, is_some, nat_lt, option_map, subst}
 use Rattle.std.proofs.lemmas.Bool.{ltb-false, or_parts}
-use Rattle.lay_contexts.proofs.EditedLemmas.EditedContexts.{put-in}
+use Rattle.lay_after_edits.proofs.Cited.{ids_inserted, length-ids, length-parents, place_insert_here, place_within, put-in, slot_found}
 use Rattle.lay_style.specs.Places.{place_of}
-use Rattle.lay_style.proofs.Places.{place_within}
 use Rattle.lay_doc.specs.declared.edit.Edit.{Edit}
 use Rattle.lay_doc.specs.declared.edit.Edit.TheVariants.{Insert}
 use Rattle.lay_doc.specs.declared.edit.EditFault.{EditFault}
@@ -14,10 +13,6 @@ use Rattle.lay_doc.specs.Document.{Document, IsDocument, becomes, depths_of, ids
 use Rattle.lay_doc.specs.Edits.{after, after_insert, fault, fault_below, insert_fault}
 use Rattle.lay_doc.specs.NewNodes.{NewNodeValue}
 use Rattle.lay_doc.specs.Tree.{IsSlot, child_count, slot_of}
-use Rattle.lay_doc.proofs.FoundSlots.{slot_found}
-use Rattle.lay_doc.proofs.Indexed.{place_insert_here}
-use Rattle.lay_doc.proofs.Inserted.{ids_inserted}
-use Rattle.lay_doc.proofs.NodeColumns.{length-ids, length-parents}
 use Rattle.lay_after_edits.specs.Styles.Stretches.{inserted_at, stretch_of}
 
 passed : (b : Bool) (f : EditFault) (rest : Option EditFault) → (if b then Some f else rest) ≡ None → (b ≡ false) × (rest ≡ None)

@@ -3,7 +3,7 @@ use Rattle.std.proofs.Common.{◌≡◌, ℕ, zero, suc, ◌+◌, ◌<◌, ◌�
 use Rattle.lay_style.specs.declared.style.Style.{Style}
 use Rattle.lay_style.specs.Values.{Declaration}
 use Rattle.lay_style.specs.ComputedStyle.{HasStyles, computed_style, declarations_at, parent_style, style_at}
-use Rattle.lay_inherit.proofs.StyleSteps.{inner}
+use Rattle.lay_after_edits.proofs.Cited.{inner}
 use Rattle.lay_after_edits.specs.declared.styles.stretch.Stretch.{Stretch}
 use Rattle.lay_after_edits.specs.Styles.KeptStyles.{KeepsStyles}
 use Rattle.lay_after_edits.specs.Styles.Stretches.{earlier}

@@ -9,11 +9,7 @@ use Rattle.lay_doc.specs.declared.node.Node.{Node}
 use Rattle.lay_doc.specs.Document.{declarations_of, parents_of}
 use Rattle.lay_doc.specs.Removal.{closed_up, moved_back, removed_between}
 use Rattle.lay_doc.specs.Tree.{IsSlot, IsTree, child_count, end_of}
-use Rattle.lay_doc.proofs.Cut.{cut_read, length-cut, map-cut, old_high, old_low, old_place}
-use Rattle.lay_doc.proofs.Inserted.{map-map}
-use Rattle.lay_doc.proofs.NodeColumns.{length-parents}
-use Rattle.lay_doc.proofs.Subtrees.{end_is_slot, parent_behind}
-use Rattle.lay_doc.proofs.Removed.{closed_low, closed_high, parents_removed}
+use Rattle.lay_after_edits.proofs.Cited.{closed_high, closed_low, cut_read, end_is_slot, length-cut, length-parents, map-cut, map-map, old_high, old_low, old_place, parent_behind, parents_removed}
 use Rattle.lay_after_edits.specs.Styles.Stretches.{earlier, removed_at}
 use Rattle.lay_after_edits.proofs.StylesLemmas.MovedStyles.{IsMoved}
 use Rattle.lay_after_edits.proofs.StylesLemmas.StyleLists.{earlier_high, earlier_low}

@@ -8,7 +8,7 @@ use Rattle.lay_style.specs.InitialStyle.{initial_style}
 use Rattle.lay_style.specs.ComputedStyle.{HasStyles, computed_style, declarations_at, parent_style, style_at}
 use Rattle.lay_doc.specs.Tree.{IsTree}
 use Rattle.lay_inherit.specs.StylesTo.{StylesTo}
-use Rattle.lay_inherit.proofs.StyleSteps.{inner}
+use Rattle.lay_after_edits.proofs.Cited.{inner}
 use Rattle.lay_after_edits.specs.declared.styles.stretch.Stretch.{Stretch}
 use Rattle.lay_after_edits.specs.Styles.KeptStyles.{KeepsStyles}
 use Rattle.lay_after_edits.specs.Styles.Stretches.{earlier}

@@ -3,7 +3,7 @@ use Rattle.std.proofs.Common.{◌≡◌, ◌<◌, ◌+◌, ◌-◌, ◌==◌, �
 use Rattle.std.proofs.lemmas.List.FromFn.{get_or-map-range_with_len, length-map-range_with_len}
 use Rattle.std.proofs.lemmas.Option.{slice_get-get_or}
 use Rattle.std.proofs.lemmas.Bool.{eqb-true}
-use Rattle.lay_doc.proofs.NodeColumns.{length-parents}
+use Rattle.lay_cell_work.proofs.Cited.{are_contexts, length-parents, root_of}
 use Rattle.lay_context_sizes.specs.MeasuredContexts.{not_measured}
 use Rattle.lay_cells.specs.Shapes.{IsIn}
 use Rattle.lay_cells.specs.Reads.{AllClean}
@@ -12,8 +12,6 @@ use Rattle.lay_contexts.specs.Contexts.{AreContexts, Context}
 use Rattle.lay_contexts.specs.FormattingContexts.{FormattingContext}
 use Rattle.lay_contexts.specs.FormattingContextList.{AreFormattingContextsOf, first_number}
 use Rattle.lay_contexts.specs.Laws.{AnonymousBoxesAreInFlow}
-use Rattle.lay_contexts.proofs.ContextFacts.{root_of}
-use Rattle.lay_contexts.proofs.ContextNumbers.{are_contexts}
 use Rattle.lay_context_sizes.specs.ContextSizes.{not_sized}
 use Rattle.lay_context.specs.declared.input.Input.{Input}
 use Rattle.lay_context.specs.declared.task.Phase.{Phase}

@@ -6,8 +6,7 @@ use Rattle.std.proofs.lemmas.List.FromFn.{get_or-map-range_with_len, length-map-
 use Rattle.lay_contexts.specs.Contexts.{AreContexts, Context, boxes_in as boxes_of_context}
 use Rattle.lay_contexts.specs.FormattingContexts.{FormattingContext, boxes_in, formatting_context_at}
 use Rattle.lay_contexts.specs.FormattingContextList.{AreFormattingContextsOf, first_number}
-use Rattle.lay_contexts.proofs.ContextFacts.{in_order, root_of}
-use Rattle.lay_contexts.proofs.RootNumbers.{first_le, roots_lt}
+use Rattle.lay_cell_work.proofs.Cited.{first_le, in_order, root_of, roots_lt}
 use Rattle.lay_table_sizes.specs.TableSizesValue.{TableSizesValue}
 use Rattle.lay_context_sizes.specs.Inputs.{MeasureInput}
 use Rattle.lay_context.specs.declared.input.Input.{Input}

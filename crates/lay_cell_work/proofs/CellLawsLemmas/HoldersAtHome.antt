@@ -1,15 +1,12 @@
 -- The nearest holder of a box among the boxes of its context, and among those of the root that it is at home in.
 use Rattle.std.proofs.Common.{◌≡◌, ◌<◌, ℕ, Bool, true, false, List, length, slice_index, Option, Some, refl, ap, sym, subst, ◌∙◌, arith}
-use Rattle.lay_shape.proofs.ShapeLawsLemmas.WayContexts.{holder_of}
+use Rattle.lay_cell_work.proofs.Cited.{at_rank, holder_of, is_home, not_own, parent_low, parent_of, place_other, place_root, rank_some, root_home, same_home}
 use Rattle.lay_box_tree.specs.BoxColumns.{box_at}
 use Rattle.lay_box_tree.specs.ContextBoxes.{AreContextBoxes}
 use Rattle.lay_box_tree.specs.Containers.{box_parent}
 use Rattle.lay_box_tree.specs.declared.box_tree.BoxNode.{BoxNode}
 use Rattle.lay_contexts.specs.FormattingBoxes.{boxes_of_root, place_inside, rank}
 use Rattle.lay_contexts.specs.Homes.{AreHomes, is_root}
-use Rattle.lay_contexts.proofs.AtHome.{is_home}
-use Rattle.lay_contexts.proofs.NearestRoots.{not_own, parent_low, root_home, same_home}
-use Rattle.lay_contexts.proofs.RootBoxes.{at_rank, parent_of, place_other, place_root, rank_some}
 use Rattle.lay_positioned.specs.Holders.{IsNearestHolder, further, is_holder, is_holder_at, parent}
 
 module _ (boxes : List BoxNode) (homes : List ℕ) (are : AreContextBoxes boxes) (found : AreHomes boxes homes) where

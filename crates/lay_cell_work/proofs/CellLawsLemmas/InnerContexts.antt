@@ -12,17 +12,11 @@ use Rattle.lay_box_tree.specs.declared.box_tree.BoxNode.{BoxNode}
 use Rattle.lay_boxgen.specs.Contexts.{IsContextAt}
 use Rattle.lay_boxgen.specs.InnerBoxes.{IsInnerContext}
 use Rattle.lay_boxgen.specs.Listing.{box_node}
-use Rattle.lay_boxgen.proofs.InnerContexts.{inner_boxes_are_contexts}
+use Rattle.lay_cell_work.proofs.Cited.{all_boxes, are_contexts, boxes_there, contexts_are_noted, contexts_stand_once, inner_boxes_are_contexts, inner_of}
 use Rattle.lay_contexts.specs.Contexts.{IsInside as IsInsideContext, boxes_in, context_at}
 use Rattle.lay_contexts.specs.ContextTree.{StandsIn, boxes_of_place}
 use Rattle.lay_contexts.specs.DocumentContexts.{spot_at}
 use Rattle.lay_contexts.specs.declared.context_spot.ContextSpot.{ContextSpot}
-use Rattle.lay_contexts.proofs.ContextNumbers.{are_contexts}
-use Rattle.lay_contexts.proofs.ListedFacts.{all_boxes}
-use Rattle.lay_contexts.proofs.NotedAround.{contexts_are_noted}
-use Rattle.lay_contexts.proofs.OneStand.{contexts_stand_once}
-use Rattle.lay_contexts.proofs.RootBoxes.{inner_of}
-use Rattle.lay_contexts.proofs.SpotOrder.{boxes_there}
 use Rattle.lay_cell_work.specs.CellLaws.SameContexts.{IsSameContext, IsTable, Table, inner_at}
 
 -- a box that is marked names a context behind the one at k

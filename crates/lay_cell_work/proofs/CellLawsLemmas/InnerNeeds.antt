@@ -15,7 +15,7 @@ use Rattle.lay_context.specs.declared.task.Phase.{Phase}
 use Rattle.lay_shape.specs.Dependencies.{in_phase, inner_flows, is_inner_flow, needs_in}
 use Rattle.lay_shape.specs.Keys.{key_of as key_of_cell}
 use Rattle.lay_shape.specs.Ways.{is_absolute}
-use Rattle.lay_shape.proofs.Members.{in_filter}
+use Rattle.lay_cell_work.proofs.Cited.{in_filter}
 use Rattle.lay_cell_work.specs.CellLaws.SameContexts.{AreSameInside, CounterpartsAreOfOneNode, IsSameContext, IsTable, Table, inner_at, is_out_of_flow}
 use Rattle.lay_cell_work.proofs.CellLawsLemmas.InnerContexts.{none_same}
 use Rattle.lay_cell_work.proofs.CellLawsLemmas.InputForms.{table_are, table_keeps}

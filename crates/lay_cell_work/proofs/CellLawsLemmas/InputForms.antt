@@ -14,9 +14,7 @@ use Rattle.lay_contexts.specs.FormattingContexts.{FormattingContext, boxes_in as
 use Rattle.lay_contexts.specs.FormattingContextList.{first_number, homes_in, number_of, roots_before}
 use Rattle.lay_contexts.specs.Homes.{is_root}
 use Rattle.lay_contexts.specs.Laws.{KeepsFlowAround}
-use Rattle.lay_contexts.proofs.ContextNumbers.{are_contexts}
-use Rattle.lay_contexts.proofs.FlowAround.{anonymous_in_flow, contexts_keep_flow}
-use Rattle.lay_contexts.proofs.RootNumbers.{roots_lt}
+use Rattle.lay_cell_work.proofs.Cited.{anonymous_in_flow, are_contexts, contexts_keep_flow, roots_lt}
 use Rattle.lay_placements.specs.Placements.{Placement}
 use Rattle.lay_abspos.specs.declared.own_place.OwnPlace.{OwnPlace}
 use Rattle.lay_context_sizes.specs.ContextSizes.{SizedContext}

@@ -10,7 +10,7 @@ use Rattle.lay_contexts.specs.FormattingBoxes.{boxes_of_root, rank}
 use Rattle.lay_contexts.specs.FormattingContexts.{AreFormattingContexts, FormattingContext, boxes_in as boxes_of, formatting_context_at}
 use Rattle.lay_contexts.specs.FormattingContextList.{first_number, homes_in, number_at, number_of, rank_at}
 use Rattle.lay_contexts.specs.Homes.{OneHome}
-use Rattle.lay_contexts.proofs.ContextFacts.{in_order}
+use Rattle.lay_cell_work.proofs.Cited.{in_order}
 use Rattle.lay_placements.specs.Standings.{standing_at}
 use Rattle.lay_abspos.specs.declared.own_place.OwnPlace.TheVariants as own_place
 use Rattle.lay_abspos.specs.declared.setting.AbsoluteSetting.{AbsoluteSetting}

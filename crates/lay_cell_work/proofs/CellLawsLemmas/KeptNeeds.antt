@@ -11,7 +11,7 @@ use Rattle.lay_shape.specs.declared.context_phase.ContextPhase.{ContextPhase}
 use Rattle.lay_shape.specs.Dependencies.{in_phase, inner_flows, needs_in, needs_of, on_way, outer_needs, way_needs}
 use Rattle.lay_shape.specs.Keys.{key_of as key_of_cell}
 use Rattle.lay_shape.specs.Ways.{is_absolute, is_fixed, way_from, way_of}
-use Rattle.lay_shape.proofs.Members.{in_flat_map, in_here, in_left, in_map, in_right, in_there}
+use Rattle.lay_cell_work.proofs.Cited.{in_flat_map, in_here, in_left, in_map, in_right, in_there}
 use Rattle.lay_cell_work.specs.CellLaws.SameContexts.{CounterpartsAreOfOneNode, IsSameAround, IsSameContext, IsSameOut, IsSameToMeasure, IsSameToPlace, IsSameToSize, IsTable, MeasureInputsAreKept, PlaceInputsAreKept, SizeInputsAreKept, Table}
 use Rattle.lay_cell_work.proofs.CellLawsLemmas.InputForms.{table_are}
 use Rattle.lay_cell_work.proofs.CellLawsLemmas.SameWays.{positive_other}

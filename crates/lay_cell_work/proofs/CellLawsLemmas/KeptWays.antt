@@ -5,13 +5,12 @@ use Rattle.lay_box_tree.specs.declared.box_tree.BoxNode.{BoxNode}
 use Rattle.lay_cells.specs.Shapes.{IsIn}
 use Rattle.lay_contexts.specs.Contexts.{Context, boxes_in, context_at}
 use Rattle.lay_positioned.specs.Holders.{IsHolderFor, holder_for}
-use Rattle.lay_positioned.proofs.SettingValues.{holder_is}
+use Rattle.lay_cell_work.proofs.Cited.{holder_is, in_here, in_there}
 use Rattle.lay_context.specs.declared.task.Phase.TheVariants.{Size, Place}
 use Rattle.lay_shape.specs.declared.cell_key.CellKey.{CellKey}
 use Rattle.lay_shape.specs.Dependencies.{in_phase, on_way}
 use Rattle.lay_shape.specs.Keys.{key_of as key_of_cell, node_of}
 use Rattle.lay_shape.specs.Ways.{beyond, way_from}
-use Rattle.lay_shape.proofs.Members.{in_here, in_there}
 use Rattle.lay_cell_work.specs.CellLaws.SameContexts.{IsLaidSame, IsSameContext, IsSameWay, IsTable, Table, further, held, initial}
 use Rattle.lay_cell_work.proofs.CellLawsLemmas.InputForms.{table_are}
 use Rattle.lay_cell_work.proofs.CellLawsLemmas.OuterBoxes.{outer_boxes_same}

@@ -13,7 +13,7 @@ use Rattle.lay_context.specs.Laws.{OneLocal}
 use Rattle.lay_context.specs.Local.{IsLocal}
 use Rattle.lay_context.specs.PlacedContexts.{PlacedContext, not_placed, placed_in}
 use Rattle.lay_context.specs.Settings.{sizes_in}
-use Rattle.lay_context.proofs.TaskInputs.{place_value, size_value, width_value}
+use Rattle.lay_cell_work.proofs.Cited.{place_value, size_value, width_value}
 use Rattle.lay_cell_work.specs.CellInputFits.{LeadsInward}
 use Rattle.lay_cell_work.specs.CellInputs.{CellInput, RootInput}
 use Rattle.lay_cell_work.specs.CellLocal.{IsCellLocal, whole_input}

@@ -18,19 +18,12 @@ use Rattle.lay_boxgen.specs.Listing.{listed_part}
 use Rattle.lay_boxgen.specs.NodeBoxes.{node_box}
 use Rattle.lay_boxgen.specs.NodeTrees.{as_own, box_with, tree_at}
 use Rattle.lay_boxgen.specs.Parts.{nothing, put_list}
-use Rattle.lay_boxgen.proofs.NodeForms.{IsNodeBox, is-node_box}
-use Rattle.lay_boxgen.proofs.WholeParts.{context_is_one_box}
+use Rattle.lay_cell_work.proofs.Cited.{are_contexts, box_within, boxes_there, children_stand_in_order, context_is_one_box, contexts_are_noted, contexts_stand_once, is-node_box, IsNodeBox, of_node}
 use Rattle.lay_contexts.specs.Contexts.{boxes_in, context_at}
 use Rattle.lay_contexts.specs.ContextTree.{StandsIn, boxes_of_place}
 use Rattle.lay_contexts.specs.DocumentContexts.{spot_at}
 use Rattle.lay_contexts.specs.NodeTreeLaws.{child_trees, children_places}
 use Rattle.lay_contexts.specs.declared.context_spot.ContextSpot.{ContextSpot}
-use Rattle.lay_contexts.proofs.ChildTrees.{children_stand_in_order}
-use Rattle.lay_contexts.proofs.ContextNumbers.{are_contexts}
-use Rattle.lay_contexts.proofs.NodeFacts.{box_within, of_node}
-use Rattle.lay_contexts.proofs.NotedAround.{contexts_are_noted}
-use Rattle.lay_contexts.proofs.OneStand.{contexts_stand_once}
-use Rattle.lay_contexts.proofs.SpotOrder.{boxes_there}
 use Rattle.lay_cell_work.specs.CellLaws.SameContexts.{IsSameContext, IsTable, Table}
 
 is_true : (b : Bool) → IsTrue b → b ≡ true

@@ -13,9 +13,7 @@ use Rattle.lay_contexts.specs.FormattingContexts.{FormattingContext, boxes_in as
 use Rattle.lay_contexts.specs.FormattingContextList.{AreFormattingContextsOf, first_number, formatting_context_of, homes_in, inner_number, number_of, roots_before}
 use Rattle.lay_contexts.specs.Homes.{is_root}
 use Rattle.lay_contexts.specs.Laws.{KeepsFlowAround}
-use Rattle.lay_contexts.proofs.AtHome.{home_is, place_there}
-use Rattle.lay_contexts.proofs.RootNumbers.{Numbered, number_lt, roots_lt}
-use Rattle.lay_contexts.proofs.StandingAnchors.{flow_of}
+use Rattle.lay_cell_work.proofs.Cited.{flow_of, home_is, number_lt, Numbered, place_there, roots_lt}
 use Rattle.lay_positioned.specs.Absolute.{is_absolute, is_absolute_flow, is_own_absolute}
 use Rattle.lay_context.specs.DocumentLayout.{flow_number, flow_numbers}
 use Rattle.lay_cell_work.specs.CellColumns.{link_to, links_of, links_or_none, masked}

@@ -1,7 +1,7 @@
 -- The roots of a context have the numbers from its first one on. An anonymous formatting context inside another one is of the same context,
 -- and so is the one around it; and it is in flow.
 use Rattle.std.proofs.Common.{◌≡◌, ℕ, zero, suc, nat_lt, ◌+◌, ◌<◌, ◌≤◌, ◌&&◌, Bool, true, false, not, List, length, slice_index, refl, ap, sym, subst, ◌∙◌, arith}
-use Rattle.lay_shape.proofs.ShapeLawsLemmas.ShapedNeeds.{root_anonymous as root_flag}
+use Rattle.lay_cell_work.proofs.Cited.{flow_of, home_root, home_there, is_behind, Numbered, root_anonymous as root_flag, roots_lt, value_of}
 use Rattle.lay_box_tree.specs.BoxColumns.{box_at}
 use Rattle.lay_box_tree.specs.Containing.{is_anonymous}
 use Rattle.lay_box_tree.specs.declared.box_tree.BoxNode.{BoxNode}
@@ -12,9 +12,6 @@ use Rattle.lay_contexts.specs.FormattingContexts.{FormattingContext, formatting_
 use Rattle.lay_contexts.specs.FormattingContextList.{AreFormattingContextsOf, first_number, homes_in, number_at, number_of, spot_of}
 use Rattle.lay_contexts.specs.Homes.{is_root}
 use Rattle.lay_contexts.specs.declared.spot.Spot.{Spot}
-use Rattle.lay_contexts.proofs.ContextFacts.{home_root, home_there, is_behind, value_of}
-use Rattle.lay_contexts.proofs.RootNumbers.{Numbered, roots_lt}
-use Rattle.lay_contexts.proofs.StandingAnchors.{flow_of}
 use Rattle.lay_positioned.specs.Absolute.{is_absolute, is_absolute_flow, is_own_absolute}
 use Rattle.lay_cell_work.specs.PresentInputs.{root_count}
 

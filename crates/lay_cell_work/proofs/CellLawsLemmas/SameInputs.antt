@@ -12,8 +12,7 @@ use Rattle.lay_contexts.specs.FormattingBoxes.{boxes_of_root, rank}
 use Rattle.lay_contexts.specs.FormattingContexts.{FormattingContext, boxes_in as boxes_of, formatting_context_at}
 use Rattle.lay_contexts.specs.FormattingContextList.{first_number, homes_in, number_at, number_of, rank_at, roots_before, spot_of}
 use Rattle.lay_contexts.specs.Homes.{OneHome, is_root}
-use Rattle.lay_contexts.proofs.ContextFacts.{home_root, home_there}
-use Rattle.lay_contexts.proofs.RootNumbers.{Numbered}
+use Rattle.lay_cell_work.proofs.Cited.{home_root, home_there, Numbered}
 use Rattle.lay_abspos.specs.declared.own_place.OwnPlace.TheVariants as own_place
 use Rattle.lay_positioned.specs.Absolute.{is_absolute}
 use Rattle.lay_positioned.specs.Settings.{absolute_setting}

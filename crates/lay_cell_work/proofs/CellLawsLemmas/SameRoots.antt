@@ -13,9 +13,7 @@ use Rattle.lay_contexts.specs.FormattingBoxes.{boxes_of_root, rank}
 use Rattle.lay_contexts.specs.FormattingContexts.{AreFormattingContexts, FormattingContext, boxes_in as boxes_of, formatting_context_at}
 use Rattle.lay_contexts.specs.FormattingContextList.{first_number, homes_in, number_at, number_of, rank_at, roots_before}
 use Rattle.lay_contexts.specs.Homes.{IsHome, OneHome, is_root}
-use Rattle.lay_contexts.proofs.AtHome.{place_there}
-use Rattle.lay_contexts.proofs.ContextFacts.{home_root, home_there, in_order}
-use Rattle.lay_contexts.proofs.RootNumbers.{roots_lt, roots_no, roots_yes}
+use Rattle.lay_cell_work.proofs.Cited.{home_root, home_there, in_order, place_there, roots_lt, roots_no, roots_yes}
 use Rattle.lay_context_sizes.specs.ShrinkToFit.{shrinks_to_fit}
 use Rattle.lay_context.specs.declared.input.Input.TheVariants as input
 use Rattle.lay_context.specs.declared.task.Phase.{Phase}

@@ -8,8 +8,7 @@ use Rattle.lay_contexts.specs.FormattingContexts.{FormattingContext, boxes_in as
 use Rattle.lay_contexts.specs.FormattingContextList.{homes_in, number_at, number_of, rank_at, roots_before}
 use Rattle.lay_box_tree.specs.ContextBoxes.{AreContextBoxes}
 use Rattle.lay_contexts.specs.Homes.{AreHomes, OneHome, is_root, own}
-use Rattle.lay_contexts.proofs.ContextFacts.{home_low, home_root, home_there}
-use Rattle.lay_contexts.proofs.RootNumbers.{roots_lt}
+use Rattle.lay_cell_work.proofs.Cited.{home_low, home_root, home_there, roots_lt}
 use Rattle.lay_positioned.specs.Holders.{IsHolderFor, IsNearestHolder, further as farther, is_holder_at, parent}
 use Rattle.lay_positioned.specs.Layouts.{Layout}
 use Rattle.lay_context_sizes.specs.ContextSizes.{SizedContext}

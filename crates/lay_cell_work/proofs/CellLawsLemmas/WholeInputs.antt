@@ -14,7 +14,7 @@ use Rattle.lay_table_sizes.specs.TableSizesValue.{TableSizesValue}
 use Rattle.lay_contexts.specs.Contexts.{AreContexts, Context}
 use Rattle.lay_contexts.specs.FormattingContexts.{FormattingContext, boxes_in, formatting_context_at}
 use Rattle.lay_contexts.specs.FormattingContextList.{AreFormattingContextsOf, first_number}
-use Rattle.lay_contexts.proofs.RootNumbers.{Numbered}
+use Rattle.lay_cell_work.proofs.Cited.{Numbered}
 use Rattle.lay_positioned.specs.Absolute.{is_absolute}
 use Rattle.lay_positioned.specs.Settings.{absolute_setting}
 use Rattle.lay_context_sizes.specs.ContextSizes.{SizedContext, not_sized}

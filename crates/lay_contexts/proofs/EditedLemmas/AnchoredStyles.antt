@@ -18,8 +18,7 @@ use Rattle.lay_boxgen.specs.Listing.{all_listed, box_node, box_style, listed, li
 use Rattle.lay_boxgen.specs.NodeBoxes.{facts_with, form_of}
 use Rattle.lay_boxgen.specs.NodeTrees.{anchor_facts, box_with, tree_at}
 use Rattle.lay_boxgen.specs.Parts.{is_closed, nothing, part, put_list}
-use Rattle.lay_boxgen.proofs.CutParts.{part-cut}
-use Rattle.lay_boxgen.proofs.WholeParts.{context_is_one_box}
+use Rattle.lay_contexts.proofs.Cited.{context_is_one_box, part-cut}
 use Rattle.lay_contexts.specs.ContextTree.{boxes_of_place}
 use Rattle.lay_contexts.specs.NodeTreeLaws.{child_trees, children_places}
 use Rattle.lay_contexts.proofs.ChildTrees.{in-order}

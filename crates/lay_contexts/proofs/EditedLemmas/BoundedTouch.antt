@@ -5,7 +5,7 @@ use Rattle.lay_style.specs.Places.{place_of}
 use Rattle.lay_doc.specs.declared.edit.Edit.{Edit}
 use Rattle.lay_doc.specs.Document.{Document, ids_of}
 use Rattle.lay_doc.specs.Edits.{after}
-use Rattle.lay_doc.proofs.NodeColumns.{length-ids}
+use Rattle.lay_contexts.proofs.Cited.{length-ids}
 use Rattle.lay_box_tree.specs.declared.box_tree.BoxKind.{BoxKind}
 use Rattle.lay_box_tree.specs.declared.box_tree.BoxNode.{BoxNode}
 use Rattle.lay_box_tree.specs.declared.box_tree.Flow.{Flow}

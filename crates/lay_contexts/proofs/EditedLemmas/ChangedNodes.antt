@@ -6,8 +6,8 @@ use Rattle.lay_doc.specs.declared.node.Node.{Node}
 use Rattle.lay_doc.specs.Changes.{changed_at}
 use Rattle.lay_doc.specs.Document.{Document, IsDocument, declarations_of, ids_of, parents_of}
 use Rattle.lay_doc.specs.Tree.{IsUnder, child, itself}
+use Rattle.lay_contexts.proofs.Cited.{column_stays, length-changed}
 use Rattle.lay_doc.proofs.NodeColumns.{length-parents}
-use Rattle.lay_doc.proofs.Changed.{column_stays, length-changed}
 use Rattle.lay_contexts.specs.ContextTree.{parent_of}
 use Rattle.lay_contexts.specs.Edited.Reached.{IsReached, IsUnderThere, place_in, subject_of}
 use Rattle.lay_contexts.proofs.EditedLemmas.KeptContexts.{Keeping}

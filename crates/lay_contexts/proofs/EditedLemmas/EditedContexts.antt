@@ -14,8 +14,7 @@ use Rattle.lay_doc.specs.Edits.{after, after_insert, fault_below, insert_fault, 
 use Rattle.lay_doc.specs.NewNodes.{NewNodeValue}
 use Rattle.lay_doc.specs.Removal.{after_remove, remove_fault, removed}
 use Rattle.lay_doc.specs.Tree.{child_count, slot_of}
-use Rattle.lay_doc.proofs.EditedDocuments.{edits_leave_documents, there}
-use Rattle.lay_doc.proofs.FoundSlots.{slot_found}
+use Rattle.lay_contexts.proofs.Cited.{edits_leave_documents, slot_found, there}
 use Rattle.lay_doc.proofs.NodeColumns.{length-parents}
 use Rattle.lay_box_tree.specs.declared.box_tree.BoxKind.{BoxKind}
 use Rattle.lay_box_tree.specs.declared.box_tree.Flow.{Flow}

@@ -10,8 +10,8 @@ use Rattle.lay_doc.specs.declared.edit.Edit.{Edit}
 use Rattle.lay_doc.specs.declared.node.Node.{Node}
 use Rattle.lay_doc.specs.Document.{Document, IsDocument, declarations_of, ids_of, inserted, moved, parents_of}
 use Rattle.lay_doc.specs.Tree.{itself, shifted}
-use Rattle.lay_doc.proofs.NodeColumns.{length-ids, length-parents}
-use Rattle.lay_doc.proofs.PutTrees.{shifted_high, shifted_low}
+use Rattle.lay_contexts.proofs.Cited.{length-ids, shifted_high, shifted_low}
+use Rattle.lay_doc.proofs.NodeColumns.{length-parents}
 use Rattle.lay_contexts.specs.ContextTree.{parent_of}
 use Rattle.lay_contexts.specs.Edited.Reached.{IsReached, IsUnderThere, place_in, subject_of}
 use Rattle.lay_contexts.proofs.EditedLemmas.KeptContexts.{Keeping}

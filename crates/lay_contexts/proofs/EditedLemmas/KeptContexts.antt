@@ -5,13 +5,12 @@ use Rattle.std.proofs.lemmas.Option.{slice_get_within as there}
 use Rattle.lay_style.specs.declared.style.Style.{Style}
 use Rattle.lay_style.specs.ComputedStyle.{HasStyles, declarations_at, style_at}
 use Rattle.lay_style.specs.Places.{place_of}
-use Rattle.lay_style.proofs.Places.{place_within}
+use Rattle.lay_contexts.proofs.Cited.{has_subtree_lem, length-ids, place_within}
 use Rattle.lay_doc.specs.declared.edit.Edit.{Edit}
 use Rattle.lay_doc.specs.declared.node.Node.{Node}
 use Rattle.lay_doc.specs.Document.{Document, IsDocument, declarations_of, ids_of, parents_of}
 use Rattle.lay_doc.specs.Tree.{IsTree, end_of}
-use Rattle.lay_doc.proofs.NodeColumns.{length-ids, length-parents}
-use Rattle.lay_doc.proofs.Subtrees.{has_subtree_lem}
+use Rattle.lay_doc.proofs.NodeColumns.{length-parents}
 use Rattle.lay_boxgen.specs.Contexts.{IsContext, IsContextAt, IsContextThere}
 use Rattle.lay_boxgen.specs.Listing.{boxes_at}
 use Rattle.lay_contexts.specs.ContextTree.{IsAround}

@@ -5,9 +5,7 @@ use Rattle.std.proofs.lemmas.Bool.{cases_lt}
 use Rattle.std.proofs.lemmas.List.Edits.{length-insert}
 use Rattle.std.proofs.lemmas.Option.{slice_get-get_or}
 use Rattle.lay_doc.specs.Tree.{shifted}
-use Rattle.lay_doc.proofs.Cut.{cut_read, length-cut, old_place}
-use Rattle.lay_doc.proofs.PutTrees.{shifted_high, shifted_low}
-use Rattle.lay_doc.proofs.Inserted.{moved_read}
+use Rattle.lay_contexts.proofs.Cited.{cut_read, length-cut, moved_read, old_place, shifted_high, shifted_low}
 
 -- Places before and after a new node.
 pub shifted-less : (at j k : ℕ) → j < k → shifted at j < shifted at k

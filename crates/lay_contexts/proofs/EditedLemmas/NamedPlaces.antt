@@ -2,7 +2,7 @@
 use Rattle.std.proofs.Common.{◌≡◌, inl, inr, ℕ, zero, suc, ◌<◌, List, [], ◌∷◌, length, ap, sym, ◌∙◌, arith, Some, option_map, slice_index}
 use Rattle.std.proofs.lemmas.Bool.{cases_eq}
 use Rattle.lay_style.specs.Places.{place_of}
-use Rattle.lay_style.proofs.Places.{map_some, place_here, place_later}
+use Rattle.lay_contexts.proofs.Cited.{map_some, place_here, place_later}
 
 pub place-reads : (id : ℕ) (ids : List ℕ) (k : ℕ) → place_of id ids ≡ Some k → slice_index ids k ≡ id
 place-reads id [] k e = absurd cc

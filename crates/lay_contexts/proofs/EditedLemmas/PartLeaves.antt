@@ -14,8 +14,7 @@ use Rattle.lay_boxgen.specs.CutTrees.{cut_own, cut_tree_at}
 use Rattle.lay_boxgen.specs.NodeBoxes.{facts_with, form_of}
 use Rattle.lay_boxgen.specs.NodeTrees.{and_child, anchor_facts, as_child, as_own, box_with, tree_at}
 use Rattle.lay_boxgen.specs.Parts.{is_closed, nothing, put, put_list}
-use Rattle.lay_boxgen.proofs.NodeForms.{IsBoxOf, IsNodeBox, is-node_box}
-use Rattle.lay_boxgen.proofs.Putting.{put-trees_of}
+use Rattle.lay_contexts.proofs.Cited.{is-node_box, IsBoxOf, IsNodeBox, put-trees_of}
 use Rattle.lay_contexts.specs.NodeTreeLaws.{child_trees, children_places}
 use Rattle.lay_contexts.proofs.ChildTrees.{in-order}
 use Rattle.lay_contexts.proofs.RisingLists.{Has, from-has}

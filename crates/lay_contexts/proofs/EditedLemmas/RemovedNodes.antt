@@ -9,10 +9,8 @@ use Rattle.lay_doc.specs.declared.edit.Edit.{Edit}
 use Rattle.lay_doc.specs.Document.{Document, IsDocument, declarations_of, ids_of, parents_of}
 use Rattle.lay_doc.specs.Removal.{closed_up, moved_back, removed_between}
 use Rattle.lay_doc.specs.Tree.{IsSlot, child_count, end_of}
-use Rattle.lay_doc.proofs.Cut.{length-cut, old_inside, old_less, old_less_back, old_more, old_outside, old_place}
+use Rattle.lay_contexts.proofs.Cited.{closed_high, closed_low, end_is_slot, has_subtree_lem, length-cut, old_closed, old_inside, old_less, old_less_back, old_more, old_outside, old_place, parent_outside}
 use Rattle.lay_doc.proofs.NodeColumns.{length-parents}
-use Rattle.lay_doc.proofs.Subtrees.{end_is_slot, has_subtree_lem, parent_outside}
-use Rattle.lay_doc.proofs.Removed.{closed_low, closed_high, old_closed}
 use Rattle.lay_contexts.specs.ContextTree.{parent_of}
 use Rattle.lay_contexts.specs.Edited.Reached.{IsReached, IsUnderThere, place_in, subject_of}
 use Rattle.lay_contexts.proofs.EditedLemmas.KeptContexts.{Keeping}

@@ -6,7 +6,7 @@ use Rattle.lay_style.specs.declared.style.Style.{Style}
 use Rattle.lay_style.specs.ComputedStyle.{style_at}
 use Rattle.lay_style.specs.InitialStyle.{initial_style}
 use Rattle.lay_style.specs.Places.{place_of}
-use Rattle.lay_style.proofs.Places.{place_within}
+use Rattle.lay_contexts.proofs.Cited.{edits_leave_documents, has_subtree_lem, is-node_box, IsBoxOf, IsNodeBox, length-changed, length-ids, place_within}
 use Rattle.lay_doc.specs.declared.edit.Edit.{Edit}
 use Rattle.lay_doc.specs.declared.edit.Edit.TheVariants.{SetStyle, ClearStyle, SetText, Insert, Remove, Bad}
 use Rattle.lay_doc.specs.declared.node.Node.{Node}
@@ -14,15 +14,11 @@ use Rattle.lay_doc.specs.Changes.{changed_at, with_style, without_style}
 use Rattle.lay_doc.specs.Document.{Document, IsDocument, ids_of, parents_of}
 use Rattle.lay_doc.specs.Edits.{after}
 use Rattle.lay_doc.specs.Tree.{IsUnder, child, itself}
-use Rattle.lay_doc.proofs.EditedDocuments.{edits_leave_documents}
-use Rattle.lay_doc.proofs.NodeColumns.{length-ids, length-parents}
-use Rattle.lay_doc.proofs.Subtrees.{has_subtree_lem}
-use Rattle.lay_doc.proofs.Changed.{length-changed}
+use Rattle.lay_doc.proofs.NodeColumns.{length-parents}
 use Rattle.lay_boxgen.specs.Forms.{is_absolute}
 use Rattle.lay_boxgen.specs.declared.facts.Facts.{Facts}
 use Rattle.lay_boxgen.specs.Contexts.{IsContext, IsContextAt, IsContextThere, box_at, box_of_node, is_marked}
 use Rattle.lay_boxgen.specs.Listing.{boxes_at}
-use Rattle.lay_boxgen.proofs.NodeForms.{IsBoxOf, IsNodeBox, is-node_box}
 use Rattle.lay_contexts.specs.ContextTree.{IsAround, boxes_of_place, further, parent, parent_of}
 use Rattle.lay_contexts.proofs.OneStand.{marked-true}
 use Rattle.lay_contexts.specs.Edited.Anchors.{AnchorsKeepContextsAround, HasAbsoluteBox, ReachesNode}

@@ -16,13 +16,13 @@ use Rattle.lay_box_tree.specs.declared.box_tree.BoxNode.{BoxNode}
 use Rattle.lay_box_tree.specs.declared.box_tree.Flow.{Flow}
 use Rattle.lay_box_tree.specs.declared.box_tree.Flow.TheVariants.{InFlow}
 use Rattle.lay_box_tree.specs.Kinds.{is_wrapper}
+use Rattle.lay_contexts.proofs.Cited.{context_is_one_box}
 use Rattle.lay_box_tree.proofs.BoxForests.{length-parents}
 use Rattle.lay_boxgen.specs.Contexts.{IsContextAt, box_at, is_marked}
 use Rattle.lay_boxgen.specs.Laws.{inner_boxes}
 use Rattle.lay_boxgen.specs.Listing.{box_node, box_style, kind_of, listed_part, style_of, text_at}
 use Rattle.lay_boxgen.specs.NodeTrees.{as_own, box_with, tree_at}
 use Rattle.lay_boxgen.specs.Parts.{nothing, part, put_list}
-use Rattle.lay_boxgen.proofs.WholeParts.{context_is_one_box}
 use Rattle.lay_contexts.specs.ContextList.{AreContextsOf}
 use Rattle.lay_contexts.specs.ContextTree.{IsAround, StandsIn, boxes_of_place}
 use Rattle.lay_contexts.specs.Contexts.{AreContexts, Context, boxes_in, context_at}

@@ -24,8 +24,7 @@ use Rattle.lay_boxgen.specs.Display.{element_form, used_display_of}
 use Rattle.lay_boxgen.specs.NodeBoxes.{establishes_context, facts_with, form_of, is_context_form, node_flow, replaced_form}
 use Rattle.lay_boxgen.specs.NodeTrees.{anchor_facts, as_own, tree_at}
 use Rattle.lay_boxgen.specs.Parts.{is_closed, nothing, part, put_list}
-use Rattle.lay_boxgen.proofs.CutParts.{part-cut}
-use Rattle.lay_boxgen.proofs.WholeParts.{no_flow}
+use Rattle.lay_contexts.proofs.Cited.{no_flow, part-cut}
 use Rattle.lay_contexts.specs.ContextTree.{parent_of}
 use Rattle.lay_contexts.specs.NodeTreeLaws.{child_trees, children_places}
 use Rattle.lay_contexts.proofs.NodeFacts.{of_node}

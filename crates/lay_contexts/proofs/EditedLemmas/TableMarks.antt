@@ -16,7 +16,8 @@ use Rattle.lay_box_tree.specs.BoxColumns.{box_at, box_parents, no_box}
 use Rattle.lay_box_tree.specs.declared.box_tree.BoxKind.TheVariants as kind
 use Rattle.lay_box_tree.specs.declared.box_tree.BoxNode.{BoxNode}
 use Rattle.lay_box_tree.specs.Kinds.{is_wrapper}
-use Rattle.lay_box_tree.proofs.BoxForests.{length-parents, parents-append}
+use Rattle.lay_contexts.proofs.Cited.{parents-append}
+use Rattle.lay_box_tree.proofs.BoxForests.{length-parents}
 use Rattle.lay_boxgen.specs.Listing.{all_listed, box_node, box_style, kind_of, listed, listed_part, style_of, text_at}
 use Rattle.lay_contexts.specs.Edited.AnonymousTables.{AllInside, EachInside, IsInStrayPart, IsKnownInside, ListInside, is_anonymous_table}
 

@@ -5,7 +5,7 @@ use Rattle.lay_cells.specs.Marks.{Marks, Reached, marked}
 use Rattle.lay_cells.specs.Reshapes.{Carries, Rebuilds, RebuildsAll}
 use Rattle.lay_cells.specs.Rows.{Row}
 use Rattle.lay_cells.specs.Shapes.{Entry, IsIn}
-use Rattle.lay_cells.proofs.Marked.{beside}
+use Rattle.lay_core.proofs.Cited.{beside}
 
 module _ {K I V : Type 0} where
   -- the row r is there, of the same cell

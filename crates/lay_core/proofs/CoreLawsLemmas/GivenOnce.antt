@@ -15,8 +15,7 @@ use Rattle.lay_shape.specs.declared.cell_key.CellKey.{CellKey}
 use Rattle.lay_shape.specs.declared.context_phase.ContextPhase.{ContextPhase}
 use Rattle.lay_shape.specs.Dependencies.{in_phase, needs_in}
 use Rattle.lay_shape.specs.Shapes.{cells_of}
-use Rattle.lay_shape.proofs.BuildSteps.{key_apart}
-use Rattle.lay_shape.proofs.CellOrder.{cell_in, cell_within, need_before}
+use Rattle.lay_core.proofs.Cited.{cell_in, cell_within, key_apart, need_before}
 use Rattle.lay_cell_work.specs.CellLaws.KeptInputs.{InputsAreKept, IsSameCell}
 use Rattle.lay_cell_work.specs.CellLaws.Laws.{OneCellLocal, PresentInputsLeadInward}
 use Rattle.lay_cell_work.specs.CellLaws.SameContexts.{IsSameContext, IsTable, Table}

@@ -2,7 +2,7 @@
 use Rattle.std.proofs.Common.{◌≡◌, inl, inr, ℕ, List, slice_get, Option, Result, Some, refl, ap, sym, subst, ◌∙◌}
 use Rattle.lay_units.specs.declared.memory.NoMemory.{NoMemory}
 use Rattle.lay_doc.specs.Document.{Document, IsDocument}
-use Rattle.lay_history.proofs.Lists.{get_more}
+use Rattle.lay_core.proofs.Cited.{get_more}
 use Rattle.lay_context.specs.Solves.{medium_of}
 use Rattle.lay_shape.specs.declared.cell_key.CellKey.{CellKey}
 use Rattle.lay_cell_work.specs.CellLaws.Laws.{PresentInputsLeadInward}

@@ -3,7 +3,7 @@ use Rattle.std.proofs.Common.{◌≡◌, ◌+◌, List, [], ◌∷◌, ◌++◌,
 use Rattle.lay_doc.specs.Document.{Document}
 use Rattle.lay_history.specs.declared.edits.history.Entry.{Entry}
 use Rattle.lay_history.specs.Histories.{accepted, doc_at, list_in}
-use Rattle.lay_history.proofs.OneMore.{accepted_more, doc_before}
+use Rattle.lay_core.proofs.Cited.{accepted_more, doc_before}
 use Rattle.lay_core.proofs.CoreLawsLemmas.TurnSteps.{GoesOn}
 
 pub one_entry : (init : Document) (h : List Entry) (e : Entry) → GoesOn init h (h ++ e ∷ [])

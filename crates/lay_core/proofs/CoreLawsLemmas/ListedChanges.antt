@@ -7,7 +7,7 @@ use Rattle.lay_doc.specs.Document.{Document}
 use Rattle.lay_history.specs.declared.edits.history.Entry.{Entry}
 use Rattle.lay_face.specs.FaceValue.{FaceValue}
 use Rattle.lay_history.specs.Histories.{accepted, doc_at}
-use Rattle.lay_history.proofs.Lists.{get_some, take_whole}
+use Rattle.lay_core.proofs.Cited.{get_some, take_whole}
 use Rattle.lay_shape.specs.declared.cell_key.CellKey.{CellKey}
 use Rattle.lay_cell_work.specs.CellInputs.{CellInput}
 use Rattle.lay_core.specs.CoreLaws.GivenInputs.{HasCell, IsGivenIn}

@@ -2,14 +2,12 @@
 use Rattle.std.proofs.Common.{◌≡◌, length, ◌∙◌}
 use Rattle.lay_doc.specs.Document.{Document, IsDocument, declarations_of, parents_of}
 use Rattle.lay_doc.specs.Laws.{OneStyleColumn}
-use Rattle.lay_doc.proofs.NodeColumns.{length-parents}
+use Rattle.lay_core.proofs.Cited.{are_contexts, contexts_are_of_own_nodes_lem, length-parents}
 use Rattle.lay_contexts.specs.Contexts.{AreContexts}
 use Rattle.lay_contexts.specs.FormattingLaws.{OneFormattingContextList}
 use Rattle.lay_contexts.specs.Laws.{OneContextList}
-use Rattle.lay_contexts.proofs.ContextNumbers.{are_contexts}
 use Rattle.lay_shape.specs.Touched.ContextFlags.{ContextLists}
 use Rattle.lay_shape.specs.Keys.{AreOfOwnNodes}
-use Rattle.lay_shape.proofs.OwnNodes.{contexts_are_of_own_nodes_lem}
 use Rattle.lay_document_cells.specs.State.{AreListsOf}
 
 module _ (d : Document) (lists : ContextLists) (is : IsDocument d) (are : AreListsOf d lists) where

@@ -8,14 +8,12 @@ use Rattle.lay_history.specs.declared.edits.history.Entry.{Entry}
 use Rattle.lay_history.specs.declared.edits.history.Entry.TheVariants.{Edit}
 use Rattle.lay_face.specs.FaceValue.{FaceValue}
 use Rattle.lay_history.specs.Histories.{accepted, doc_at}
-use Rattle.lay_history.proofs.OneMore.{accepted_more}
+use Rattle.lay_core.proofs.Cited.{accepted_more, in_order, row_of}
 use Rattle.lay_cells.specs.Shapes.{IsIn}
 use Rattle.lay_contexts.specs.FormattingLaws.{OneFormattingContextList}
 use Rattle.lay_contexts.specs.Laws.{OneContextList}
 use Rattle.lay_shape.specs.Shapes.{shape_of}
 use Rattle.lay_shape.specs.declared.cell_key.CellKey.{CellKey}
-use Rattle.lay_kept_cells.proofs.StepsLemmas.ChangedRow.{in_order}
-use Rattle.lay_kept_cells.proofs.StepsLemmas.RowsOfContexts.{row_of}
 use Rattle.lay_cell_work.specs.CellLaws.KeptInputs.{InputsAreKept}
 use Rattle.lay_cell_work.specs.CellLaws.SoundCells.{CellRow, CellState}
 use Rattle.lay_cell_work.specs.CellInputs.{CellInput}

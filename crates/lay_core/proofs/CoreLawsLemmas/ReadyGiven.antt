@@ -14,10 +14,7 @@ use Rattle.lay_shape.specs.declared.cell_key.CellKey.{CellKey}
 use Rattle.lay_shape.specs.declared.context_phase.ContextPhase.{ContextPhase}
 use Rattle.lay_shape.specs.Dependencies.{needs_in}
 use Rattle.lay_shape.specs.Keys.{key_of}
-use Rattle.lay_shape.proofs.CellOrder.{cell_in, cell_within, need_before}
-use Rattle.lay_shape.proofs.Members.{in_map}
-use Rattle.lay_kept_cells.proofs.StepsLemmas.ChangedRow.{apart, in_order}
-use Rattle.lay_kept_cells.proofs.StepsLemmas.RowsOfContexts.{needs_are, value_is}
+use Rattle.lay_core.proofs.Cited.{apart, cell_in, cell_within, in_map, in_order, need_before, needs_are, value_is}
 use Rattle.lay_cell_work.specs.CellLaws.DocumentCells.{AreDocumentCells}
 use Rattle.lay_cell_work.specs.CellLaws.SoundCells.{CellRow, CellState, input_now}
 use Rattle.lay_cell_work.specs.CellInputs.{CellInput}

@@ -7,9 +7,7 @@ use Rattle.lay_context.specs.Solves.{medium_of}
 use Rattle.lay_shape.specs.Touched.ContextFlags.{ContextLists}
 use Rattle.lay_shape.specs.declared.context_phase.ContextPhase.{ContextPhase}
 use Rattle.lay_shape.specs.Dependencies.{in_phase, needs_in}
-use Rattle.lay_shape.proofs.CellOrder.{cell_in, cell_within, need_before}
-use Rattle.lay_cell_work.proofs.CellLawsLemmas.CleanCells.{all_done, has_counts}
-use Rattle.lay_cell_work.proofs.CellLawsLemmas.RootsOfContexts.{AreCalm}
+use Rattle.lay_core.proofs.Cited.{all_done, AreCalm, cell_in, cell_within, has_counts, need_before}
 use Rattle.lay_cell_work.specs.KeptValues.{workings_of}
 use Rattle.lay_cells.specs.Shapes.{IsIn}
 use Rattle.lay_core.specs.CoreLaws.GivenInputs.{DependsOn, directly, through}

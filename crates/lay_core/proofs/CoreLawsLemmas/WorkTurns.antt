@@ -15,9 +15,7 @@ use Rattle.lay_cells.specs.declared.answers.Finished.TheVariants as finished
 use Rattle.lay_cells.specs.declared.answers.Look.TheVariants.{Ready}
 use Rattle.lay_cells.specs.declared.answers.Released.{Released}
 use Rattle.lay_cells.specs.declared.answers.Released.TheVariants as released
-use Rattle.lay_cells.proofs.Answered.{ready_at}
-use Rattle.lay_cells.proofs.Keeps.{claim_row, draws_more, finish_row, give_back_row, set_sound}
-use Rattle.lay_cells.proofs.Lists.{set_cases}
+use Rattle.lay_core.proofs.Cited.{claim_row, claims_keep_cells_lem, draws_more, finish_row, finishes_keep_cells_lem, give_back_row, give_backs_keep_cells_lem, ready_at, set_cases, set_sound}
 use Rattle.lay_contexts.specs.FormattingLaws.{OneFormattingContextList}
 use Rattle.lay_contexts.specs.Laws.{OneContextList}
 use Rattle.lay_context.specs.Medium.{Medium}
@@ -26,7 +24,6 @@ use Rattle.lay_shape.specs.Touched.ContextFlags.{ContextLists}
 use Rattle.lay_shape.specs.declared.cell_key.CellKey.{CellKey}
 use Rattle.lay_shape.specs.declared.context_phase.ContextPhase.{ContextPhase}
 use Rattle.lay_shape.specs.Keys.{key_of}
-use Rattle.lay_kept_cells.proofs.StepsLemmas.StepsKeep.{claims_keep_cells_lem, finishes_keep_cells_lem, give_backs_keep_cells_lem}
 use Rattle.lay_cell_work.specs.CellLaws.DocumentCells.{AreDocumentCells}
 use Rattle.lay_cell_work.specs.CellLaws.KeptInputs.{InputsAreKept}
 use Rattle.lay_cell_work.specs.CellLaws.SoundCells.{CellRow, CellState, input_now}

@@ -14,7 +14,7 @@ use Rattle.lay_flow.specs.declared.blocks.block.Inside.TheVariants.{Blocks as bl
 use Rattle.lay_flow.specs.Blocks.MarginRuns.{block_at}
 use Rattle.lay_flow.specs.Blocks.BlockPositions.{is_lines}
 use Rattle.lay_floats.specs.ClearEdge.{Clears, IsClearEdge}
-use Rattle.lay_floats.proofs.Unique.{one_clear_edge_lem}
+use Rattle.lay_flow.proofs.Cited.{one_clear_edge_lem}
 use Rattle.lay_flow.specs.Blocks.BlockFloats.{Spot, shape_at, place_at, lines_at, spot_at, float_of, floats_before}
 
 -- floats depend on the places before them alone

@@ -13,7 +13,7 @@ use Rattle.lay_floats.specs.declared.requests.Side.TheVariants.{Left as left, Ri
 use Rattle.lay_floats.specs.declared.requests.Clear.{Clear}
 use Rattle.lay_floats.specs.declared.requests.Clear.TheVariants.{None as clear_none, Left as clear_left, Right as clear_right, Both as clear_both}
 use Rattle.lay_floats.specs.ClearEdge.{Clears, IsClearEdge}
-use Rattle.lay_floats.proofs.Unique.{one_clear_edge_lem}
+use Rattle.lay_flow.proofs.Cited.{one_clear_edge_lem}
 use Rattle.lay_flow.specs.Blocks.Lengths.{length_at}
 use Rattle.lay_flow.specs.Blocks.Children.{flag_at}
 use Rattle.lay_flow.specs.Blocks.MarginRuns.{Runs, Entry, has_top, block_at, run_at, run_before}

@@ -7,7 +7,7 @@ use Rattle.lay_flow.specs.Blocks.Boxes.{parent_at, parents_of}
 use Rattle.lay_doc.specs.Tree.{IsTree}
 use Rattle.lay_floats.specs.declared.requests.Clear.TheVariants.{Both as clear_both}
 use Rattle.lay_floats.specs.ClearEdge.{IsClearEdge}
-use Rattle.lay_floats.proofs.Unique.{one_clear_edge_lem}
+use Rattle.lay_flow.proofs.Cited.{one_clear_edge_lem}
 use Rattle.lay_flow.specs.Blocks.Lengths.{length_at}
 use Rattle.lay_flow.specs.Blocks.Children.{flag_at}
 use Rattle.lay_flow.specs.Blocks.MarginRuns.{block_at, run_before}

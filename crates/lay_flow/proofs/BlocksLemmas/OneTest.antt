@@ -17,7 +17,7 @@ use Rattle.lay_flow.proofs.BlocksLemmas.PlacedInRuns.{placed_in_run}
 use Rattle.lay_floats.specs.declared.requests.Side.{Side}
 use Rattle.lay_floats.specs.ClearEdge.{IsClearEdge}
 use Rattle.lay_floats.specs.FloatPlace.{IsFloatPlace}
-use Rattle.lay_floats.proofs.Unique.{one_float_place_lem}
+use Rattle.lay_flow.proofs.Cited.{one_float_place_lem}
 use Rattle.lay_flow.specs.declared.blocks.flow_box.FlowBox.{FlowBox}
 use Rattle.lay_flow.specs.Blocks.Boxes.{box_at, parent_at, parents_of}
 use Rattle.lay_flow.specs.Blocks.Lengths.{length_at}

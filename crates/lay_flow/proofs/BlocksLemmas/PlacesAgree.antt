@@ -16,7 +16,7 @@ use Rattle.lay_floats.specs.declared.requests.Side.{Side}
 use Rattle.lay_floats.specs.declared.requests.Place.{Place}
 use Rattle.lay_floats.specs.FloatPlace.{IsFloatPlace}
 use Rattle.lay_floats.specs.SolidPlace.{IsSolidPlace}
-use Rattle.lay_floats.proofs.Unique.{one_float_place_lem, one_solid_place_lem}
+use Rattle.lay_flow.proofs.Cited.{one_float_place_lem, one_solid_place_lem}
 use Rattle.lay_flow.specs.Blocks.Lengths.{length_at}
 use Rattle.lay_flow.specs.Blocks.MarginRuns.{block_at}
 use Rattle.lay_flow.specs.Blocks.BlockPositions.{is_lines, is_placed, is_solid}

@@ -11,7 +11,7 @@ use Rattle.lay_lines.specs.declared.content.content.Part.TheVariants as line
 use Rattle.lay_lines.specs.declared.content.frame.Frame.{Frame}
 use Rattle.lay_lines.specs.declared.content.pen.Pen.{Pen as LinePen}
 use Rattle.lay_lines.specs.Content.Pens.{over, over_all}
-use Rattle.lay_lines.proofs.ContentLemmas.PenOrder.{times_more}
+use Rattle.lay_flow_boxes.proofs.Cited.{times_more}
 use Rattle.lay_flow_boxes.specs.Words.LinesAlone.{IsNotNegative}
 
 next_times : (q : ℤ) (s : ℕ) → (q +ℤ pos 1) *ℤ pos s ≡ (q *ℤ pos s) +ℤ pos s

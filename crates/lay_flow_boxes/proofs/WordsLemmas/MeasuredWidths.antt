@@ -23,7 +23,7 @@ use Rattle.lay_measure.specs.declared.pen.Pen.{Pen}
 use Rattle.lay_measure.specs.LineParts.{line_parts, parts_of}
 use Rattle.lay_measure.specs.LineWidths.{begun, float_sum, line_width, lines_of, over_all, widest_float}
 use Rattle.lay_measure.specs.MeasureInValue.{MeasureInValue}
-use Rattle.lay_measure.proofs.WidestLines.{from_zero}
+use Rattle.lay_flow_boxes.proofs.Cited.{from_zero}
 use Rattle.lay_flow_boxes.specs.Words.LinesAlone.{AreAsMeasured, HaveNoFloats, IsAsMeasured, IsNoFloat}
 use Rattle.lay_flow_boxes.specs.Words.LinesAlone.{IsNotNegative, NoneIsNegative, measuring_pen}
 use Rattle.lay_flow_boxes.proofs.WordsLemmas.GrowingPens.{parts_grow}

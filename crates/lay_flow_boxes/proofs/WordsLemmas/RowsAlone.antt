@@ -9,23 +9,20 @@ use Rattle.std.proofs.lemmas.Option.{same_Some, slice_get_within}
 use Rattle.lay_units.specs.Lengths.{no_length}
 use Rattle.lay_floats.specs.declared.placed.Placed.{Placed}
 use Rattle.lay_floats.specs.SolidPlace.{IsAlone}
-use Rattle.lay_floats.proofs.Unique.{one_room_lem}
+use Rattle.lay_flow_boxes.proofs.Cited.{all_fit, one_room_lem, pen_seen, some_at, takes_some, top_fits}
 use Rattle.lay_space.specs.declared.segment.Segment.{Segment}
 use Rattle.lay_lines.specs.declared.content.content.Stretch.{Stretch}
 use Rattle.lay_lines.specs.declared.content.frame.Frame.{Frame}
 use Rattle.lay_lines.specs.declared.content.pen.Pen.{Pen as LinePen}
 use Rattle.lay_lines.specs.Content.Extents.{any_shows}
 use Rattle.lay_lines.specs.Content.Pens.{blank, pen_to, seen_to, strut_height}
-use Rattle.lay_lines.proofs.ContentLemmas.PenOrder.{some_at}
 use Rattle.lay_lines.specs.Filling.{Fills, FitsNext, HasFit, Reaches, Takes}
 use Rattle.lay_lines.specs.Meeting.{IsLineRoom, State}
 use Rattle.lay_lines.specs.Rows.{IsFilled, IsRow, Position, Row, after_row, emptied}
-use Rattle.lay_lines.proofs.Steps.{all_fit, takes_some, top_fits}
 use Rattle.lay_line_measures.specs.declared.container.Container.{Container}
 use Rattle.lay_line_measures.specs.BoxMeasuresValue.{BoxMeasuresValue}
 use Rattle.lay_line_measures.specs.SeenLines.{has_seen_line}
 use Rattle.lay_line_measures.specs.Stretches.{stretch_of, stretches_of}
-use Rattle.lay_line_measures.proofs.SeenPens.{pen_seen}
 use Rattle.lay_measure.specs.declared.pen.Breaking.{Breaking}
 use Rattle.lay_measure.specs.declared.pen.Breaking.TheVariants as breaking
 use Rattle.lay_measure.specs.MeasureInValue.{MeasureInValue}

@@ -23,7 +23,7 @@ use Rattle.lay_line_measures.specs.BoxMeasuresValue.{BoxMeasuresValue}
 use Rattle.lay_line_measures.specs.SeenLines.{has_seen_line, is_seen as is_seen_part}
 use Rattle.lay_line_measures.specs.Stretches.{parts_at as line_parts_at, parts_of as line_parts_of, stretches_of}
 use Rattle.lay_line_measures.specs.TextParts.{advance, cluster_parts, linefeed_parts, text_parts as line_text_parts}
-use Rattle.lay_line_measures.proofs.SeenPens.{seen_at, take_more}
+use Rattle.lay_flow_boxes.proofs.Cited.{seen_at, take_more}
 use Rattle.lay_measure.specs.declared.line_parts.LinePart.{LinePart}
 use Rattle.lay_measure.specs.declared.line_parts.LinePart.TheVariants as part
 use Rattle.lay_measure.specs.declared.pen.Breaking.{Breaking}

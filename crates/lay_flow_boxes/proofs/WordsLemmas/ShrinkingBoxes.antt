@@ -22,7 +22,7 @@ use Rattle.lay_widths.specs.FloatWidths.{SolvesFloat, available_of, float_width_
 use Rattle.lay_widths.specs.Lengths.{or_zero}
 use Rattle.lay_widths.specs.MinMax.{AtLeast, AtMost, IsBounded}
 use Rattle.lay_sizes.specs.UsedLengths.{block_of, used_limit, used_margin, used_width}
-use Rattle.lay_sizes.proofs.SizesFit.{size_is_used}
+use Rattle.lay_flow_boxes.proofs.Cited.{size_is_used}
 use Rattle.lay_measure.specs.Contributions.{bounded_width, given_or, limit_of, margin_or_zero, size_or_zero}
 use Rattle.lay_flow_boxes.specs.Words.InlineEdges.{IsLengthOrAuto}
 use Rattle.lay_flow_boxes.specs.Words.ShrinkingBoxes.{IsLengthOrNone, ShrinkingBoxesTakeWhatIsMeasured}

@@ -1,6 +1,6 @@
 -- Whatever goes over a text cluster by cluster, and over text by its width alone, comes as far over the gathered text.
 use Rattle.std.proofs.Common.{◌≡◌, ℕ, ◌≤◌, ℤ, ◌+ℤ◌, Bool, true, false, if◌then◌else◌, List, [], ◌∷◌, ◌++◌, length, Option, Some, None, option_to_list, refl, sym, ap, ◌∙◌, arith}
-use Rattle.lay_line_measures.proofs.CutParts.{within as cut_within}
+use Rattle.lay_flow_boxes.proofs.Cited.{within as cut_within}
 use Rattle.lay_units.specs.declared.records.ClusterWidth.{ClusterWidth}
 use Rattle.lay_space.specs.SegmentLaws.{StandOnBoundaries}
 use Rattle.lay_space.specs.Tokens.{next_place}

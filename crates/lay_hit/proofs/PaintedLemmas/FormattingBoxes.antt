@@ -12,7 +12,7 @@ use Rattle.lay_contexts.specs.Contexts.{Context, boxes_in}
 use Rattle.lay_contexts.specs.FormattingBoxes.{as_member, as_own, at_home_before, boxes_of_root, is_at_home}
 use Rattle.lay_contexts.specs.FormattingContextList.{AreFormattingContextsOf, formatting_context_of, homes_in}
 use Rattle.lay_contexts.specs.FormattingContexts.{FormattingContext, boxes_in as boxes_of, formatting_context_at}
-use Rattle.lay_contexts.proofs.RootNumbers.{numbered}
+use Rattle.lay_hit.proofs.Cited.{numbered}
 use Rattle.lay_hit.proofs.PaintedLemmas.Each.{Each, each-filter, each-map, each-or, each-all, each-weaker}
 use Rattle.lay_hit.proofs.PaintedLemmas.NodeBoxes.{IsBoxOf, context-boxes}
 

@@ -7,7 +7,7 @@ use Rattle.lay_box_tree.specs.declared.box_role.Role.TheVariants as role
 use Rattle.lay_box_tree.specs.declared.box_tree.BoxNode.{BoxNode}
 use Rattle.lay_box_tree.specs.BoxColumns.{box_at, no_box}
 use Rattle.lay_box_tree.specs.Roles.{role_of}
-use Rattle.lay_boxgen.proofs.Settled.{drop-next}
+use Rattle.lay_hit.proofs.Cited.{breaks_keep_content_lem, drop-next}
 use Rattle.lay_face.specs.FaceValue.{FaceValue}
 use Rattle.lay_space.specs.declared.item.Mode.{Mode}
 use Rattle.lay_space.specs.declared.item.Item.{Item}
@@ -23,7 +23,6 @@ use Rattle.lay_space.specs.Laws.{content_of, is_out_of_flow}
 use Rattle.lay_space.specs.Segments.{cut, last_segment, text_of}
 use Rattle.lay_space.specs.Tokens.{begins_line, cluster_tokens, is_collapsible, tokens_of, tokens_of_item, without_leading_spaces}
 use Rattle.lay_space.specs.WhiteSpace.{processed, space_after}
-use Rattle.lay_space.proofs.KeptContent.{breaks_keep_content_lem}
 use Rattle.lay_line_items.specs.InlineItems.{items_as, items_at, items_below, items_of}
 use Rattle.lay_line_items.specs.InlineSegments.{items_in, measured, measured_item, segments_in}
 use Rattle.lay_hit.proofs.PaintedLemmas.Each.{Each, each-append, each-filter, each-if, each-map, each-unfilter, each-weaker}

@@ -26,8 +26,7 @@ use Rattle.lay_boxgen.specs.Listing.{box_node, kind_of, listed_part, text_at}
 use Rattle.lay_boxgen.specs.NodeBoxes.{facts_with, form_of, replaced_form}
 use Rattle.lay_boxgen.specs.NodeTrees.{anchor_facts, as_own, tree_at}
 use Rattle.lay_boxgen.specs.Parts.{generated_of, own_tree, part, whole}
-use Rattle.lay_contexts.proofs.ListedFacts.{all_boxes}
-use Rattle.lay_contexts.proofs.NodeFacts.{IsNodeTree, IsOfNode, node_tree}
+use Rattle.lay_hit.proofs.Cited.{all_boxes, IsNodeTree, IsOfNode, node_tree}
 use Rattle.lay_hit.specs.PaintKinds.{node_kind}
 use Rattle.lay_hit.specs.Pages.{id_of}
 use Rattle.lay_hit.proofs.PaintedLemmas.EveryBox.{every-generated}

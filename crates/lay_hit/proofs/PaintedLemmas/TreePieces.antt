@@ -3,7 +3,7 @@
 use Rattle.std.proofs.Common.{◌≡◌, ℕ, zero, suc, ◌+◌, ◌<◌, ◌≤◌, Bool, true, false, if◌then◌else◌, List, [], ◌∷◌, length, slice_index, refl, sym, subst, ◌∙◌, arith, Option, None, Some, option_map}
 use Rattle.std.proofs.lemmas.List.Concat.{flat_map-append}
 use Rattle.lay_doc.specs.Document.{Document}
-use Rattle.lay_doc.proofs.NodeColumns.{length-parents}
+use Rattle.lay_hit.proofs.Cited.{in_order, length-parents}
 use Rattle.lay_frag.specs.Pieces.{Context as PageContext, frags_of, page_pieces}
 use Rattle.lay_contexts.specs.FormattingContexts.{AreFormattingContexts, FormattingContext, IsInside, boxes_in, formatting_context_at}
 use Rattle.lay_contexts.specs.FormattingLaws.{FormattingContextsStandInOrder}
@@ -21,7 +21,6 @@ use Rattle.lay_context.specs.PlacedContexts.{placed_in, placement_in}
 use Rattle.lay_context.specs.Settings.{sizes_in}
 use Rattle.lay_context.specs.Solves.{listed, medium_of, page_context, page_contexts}
 use Rattle.lay_context.specs.Workings.{Workings}
-use Rattle.lay_context.proofs.OneTree.{in_order}
 use Rattle.lay_hit.specs.Laws.{IsPieceOf}
 use Rattle.lay_hit.specs.Painted.Laws.{SolvedPiecesAreOfNodes}
 use Rattle.lay_hit.proofs.PaintedLemmas.Each.{Each, each-append, each-get, each-map, each-or}

@@ -1,6 +1,6 @@
 -- Cells that follow the contexts of a document through a list of edits are those of the document after it.
 use Rattle.lay_history.specs.Edits.EditLists.{after_all}
-use Rattle.lay_history.proofs.EditsLemmas.Lists.{lists_leave_documents}
+use Rattle.lay_kept_cells.proofs.Cited.{lists_leave_documents}
 use Rattle.lay_cell_work.specs.CellLaws.KeptInputs.{InputsAreKept}
 use Rattle.lay_kept_cells.proofs.StepsLemmas.FollowedRows.{followed}
 use Rattle.lay_kept_cells.specs.ListSteps.EditedLists.{ListsKeepCells, TakesList}

@@ -6,16 +6,11 @@ use Rattle.lay_doc.specs.Document.{Document, IsDocument, ids_of}
 use Rattle.lay_doc.specs.Edits.{after}
 use Rattle.lay_doc.specs.declared.edit.Edit.{Edit}
 use Rattle.lay_doc.specs.Laws.{PutsNode}
-use Rattle.lay_doc.proofs.EditedDocuments.{edits_leave_documents}
-use Rattle.lay_doc.proofs.NodeColumns.{length-parents}
+use Rattle.lay_kept_cells.proofs.Cited.{contexts_are_of_own_nodes_lem, edits_leave_documents, first_id_stays, first_node, length-parents, lists_leave_documents, none_first, same_node}
 use Rattle.lay_contexts.specs.ContextList.{AreContextsOf}
 use Rattle.lay_contexts.specs.Contexts.{Context}
 use Rattle.lay_history.specs.Edits.EditLists.{after_all, first}
-use Rattle.lay_history.proofs.EditsLemmas.Lists.{lists_leave_documents, none_first}
 use Rattle.lay_shape.specs.Keys.{node_of}
-use Rattle.lay_shape.proofs.OwnNodes.{contexts_are_of_own_nodes_lem}
-use Rattle.lay_shape.proofs.ShapeLawsLemmas.FirstContexts.{first_node, same_node}
-use Rattle.lay_shape.proofs.ShapeLawsLemmas.FirstNodes.{first_id_stays}
 use Rattle.lay_kept_cells.proofs.StepsLemmas.FollowedRows.{RootStays}
 use Rattle.lay_kept_cells.specs.ListSteps.EditedLists.{TakesList}
 

@@ -14,9 +14,7 @@ use Rattle.lay_cells.specs.declared.answers.Finished.TheVariants as finished
 use Rattle.lay_cells.specs.declared.answers.Released.{Released}
 use Rattle.lay_cells.specs.declared.answers.Released.TheVariants as released
 use Rattle.lay_cells.specs.declared.cell.Open.{Open}
-use Rattle.lay_cells.proofs.Lists.{set_cases}
-use Rattle.lay_cells.proofs.Marked.{beside}
-use Rattle.lay_cells.proofs.Reaching.{number_stale}
+use Rattle.lay_kept_cells.proofs.Cited.{beside, number_stale, set_cases}
 use Rattle.lay_shape.specs.declared.cell_key.CellKey.{CellKey}
 use Rattle.lay_cell_work.specs.CellInputs.{CellInput}
 use Rattle.lay_cell_work.specs.CellLocal.{IsCellLocal}

@@ -5,9 +5,7 @@ use Rattle.lay_cells.specs.Places.{IsNeedAt}
 use Rattle.lay_cells.specs.Reuses.{AreNeedsAt}
 use Rattle.lay_cells.specs.Rows.{entry_of}
 use Rattle.lay_cells.specs.Shapes.{IsShape}
-use Rattle.lay_cells.proofs.Answered.{one_by_key}
-use Rattle.lay_cells.proofs.ByPlace.{at_within}
-use Rattle.lay_cells.proofs.Lists.{one_at}
+use Rattle.lay_kept_cells.proofs.Cited.{at_within, one_at, one_by_key}
 use Rattle.lay_cell_work.specs.CellLaws.SoundCells.{CellRow}
 
 pub need_within : (rows : List CellRow) (place : ℕ) (places : List ℕ) → AreNeedsAt rows place places → (j need : ℕ) → slice_get places j ≡ Some need → need < length rows

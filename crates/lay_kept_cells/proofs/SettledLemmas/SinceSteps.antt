@@ -1,7 +1,7 @@
 -- What is known since all cells were clean, through claims, what comes of them, and edits.
 use Rattle.std.proofs.Common.{◌≡◌, inl, inr, ◌≤◌, ◌+◌, List, slice_set, refl, arith, ap, sym, subst}
 use Rattle.lay_cells.specs.Steps.{draws_after}
-use Rattle.lay_cells.proofs.Keeps.{draws_more}
+use Rattle.lay_kept_cells.proofs.Cited.{draws_more}
 use Rattle.lay_contexts.specs.Contexts.{Context}
 use Rattle.lay_context.specs.Medium.{Medium}
 use Rattle.lay_cell_work.specs.CellLaws.SoundCells.{CellState}

@@ -7,7 +7,7 @@ use Rattle.lay_cells.specs.Places.{AtPlace}
 use Rattle.lay_cells.specs.Rows.{Solved, entry_of}
 use Rattle.lay_cells.specs.Shapes.{Entry, IsIn}
 use Rattle.lay_cells.specs.Steps.{HasKept}
-use Rattle.lay_cells.proofs.Lists.{map_at, one_at}
+use Rattle.lay_kept_cells.proofs.Cited.{cell_within, in_map, map_at, one_at}
 use Rattle.lay_contexts.specs.Contexts.{Context}
 use Rattle.lay_doc.specs.declared.node.NodeId.{NodeId}
 use Rattle.lay_contexts.specs.FormattingContexts.{FormattingContext}
@@ -19,8 +19,6 @@ use Rattle.lay_shape.specs.declared.context_phase.ContextPhase.{ContextPhase}
 use Rattle.lay_shape.specs.Dependencies.{in_phase, needs_in, needs_of}
 use Rattle.lay_shape.specs.Keys.{key_of as key_of_cell}
 use Rattle.lay_shape.specs.Shapes.{cells_of, entry_of as entry_of_cell}
-use Rattle.lay_shape.proofs.CellOrder.{cell_within}
-use Rattle.lay_shape.proofs.Members.{in_map}
 use Rattle.lay_cell_work.specs.CellInputs.{CellInput}
 use Rattle.lay_cell_work.specs.CellValues.{CellValue}
 use Rattle.lay_cell_work.specs.KeptValues.{kept_value, value_or_none}

@@ -7,8 +7,7 @@ use Rattle.lay_cells.specs.Rows.{Row, entry_of}
 use Rattle.lay_cells.specs.Shapes.{Entry, IsIn}
 use Rattle.lay_cells.specs.Steps.{IsStale}
 use Rattle.lay_cells.specs.declared.cell.Open.{Open}
-use Rattle.lay_cells.proofs.Marked.{beside, marked_entry}
-use Rattle.lay_cells.proofs.Reaching.{not_fresh_row}
+use Rattle.lay_kept_cells.proofs.Cited.{beside, marked_entry, not_fresh_row}
 
 no_claim : (o : Option Open) → o ≡ None → option_map (λ (c : Open). c.stale) o ≡ Some false → ⊥
 no_claim None e f = absurd cc

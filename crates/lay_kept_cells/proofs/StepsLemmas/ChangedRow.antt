@@ -3,25 +3,21 @@
 use Rattle.std.proofs.Common.{◌≡◌, ◌⊎◌, ⊎_elim, inl, inr, ◌<◌, ℕ, true, false, List, length, map, slice_get, slice_set, Some, refl, ap, sym, subst, ◌∙◌}
 use Rattle.std.proofs.lemmas.Bool.{false≢true}
 use Rattle.lay_doc.specs.Document.{Document}
-use Rattle.lay_doc.proofs.NodeColumns.{length-parents}
+use Rattle.lay_kept_cells.proofs.Cited.{are_contexts, contexts_are_of_own_nodes_lem, in_map, length-parents, map_set_kept, set_cases, set_keeps_at, set_same}
 use Rattle.lay_face.specs.FaceValue.{FaceValue}
 use Rattle.lay_cells.specs.Looks.{AreClean}
 use Rattle.lay_cells.specs.Rows.{entry_of}
 use Rattle.lay_cells.specs.Shapes.{Entry, IsIn, IsShape}
 use Rattle.lay_cells.specs.Sound.{IsSound}
 use Rattle.lay_cells.specs.Steps.{HasKept, IsStale}
-use Rattle.lay_cells.proofs.Lists.{map_set_kept, set_cases, set_keeps_at, set_same}
 use Rattle.lay_contexts.specs.Contexts.{AreContexts, Context}
 use Rattle.lay_contexts.specs.FormattingContexts.{FormattingContext}
-use Rattle.lay_contexts.proofs.ContextNumbers.{are_contexts}
 use Rattle.lay_context.specs.declared.task.Phase.{Phase}
 use Rattle.lay_context.specs.Solves.{medium_of}
 use Rattle.lay_shape.specs.declared.cell_key.CellKey.{CellKey}
 use Rattle.lay_shape.specs.Dependencies.{in_phase, needs_in}
 use Rattle.lay_shape.specs.Keys.{AreOfOwnNodes, key_of as key_of_cell}
 use Rattle.lay_shape.specs.Shapes.{shape_of}
-use Rattle.lay_shape.proofs.Members.{in_map}
-use Rattle.lay_shape.proofs.OwnNodes.{contexts_are_of_own_nodes_lem}
 use Rattle.lay_cell_work.specs.CellLocal.{IsCellLocal}
 use Rattle.lay_cell_work.specs.KeptValues.{kept_value, value_or_none}
 use Rattle.lay_cell_work.specs.PresentInputs.{key_of}

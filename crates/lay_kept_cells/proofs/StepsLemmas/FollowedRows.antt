@@ -7,7 +7,7 @@ use Rattle.lay_style.specs.declared.style.Style.{Style}
 use Rattle.lay_style.specs.ComputedStyle.{HasStyles}
 use Rattle.lay_doc.specs.declared.node.NodeId.{NodeId}
 use Rattle.lay_doc.specs.Document.{Document, IsDocument, declarations_of, parents_of}
-use Rattle.lay_doc.proofs.NodeColumns.{length-parents}
+use Rattle.lay_kept_cells.proofs.Cited.{are_contexts, contexts_are_of_own_nodes_lem, in_map, length-parents}
 use Rattle.lay_face.specs.FaceValue.{FaceValue}
 use Rattle.lay_cells.specs.Looks.{AreClean, IsClean}
 use Rattle.lay_cells.specs.Marks.{Reached, listed}
@@ -19,7 +19,6 @@ use Rattle.lay_contexts.specs.Contexts.{AreContexts, Context}
 use Rattle.lay_contexts.specs.ContextList.{AreContextsOf}
 use Rattle.lay_contexts.specs.FormattingContexts.{FormattingContext}
 use Rattle.lay_contexts.specs.FormattingContextList.{AreFormattingContextsOf}
-use Rattle.lay_contexts.proofs.ContextNumbers.{are_contexts}
 use Rattle.lay_context.specs.declared.task.Phase.{Phase}
 use Rattle.lay_context.specs.Medium.{Medium}
 use Rattle.lay_context.specs.Solves.{medium_of}
@@ -27,8 +26,6 @@ use Rattle.lay_shape.specs.declared.cell_key.CellKey.{CellKey}
 use Rattle.lay_shape.specs.Dependencies.{in_phase, needs_in}
 use Rattle.lay_shape.specs.Keys.{AreOfOwnNodes, key_of as key_of_cell, node_of}
 use Rattle.lay_shape.specs.Shapes.{shape_of}
-use Rattle.lay_shape.proofs.Members.{in_map}
-use Rattle.lay_shape.proofs.OwnNodes.{contexts_are_of_own_nodes_lem}
 use Rattle.lay_cell_work.specs.CellLocal.{IsCellLocal}
 use Rattle.lay_cell_work.specs.PresentInputs.{key_of}
 use Rattle.lay_cell_work.specs.CellLaws.DocumentCells.{AreDocumentCells}

@@ -1,9 +1,8 @@
 -- Cells that are made anew are none of them clean, and have no claims.
 use Rattle.std.proofs.Common.{⊎_elim, [], sym, ◌∙◌}
 use Rattle.std.proofs.lemmas.Bool.{false≢true}
-use Rattle.lay_doc.proofs.NodeColumns.{length-parents}
+use Rattle.lay_kept_cells.proofs.Cited.{are_contexts, length-parents}
 use Rattle.lay_cells.specs.Shapes.{IsIn}
-use Rattle.lay_contexts.proofs.ContextNumbers.{are_contexts}
 use Rattle.lay_shape.specs.Shapes.{shape_of}
 use Rattle.lay_cell_work.specs.CellLaws.SoundCells.{CellRow}
 use Rattle.lay_kept_cells.specs.Steps.CellSteps.{NewCellsAreSound}

@@ -9,17 +9,13 @@ use Rattle.lay_style.specs.declared.style_words.TableLayout.TheVariants.{Auto}
 use Rattle.lay_style.specs.Places.{place_of}
 use Rattle.lay_doc.specs.Document.{Document, ids_of}
 use Rattle.lay_doc.specs.Edits.{after}
-use Rattle.lay_doc.proofs.NodeColumns.{length-ids}
+use Rattle.lay_kept_cells.proofs.Cited.{are_contexts, first_le, in_order, length-ids, marked-true, number_is_of, place-is, place-reads, place-there, within}
 use Rattle.lay_box_tree.specs.BoxColumns.{box_at}
 use Rattle.lay_box_tree.specs.declared.box_tree.BoxNode.{BoxNode}
 use Rattle.lay_boxgen.specs.Contexts.{IsContext, IsContextAt, IsContextThere, box_at as node_box_at, is_marked}
 use Rattle.lay_contexts.specs.Contexts.{AreContexts, Context, boxes_in, context_at}
 use Rattle.lay_contexts.specs.FormattingContexts.{AreFormattingContexts, FormattingContext, boxes_in as boxes_of, formatting_context_at}
 use Rattle.lay_contexts.specs.FormattingContextList.{first_number, number_of}
-use Rattle.lay_contexts.proofs.ContextFacts.{in_order}
-use Rattle.lay_contexts.proofs.ContextNumbers.{are_contexts}
-use Rattle.lay_contexts.proofs.OneStand.{marked-true, within}
-use Rattle.lay_contexts.proofs.RootNumbers.{first_le}
 use Rattle.lay_context_sizes.specs.ShrinkToFit.{shrinks, shrinks_to_fit}
 use Rattle.lay_table_sizes.specs.TableLayouts.{asks_fixed, has_width, is_fixed}
 use Rattle.lay_context.specs.Laws.{MeasuredWhereShrunk}
@@ -27,9 +23,6 @@ use Rattle.lay_context.specs.Measured.{ShrinksOutward, around, is_measured, own}
 use Rattle.lay_contexts.specs.Edited.Bound.{EditsTouchNoOthers, IsUntouched, id_of}
 use Rattle.lay_contexts.specs.Edited.Shrinking.{AreListsOf, IsWithinOutward, TakesAnonymousTables, first, outward}
 use Rattle.lay_contexts.specs.Edited.Touched.{EditsTouchReachedContexts, HasReached}
-use Rattle.lay_contexts.proofs.EditedLemmas.NamedPlaces.{place-is, place-reads}
-use Rattle.lay_contexts.proofs.EditedLemmas.StayingOutward.{place-there}
-use Rattle.lay_cell_work.proofs.CellLawsLemmas.RootsOfContexts.{number_is_of}
 use Rattle.lay_shape.specs.Touched.TouchedContexts.{IsUntouchedFrom}
 use Rattle.lay_kept_cells.specs.Steps.TouchedContexts.{TouchedContextsAreReached}
 

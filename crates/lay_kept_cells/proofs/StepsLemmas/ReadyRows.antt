@@ -16,9 +16,7 @@ use Rattle.lay_contexts.specs.Contexts.{Context}
 use Rattle.lay_contexts.specs.FormattingContexts.{AreFormattingContexts, FormattingContext, boxes_in}
 use Rattle.lay_contexts.specs.FormattingContextList.{first_number}
 use Rattle.lay_contexts.specs.Laws.{AnonymousBoxesAreInFlow}
-use Rattle.lay_contexts.proofs.ContextFacts.{in_order as contexts_in_order, root_of}
-use Rattle.lay_contexts.proofs.RootNumbers.{first_le}
-use Rattle.lay_positioned.proofs.OneLevels.{leads_out}
+use Rattle.lay_kept_cells.proofs.Cited.{all_done, AreCalm, counted as values_counted, first_le, in_map, in_order as contexts_in_order, IsOf, kept_right, leads_out, number_is_of, own_number, root_of, same_context, sizes_are_of_boxes, sizes_at, stands}
 use Rattle.lay_context_sizes.specs.ContextSizes.{SizedContext, not_sized}
 use Rattle.lay_context.specs.declared.task.Phase.{Phase}
 use Rattle.lay_context.specs.declared.task.Phase.TheVariants as phase
@@ -32,12 +30,9 @@ use Rattle.lay_context.specs.Settings.{sizes_in}
 use Rattle.lay_context.specs.Settling.{AreKnown, AreOfBoxes, IsReady}
 use Rattle.lay_context.specs.Solves.{medium_of}
 use Rattle.lay_context.specs.Workings.{Workings}
-use Rattle.lay_context.proofs.PlaceFacts.{stands}
-use Rattle.lay_context.proofs.SizedFacts.{sizes_are_of_boxes}
 use Rattle.lay_shape.specs.declared.cell_key.CellKey.{CellKey}
 use Rattle.lay_shape.specs.Dependencies.{in_phase, needs_in}
 use Rattle.lay_shape.specs.Keys.{key_of as key_of_cell}
-use Rattle.lay_shape.proofs.Members.{in_map}
 use Rattle.lay_shape.specs.ShapeLaws.NeedLaws.{IsShapedNeed, NeedsAreShaped}
 use Rattle.lay_cell_work.specs.CellInputs.{CellInput, RootInput}
 use Rattle.lay_cell_work.specs.CellLocal.{IsCellLocal, whole_input}
@@ -46,11 +41,6 @@ use Rattle.lay_cell_work.specs.KeptValues.{kept_value, kept_workings, value_or_n
 use Rattle.lay_cell_work.specs.PresentInputs.{key_of, present_input, root_count, root_input}
 use Rattle.lay_cell_work.specs.CellLaws.DocumentCells.{AreDocumentCells}
 use Rattle.lay_cell_work.specs.CellLaws.SoundCells.{CellRow, CellState, CleanCellsSolve, input_now}
-use Rattle.lay_cell_work.proofs.CellLawsLemmas.CleanCells.{all_done, kept_right}
-use Rattle.lay_cell_work.proofs.CellLawsLemmas.EndToEnd.{counted as values_counted}
-use Rattle.lay_cell_work.proofs.CellLawsLemmas.RootsOfContexts.{AreCalm, IsOf, number_is_of, own_number}
-use Rattle.lay_cell_work.proofs.CellLawsLemmas.WholeInputs.{sizes_at}
-use Rattle.lay_cell_work.proofs.CellLawsLemmas.FittingInputs.{same_context}
 use Rattle.lay_kept_cells.specs.Steps.ReadyCells.{AssembledTreesSolve, CleanCellsAreKnown, KeptValuesAreCounted, ReadyToInput}
 use Rattle.lay_kept_cells.proofs.StepsLemmas.ChangedRow.{apart, counted, in_order}
 use Rattle.lay_kept_cells.proofs.StepsLemmas.RowsOfContexts.{needs_are, value_is}

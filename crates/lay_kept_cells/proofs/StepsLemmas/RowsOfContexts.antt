@@ -3,8 +3,7 @@
 use Rattle.std.proofs.Common.{◌≡◌, ◌<◌, ℕ, zero, suc, Bool, true, false, List, [], ◌∷◌, length, map, slice_get, Some, refl, ap, sym, ◌∙◌}
 use Rattle.lay_cells.specs.Shapes.{Entry, IsIn, IsShape}
 use Rattle.lay_cells.specs.Rows.{entry_of}
-use Rattle.lay_cells.proofs.Answered.{one_by_key}
-use Rattle.lay_cells.proofs.Lists.{map_at, map_got}
+use Rattle.lay_kept_cells.proofs.Cited.{cell_in, cell_within, is_same_key, key_apart, key_is, map_at, map_got, one_by_key}
 use Rattle.lay_contexts.specs.Contexts.{AreContexts, Context}
 use Rattle.lay_context.specs.declared.task.Phase.{Phase}
 use Rattle.lay_shape.specs.declared.cell_key.CellKey.{CellKey}
@@ -12,12 +11,9 @@ use Rattle.lay_shape.specs.declared.context_phase.ContextPhase.{ContextPhase}
 use Rattle.lay_shape.specs.Dependencies.{in_phase, needs_of}
 use Rattle.lay_shape.specs.Keys.{AreOfOwnNodes, key_of as key_of_cell}
 use Rattle.lay_shape.specs.Shapes.{cells_of, entry_of as entry_of_cell, shape_of}
-use Rattle.lay_shape.proofs.BuildSteps.{key_apart}
-use Rattle.lay_shape.proofs.CellOrder.{cell_in, cell_within}
 use Rattle.lay_cell_work.specs.KeptValues.{is_key, value_or_none, value_under}
 use Rattle.lay_cell_work.specs.PresentInputs.{key_of}
 use Rattle.lay_cell_work.specs.CellLaws.SoundCells.{CellRow, IsCellOf}
-use Rattle.lay_cell_work.proofs.CellLawsLemmas.CleanCells.{is_same_key, key_is}
 
 module _ (contexts : List Context) (are : AreContexts contexts) (rows : List CellRow) (shaped : map entry_of rows ≡ shape_of contexts) where
   record IsOfCell (r : CellRow) : Type 0 where

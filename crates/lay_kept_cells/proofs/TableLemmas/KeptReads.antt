@@ -13,7 +13,7 @@ use Rattle.lay_shape.specs.Keys.{key_of}
 use Rattle.lay_shape.specs.Shapes.{cells_of, entry_of as entry_of_cell, shape_of}
 use Rattle.lay_cell_work.specs.KeptValues.{is_key, kept_value, value_or_none, value_under}
 use Rattle.lay_cell_work.specs.CellLaws.SoundCells.{CellRow}
-use Rattle.lay_cell_work.proofs.CellLawsLemmas.CleanCells.{is_same_key, key_is}
+use Rattle.lay_kept_cells.proofs.Cited.{is_same_key, key_is}
 
 -- no two cells have one key
 abbrev pub AreApart : List CellRow → Type 0

@@ -5,13 +5,11 @@ use Rattle.std.proofs.lemmas.Bool.{cases_lt, false_from_ne_true}
 use Rattle.lay_contexts.specs.Contexts.{AreContexts, Context}
 use Rattle.lay_contexts.specs.FormattingContexts.{FormattingContext, IsInside, formatting_context_at}
 use Rattle.lay_contexts.specs.FormattingContextList.{AreFormattingContextsOf, first_number}
-use Rattle.lay_contexts.proofs.ContextFacts.{in_order, root_of, some_box, value_of}
-use Rattle.lay_contexts.proofs.RootNumbers.{Numbered, first_le}
+use Rattle.lay_kept_cells.proofs.Cited.{first_le, in_order, inner_is_of, Numbered, own_number, root_of, some_box, value_of}
 use Rattle.lay_context.specs.DocumentLayout.{flow_number, flow_numbers}
 use Rattle.lay_positioned.specs.Absolute.{is_absolute}
 use Rattle.lay_cell_work.specs.CellColumns.{is_link, link_to, links_of}
 use Rattle.lay_cell_work.specs.PresentInputs.{root_count}
-use Rattle.lay_cell_work.proofs.CellLawsLemmas.RootsOfContexts.{inner_is_of, own_number}
 use Rattle.lay_kept_cells.proofs.TableLemmas.RootSteps.{first_there, one_context}
 
 flag_some : (place : ℕ) → 0 < place → nat_lt 0 place ≡ true

@@ -5,8 +5,7 @@ use Rattle.std.proofs.lemmas.Grind.{elements}
 use Rattle.lay_contexts.specs.Contexts.{AreContexts, Context, boxes_in}
 use Rattle.lay_contexts.specs.FormattingContexts.{FormattingContext, formatting_context_at}
 use Rattle.lay_contexts.specs.FormattingContextList.{AreFormattingContextsOf, first_number}
-use Rattle.lay_contexts.proofs.ContextFacts.{root_of, some_box, value_of}
-use Rattle.lay_contexts.proofs.RootNumbers.{Numbered, first_le, roots_lt}
+use Rattle.lay_kept_cells.proofs.Cited.{first_le, Numbered, root_of, roots_lt, some_box, value_of}
 use Rattle.lay_cell_work.specs.PresentInputs.{root_count}
 use Rattle.lay_kept_cells.specs.declared.table.context_root.ContextRoot.{ContextRoot}
 use Rattle.lay_kept_cells.specs.Table.RootColumns.{AreFirstNumbers, AreRootColumns, AreRootColumnsTo, AreRootsTo, IsRootOf, root_at, with_first}

@@ -2,8 +2,7 @@
 use Rattle.std.proofs.Common.{◌≡◌, ◌≢◌, ℕ, ◌+◌, ◌<◌, ◌≤◌, List, length, get_or, refl, sym, ap, ◌∙◌, arith, inl, inr}
 use Rattle.std.proofs.lemmas.Bool.{cases_lt}
 use Rattle.lay_doc.specs.Tree.{IsTree, IsSlot, child_count, children_before}
-use Rattle.lay_doc.proofs.Slots.{end_slot}
-use Rattle.lay_doc.proofs.Subtrees.{end_low}
+use Rattle.lay_run.proofs.Cited.{end_low, end_slot}
 use Rattle.lay_run.specs.Gathered.Links.{IsLastOf, itself, below}
 use Rattle.lay_run.specs.Gathered.Standing.{IsOrder}
 

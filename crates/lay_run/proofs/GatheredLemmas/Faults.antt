@@ -11,7 +11,7 @@ use Rattle.lay_doc.specs.NewNodes.{NewNodeValue, is_element}
 use Rattle.lay_doc.specs.Tree.{child_count}
 use Rattle.lay_doc.specs.Document.{Document, parents_of, ids_of, depths_of, text_size, is_element_at, is_too_long, becomes}
 use Rattle.lay_doc.specs.Edits.{insert_fault, last_index}
-use Rattle.lay_doc.proofs.NodeColumns.{element_read}
+use Rattle.lay_run.proofs.Cited.{element_read}
 use Rattle.lay_run.specs.declared.gathered.listing.Listed.{Listed}
 use Rattle.lay_run.specs.declared.gathered.listing.Listing.{Listing}
 use Rattle.lay_run.specs.Gathered.Numbers.{number_of}

@@ -6,7 +6,7 @@ use Rattle.std.proofs.lemmas.Grind.{elements}
 use Rattle.std.proofs.lemmas.List.{get_or-map, get_or-set_same, get_or-set_other, length-set, length-append, map-append, length-map}
 use Rattle.std.proofs.lemmas.List.Edits.{length-insert, get_or-insert_at}
 use Rattle.lay_style.specs.Places.{place_of}
-use Rattle.lay_style.proofs.Places.{place_here, place_later, map_some}
+use Rattle.lay_run.proofs.Cited.{edits_leave_documents, ids_inserted, length-ids, length-parents, map_some, moved_read, parent_behind, place_here, place_insert_here, place_insert_other, place_later, shifted_high, shifted_low, slot_is, text_size_inserted}
 use Rattle.lay_doc.specs.declared.node.Node.{Node}
 use Rattle.lay_doc.specs.declared.node.NodeId.{NodeId}
 use Rattle.lay_doc.specs.declared.edit.Edit.TheVariants.{Insert}
@@ -14,13 +14,6 @@ use Rattle.lay_doc.specs.NewNodes.{NewNodeValue, IsNodeForm}
 use Rattle.lay_doc.specs.Tree.{IsSlot, child_count, shifted}
 use Rattle.lay_doc.specs.Document.{Document, IsDocument, parents_of, ids_of, depths_of, moved, inserted, becomes}
 use Rattle.lay_doc.specs.Edits.{insert_fault, after_insert, last_index}
-use Rattle.lay_doc.proofs.EditedDocuments.{edits_leave_documents}
-use Rattle.lay_doc.proofs.Indexed.{place_insert_here, place_insert_other}
-use Rattle.lay_doc.proofs.Inserted.{ids_inserted, text_size_inserted, moved_read}
-use Rattle.lay_doc.proofs.NodeColumns.{length-parents, length-ids}
-use Rattle.lay_doc.proofs.PutTrees.{shifted_low, shifted_high}
-use Rattle.lay_doc.proofs.Slots.{slot_is}
-use Rattle.lay_doc.proofs.Subtrees.{parent_behind}
 use Rattle.lay_run.specs.declared.gathered.listing.Listed.{Listed}
 use Rattle.lay_run.specs.declared.gathered.listing.Listing.{Listing}
 use Rattle.lay_run.specs.Gathered.Numbers.{number_of}

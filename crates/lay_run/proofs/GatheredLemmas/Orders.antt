@@ -4,7 +4,7 @@ use Rattle.std.proofs.lemmas.Bool.{cases_lt}
 use Rattle.std.proofs.lemmas.Grind.{elements}
 use Rattle.std.proofs.lemmas.List.{get_or-map, length-append, length-map}
 use Rattle.lay_doc.specs.Tree.{shifted}
-use Rattle.lay_doc.proofs.PutTrees.{shifted_low, shifted_high}
+use Rattle.lay_run.proofs.Cited.{shifted_high, shifted_low}
 use Rattle.lay_run.specs.Gathered.Standing.{IsOrder}
 
 abbrev pub more_places : List ℕ → ℕ → List ℕ

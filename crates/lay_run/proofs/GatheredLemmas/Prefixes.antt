@@ -7,15 +7,12 @@ use Rattle.std.proofs.lemmas.List.Edits.{insert_end}
 use Rattle.std.proofs.lemmas.List.Sums.{sum_by-cons}
 use Rattle.lay_units.specs.Limits.{longest_text, most_depth, most_nodes, most_text}
 use Rattle.lay_style.specs.Places.{place_of}
-use Rattle.lay_style.proofs.Places.{place_here, place_later, place_fresh}
+use Rattle.lay_run.proofs.Cited.{element_column, length-ids, length-parents, place_fresh, place_here, place_later, shifted_low, slot_is}
 use Rattle.lay_doc.specs.declared.node.Node.{Node}
 use Rattle.lay_doc.specs.NewNodes.{NewNodeValue, is_element}
 use Rattle.lay_doc.specs.Tree.{IsSlot, children_before, child_count, slot_of}
 use Rattle.lay_doc.specs.Document.{Document, IsDocument, parents_of, ids_of, depths_of, text_lengths_of, text_size, is_element_at, moved, inserted, becomes}
 use Rattle.lay_doc.specs.Edits.{insert_fault, after_insert, last_index}
-use Rattle.lay_doc.proofs.PutTrees.{shifted_low}
-use Rattle.lay_doc.proofs.Slots.{slot_is}
-use Rattle.lay_doc.proofs.NodeColumns.{length-parents, length-ids, element_column}
 
 -- the document of the nodes before the place m
 abbrev pub front : Document → ℕ → Document

@@ -5,7 +5,7 @@ use Rattle.std.proofs.lemmas.List.Elements.{All-cons}
 use Rattle.std.proofs.lemmas.List.Sums.{sum_by-cons}
 use Rattle.lay_style.specs.Places.{place_of}
 use Rattle.lay_style.specs.Values.{Declaration}
-use Rattle.lay_style.proofs.Places.{place_here, place_later}
+use Rattle.lay_run.proofs.Cited.{place_here, place_later}
 use Rattle.lay_doc.specs.declared.node.Node.{Node}
 use Rattle.lay_doc.specs.declared.node.NodeId.{NodeId}
 use Rattle.lay_doc.specs.declared.node.Kind.{Kind}

@@ -7,7 +7,7 @@ use Rattle.lay_doc.specs.declared.node.Node.{Node}
 use Rattle.lay_doc.specs.NewNodes.{is_element}
 use Rattle.lay_doc.specs.Document.{Document, ids_of, becomes, root_document}
 use Rattle.lay_doc.specs.Edits.{root_fault, insert_fault, after_insert, last_index}
-use Rattle.lay_doc.proofs.NodeColumns.{element_read}
+use Rattle.lay_run.proofs.Cited.{element_read}
 use Rattle.lay_run.specs.declared.gathered.listing.Listed.{Listed}
 use Rattle.lay_run.specs.Gathered.Listings.{ups_of, depths_of as item_depths}
 use Rattle.lay_run.specs.Gathered.Standing.{StandsIn, HasPut}

@@ -3,7 +3,7 @@ use Rattle.std.proofs.Common.{◌≡◌, ◌↔◌, inl, inr, ℕ, ◌+◌, Bool
 use Rattle.std.proofs.lemmas.Bool.{cases_lt}
 use Rattle.std.proofs.lemmas.Grind.{elements}
 use Rattle.lay_contexts.specs.Contexts.{Context, boxes_in}
-use Rattle.lay_after_edits.proofs.ContextsLemmas.Flags.{flag-before, flag-last}
+use Rattle.lay_shape.proofs.Cited.{flag-before, flag-last}
 use Rattle.lay_shape.specs.KeptShapes.KeptBoxes.{AreBoxFlags, AreBoxFlagsTo, AreOfSameNodes, KeepBoxes, RestyledKeepCells}
 use Rattle.lay_shape.proofs.KeptShapesLemmas.SameLinks.{same-node}
 use Rattle.lay_shape.proofs.KeptShapesLemmas.SameShape.{shapes_stay}

@@ -13,7 +13,7 @@ use Rattle.lay_positioned.specs.Holders.{can_hold, holder_for, is_holder, is_hol
 use Rattle.lay_shape.specs.Keys.{node_of}
 use Rattle.lay_after_edits.specs.Contexts.Links.{AreRestyled, HasLinks}
 use Rattle.lay_after_edits.specs.Contexts.Unstyled.{Unstyled, all_unstyled, bare_kind, unstyled}
-use Rattle.lay_after_edits.proofs.ContextsLemmas.LaterList.{column}
+use Rattle.lay_shape.proofs.Cited.{column}
 use Rattle.lay_style.specs.Positions.{is_positioned}
 
 -- a text holds no absolutely positioned box, whichever it is

@@ -5,8 +5,7 @@ use Rattle.lay_style.specs.declared.style.Style.{Style}
 use Rattle.lay_doc.specs.declared.node.NodeId.{NodeId}
 use Rattle.lay_doc.specs.Document.{Document, IsDocument, ids_of}
 use Rattle.lay_doc.specs.Edits.{after}
-use Rattle.lay_doc.proofs.EditedDocuments.{edits_leave_documents}
-use Rattle.lay_doc.proofs.NodeColumns.{length-parents}
+use Rattle.lay_shape.proofs.Cited.{box_within, children_stand_in_order, context_is_one_box, edits_leave_documents, length-parents, of_node}
 use Rattle.lay_box_tree.specs.BoxColumns.{box_at as own_at}
 use Rattle.lay_box_tree.specs.declared.box_tree.BoxNode.{BoxNode}
 use Rattle.lay_boxgen.specs.Boxes.{Tree, Trees, tree, trees_of}
@@ -16,15 +15,12 @@ use Rattle.lay_boxgen.specs.Laws.{inner_boxes}
 use Rattle.lay_boxgen.specs.Listing.{listed_part}
 use Rattle.lay_boxgen.specs.NodeTrees.{as_own, box_with, tree_at}
 use Rattle.lay_boxgen.specs.Parts.{nothing, put_list}
-use Rattle.lay_boxgen.proofs.WholeParts.{context_is_one_box}
 use Rattle.lay_contexts.specs.ContextList.{AreContextsOf}
 use Rattle.lay_contexts.specs.ContextTree.{boxes_of_place}
 use Rattle.lay_contexts.specs.Contexts.{Context, boxes_in}
 use Rattle.lay_contexts.specs.DocumentContexts.{root_spot, spot_at}
 use Rattle.lay_contexts.specs.NodeTreeLaws.{child_trees, children_places}
 use Rattle.lay_contexts.specs.declared.context_spot.ContextSpot.{ContextSpot}
-use Rattle.lay_contexts.proofs.ChildTrees.{children_stand_in_order}
-use Rattle.lay_contexts.proofs.NodeFacts.{box_within, of_node}
 use Rattle.lay_shape.specs.Keys.{node_of}
 use Rattle.lay_shape.proofs.OwnNodes.{box_node, contexts_are_of_own_nodes_lem}
 use Rattle.lay_shape.specs.ShapeLaws.RootKeys.{RootStaysFirst}

@@ -10,7 +10,7 @@ use Rattle.lay_cells.specs.Shapes.{IsIn}
 use Rattle.lay_context.specs.declared.task.Phase.{Phase}
 use Rattle.lay_context.specs.declared.task.Phase.TheVariants.{Measure, Size, Place}
 use Rattle.lay_context.specs.Needs.{IsAround, IsInsideFlow, IsOnWayOf, Needs}
-use Rattle.lay_context.proofs.TaskOrder.{flow_inside}
+use Rattle.lay_shape.proofs.Cited.{anonymous_in_flow, are_contexts, contexts_are_noted, flow_inside, flow_of, home_root, home_there, is_behind, spot_there}
 use Rattle.lay_contexts.specs.Contexts.{AreContexts, Context, boxes_in, context_at}
 use Rattle.lay_contexts.specs.FlowLaws.{flow_at}
 use Rattle.lay_contexts.specs.FormattingBoxes.{as_member, as_own, at_home_before}
@@ -19,11 +19,6 @@ use Rattle.lay_contexts.specs.FormattingContextList.{AreFormattingContextsOf, ho
 use Rattle.lay_contexts.specs.Homes.{box_roots, is_root, is_wrapper_or_cell}
 use Rattle.lay_contexts.specs.Laws.{IsNotedAround}
 use Rattle.lay_contexts.specs.declared.spot.Spot.{Spot}
-use Rattle.lay_contexts.proofs.ContextFacts.{home_root, home_there, is_behind, spot_there}
-use Rattle.lay_contexts.proofs.ContextNumbers.{are_contexts}
-use Rattle.lay_contexts.proofs.FlowAround.{anonymous_in_flow}
-use Rattle.lay_contexts.proofs.NotedAround.{contexts_are_noted}
-use Rattle.lay_contexts.proofs.StandingAnchors.{flow_of}
 use Rattle.lay_positioned.specs.Absolute.{is_absolute as is_absolute_among, is_absolute_flow, is_fixed as is_fixed_among, is_own_absolute, is_own_fixed}
 use Rattle.lay_shape.specs.Dependencies.{in_phase, inner_flows, is_inner_flow, needs_in, on_way, outer_needs, way_needs}
 use Rattle.lay_shape.specs.Ways.{IsOnWay, is_absolute, is_fixed, way_of}

@@ -11,10 +11,7 @@ use Rattle.lay_contexts.specs.FormattingContexts.{FormattingContext, boxes_in as
 use Rattle.lay_contexts.specs.FormattingContextList.{AreFormattingContextsOf, homes_in, number_at, number_of, rank_at, spot_of}
 use Rattle.lay_contexts.specs.Homes.{AreHomes, IsHome, is_root}
 use Rattle.lay_contexts.specs.declared.spot.Spot.{Spot}
-use Rattle.lay_contexts.proofs.AtHome.{is_home, stands_there}
-use Rattle.lay_contexts.proofs.ContextFacts.{boxes_around, home_root, home_there, spot_there}
-use Rattle.lay_contexts.proofs.NearestRoots.{not_own, parent_low, root_home, same_home}
-use Rattle.lay_contexts.proofs.RootBoxes.{at_rank, parent_at, place_other, place_root, rank_next, rank_some}
+use Rattle.lay_shape.proofs.Cited.{at_rank, boxes_around, home_root, home_there, is_home, not_own, parent_at, parent_low, place_other, place_root, rank_next, rank_some, root_home, same_home, spot_there, stands_there}
 use Rattle.lay_positioned.specs.Holders.{IsHolderFor, IsNearestHolder, further, is_holder, is_holder_at, none, parent}
 use Rattle.lay_positioned.specs.Ways.{IsOnWayFrom as IsOnWayAmong, here as here_among, further as further_among}
 use Rattle.lay_shape.specs.Ways.{IsOnWayFrom, here as on_here, further as on_further}

@@ -1,6 +1,6 @@
 use Rattle.std.proofs.Common.{◌∙◌}
 use Rattle.lay_sizes.specs.OwnBoxes.{no_own_box}
-use Rattle.lay_context.proofs.GivenFacts.{one_more_fits}
+use Rattle.lay_cell_work.proofs.Cited.{one_more_fits}
 use Rattle.lay_cell_work.specs.CellValues.{Places, own_boxes}
 use Rattle.lay_cell_work.proofs.FilledColumns.{all_filled, one_more_filled}
 use Rattle.lay_cell_work.proofs.columns.filled_boxes.Goals as goal

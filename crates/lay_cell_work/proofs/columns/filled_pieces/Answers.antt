@@ -1,7 +1,7 @@
 use Rattle.std.proofs.Common.{◌∙◌, ◌<◌, ◌≤◌, [], ◌∷◌, ap, map, length, arith}
 use Rattle.std.proofs.lemmas.List.{length-map, map-append}
 use Rattle.lay_placements.specs.InnerPieces.{pieces_or_none}
-use Rattle.lay_context.proofs.GivenFacts.{one_more_near}
+use Rattle.lay_cell_work.proofs.Cited.{one_more_near}
 use Rattle.lay_cell_work.specs.CellValues.{Places, own_pieces}
 use Rattle.lay_cell_work.proofs.FilledColumns.{all_filled, one_more_filled}
 use Rattle.lay_cell_work.proofs.columns.filled_pieces.Goals as goal

@@ -1,5 +1,5 @@
 use Rattle.std.proofs.Common.{◌≡◌, ◌∙◌, sym, map, string_bytes}
-use Rattle.lay_words.proofs.Ranges.{in_range}
+use Rattle.lay_cli.proofs.Cited.{in_range}
 use Rattle.lay_cli.proofs.Completeness.{refuses, reported}
 use Rattle.lay_cli.proofs.call.top.Goals as goal
 

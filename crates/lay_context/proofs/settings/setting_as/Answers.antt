@@ -1,5 +1,5 @@
 use Rattle.std.proofs.Common.{arith}
-use Rattle.lay_box_tree.proofs.ContainerSteps.{container_within}
+use Rattle.lay_context.proofs.Cited.{container_within}
 use Rattle.lay_context.proofs.settings.setting_as.Goals as goal
 
 pub block_around-requires-clause-known : goal.block_around-requires-clause-known

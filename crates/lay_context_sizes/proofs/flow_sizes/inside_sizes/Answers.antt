@@ -1,5 +1,5 @@
 use Rattle.std.proofs.Common.{arith}
-use Rattle.lay_box_tree.proofs.ContainerSteps.{container_before}
+use Rattle.lay_context_sizes.proofs.Cited.{container_before}
 use Rattle.lay_context_sizes.proofs.flow_sizes.inside_sizes.Goals as goal
 
 pub block_around-containing-requires-clause-known : goal.block_around-containing-requires-clause-known

@@ -1,7 +1,7 @@
 use Rattle.std.proofs.Common.{Bool, List, ◌∙◌, subst}
 use Rattle.lay_contexts.specs.Contexts.{Context}
 use Rattle.lay_shape.specs.KeptShapes.KeptBoxes.{AreBoxFlags}
-use Rattle.lay_shape.proofs.KeptShapesLemmas.KeptBoxes.{keep-boxes}
+use Rattle.lay_document_cells.proofs.Cited.{keep-boxes}
 use Rattle.lay_document_cells.proofs.following.changed_boxes.Goals as goal
 
 pub returns : goal.returns

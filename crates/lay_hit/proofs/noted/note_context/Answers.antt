@@ -2,7 +2,7 @@ use Rattle.std.proofs.Common.{◌≡◌, ◌++◌, List, take, length, ap, subst
 use Rattle.std.proofs.lemmas.List.{take_all}
 use Rattle.lay_frag.specs.declared.frag.Frag.{Frag}
 use Rattle.lay_frag.specs.Pieces.{page_pieces}
-use Rattle.lay_frag.proofs.PieceLemmas.{length-page_pieces}
+use Rattle.lay_hit.proofs.Cited.{length-page_pieces}
 use Rattle.lay_hit.specs.Questions.{AreNoted}
 use Rattle.lay_hit.proofs.NotedPieces.{missed_more, noted_more}
 use Rattle.lay_hit.proofs.noted.note_context.Goals.{then-holds_at+in_ok-note, else-holds_at}

@@ -3,7 +3,7 @@ use Rattle.std.proofs.lemmas.Grind.{flat_map-append}
 use Rattle.std.proofs.lemmas.Option.{slice_get-get_or}
 use Rattle.lay_frag.specs.declared.frag.Frag.{Frag}
 use Rattle.lay_frag.specs.Pieces.{page_pieces, frags_of}
-use Rattle.lay_frag.proofs.PieceLemmas.{take_one_more}
+use Rattle.lay_hit.proofs.Cited.{take_one_more}
 use Rattle.lay_hit.specs.Questions.{AreNoted}
 use Rattle.lay_hit.proofs.noted.noted.Goals as goal
 

@@ -1,5 +1,5 @@
 use Rattle.std.proofs.Common.{arith, refl}
-use Rattle.lay_frag.proofs.PieceLemmas.{inner_piece, page_in_range}
+use Rattle.lay_hit.proofs.Cited.{inner_piece, page_in_range}
 use Rattle.lay_hit.proofs.point.holds_at.Goals as goal
 
 pub is_in_moved-requires : goal.is_in_moved-requires

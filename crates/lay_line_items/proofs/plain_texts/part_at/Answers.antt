@@ -1,5 +1,5 @@
 use Rattle.std.proofs.Common.{◌∙◌, sym}
-use Rattle.lay_face.proofs.PlainTexts.{plain_at}
+use Rattle.lay_line_items.proofs.Cited.{plain_at}
 use Rattle.lay_line_items.proofs.PlainWords.{between_words, space_stands, word_over}
 use Rattle.lay_line_items.proofs.plain_texts.part_at.Goals as goal
 

@@ -2,8 +2,7 @@ use Rattle.std.proofs.Common.{rules, ◌≡◌, List, subst}
 use Rattle.lay_box_tree.specs.declared.box_tree.BoxNode.{BoxNode}
 use Rattle.lay_contexts.specs.Contexts.{boxes_in}
 use Rattle.lay_positioned.specs.Holders.{IsHolderFor, holder_for}
-use Rattle.lay_positioned.proofs.OneSetting.{one_holder_for}
-use Rattle.lay_positioned.proofs.SettingValues.{holder_is}
+use Rattle.lay_shape.proofs.Cited.{holder_is, one_holder_for}
 use Rattle.lay_shape.proofs.ways.holder_at.Goals as goal
 
 pub returns : goal.returns

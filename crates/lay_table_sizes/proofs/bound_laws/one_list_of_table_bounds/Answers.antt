@@ -1,4 +1,4 @@
-use Rattle.lay_grid.proofs.AutomaticLemmas.OneBounds.{one_list_of_bounds_lem}
+use Rattle.lay_table_sizes.proofs.Cited.{one_list_of_bounds_lem}
 use Rattle.lay_table_sizes.specs.ColumnBounds.{bounds_in}
 use Rattle.lay_table_sizes.proofs.bound_laws.one_list_of_table_bounds.Goals as goal
 

@@ -1,4 +1,4 @@
-use Rattle.lay_sizes.proofs.SizesFit.{edge_is_inset}
+use Rattle.lay_table_sizes.proofs.Cited.{edge_is_inset}
 use Rattle.lay_table_sizes.proofs.cell_boxes.cell_insets.Goals as goal
 
 pub returns-clause-top : goal.returns-clause-top

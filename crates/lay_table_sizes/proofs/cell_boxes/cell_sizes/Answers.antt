@@ -1,4 +1,4 @@
-use Rattle.lay_sizes.proofs.SizesFit.{height_is_used, zero_is_size}
+use Rattle.lay_table_sizes.proofs.Cited.{height_is_used, zero_is_size}
 use Rattle.lay_table_sizes.proofs.SizeSteps.{content_is_used, zero_is_used}
 use Rattle.lay_table_sizes.proofs.cell_boxes.cell_sizes.Goals as goal
 

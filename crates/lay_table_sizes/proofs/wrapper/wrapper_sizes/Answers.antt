@@ -1,4 +1,4 @@
-use Rattle.lay_sizes.proofs.SizesFit.{vertical_margin_is_used, zero_is_size}
+use Rattle.lay_table_sizes.proofs.Cited.{vertical_margin_is_used, zero_is_size}
 use Rattle.lay_table_sizes.proofs.SizeSteps.{widths_fit, zero_is_inset}
 use Rattle.lay_table_sizes.proofs.wrapper.wrapper_sizes.Goals as goal
 

@@ -3,7 +3,7 @@ use Rattle.std.specs.BTreeMap.{get}
 use Rattle.std.specs.Ordering.{nat_cmp}
 use Rattle.lay_box_tree.specs.InlineParts.{id_at}
 use Rattle.lay_box_tree.specs.LatestParts.{IsLatest}
-use Rattle.lay_box_tree.proofs.PartEnds.{no-part, noted, one-more}
+use Rattle.lay_abspos.proofs.Cited.{no-part, noted, one-more}
 use Rattle.lay_abspos.proofs.RelativeLemmas.NextParts.{first-noted, further-noted, none-noted}
 use Rattle.lay_abspos.proofs.relative.next_place.note_part.Goals as goal
 

@@ -3,8 +3,7 @@ use Rattle.lay_box_tree.specs.ContextBoxes.{AreContextBoxes}
 use Rattle.lay_doc.specs.declared.node.Node.{Node}
 use Rattle.lay_boxgen.specs.Listing.{boxes_of}
 use Rattle.lay_contexts.specs.ContextTree.{boxes_of_place}
-use Rattle.lay_contexts.proofs.ListedSteps.{context_within}
-use Rattle.lay_contexts.proofs.SpotOrder.{context_boxes}
+use Rattle.lay_after_edits.proofs.Cited.{context_boxes, context_within}
 use Rattle.lay_after_edits.proofs.ContextsLemmas.ElementPlaces.{made-boxes, read-at}
 use Rattle.lay_after_edits.proofs.contexts.building.boxes_after.Goals as goal
 

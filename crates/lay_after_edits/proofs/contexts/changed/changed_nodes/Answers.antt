@@ -1,9 +1,8 @@
 use Rattle.std.proofs.Common.{◌∙◌, arith, subst, sym, refl, Option, IfSome, ℕ}
 use Rattle.std.proofs.lemmas.List.{take_all}
 use Rattle.std.proofs.lemmas.List.Elements.{All-more, All-same}
-use Rattle.lay_style.proofs.Places.{place_within}
+use Rattle.lay_after_edits.proofs.Cited.{length-ids, place_within}
 use Rattle.lay_doc.specs.Document.{ids_of}
-use Rattle.lay_doc.proofs.NodeColumns.{length-ids}
 use Rattle.lay_after_edits.specs.Contexts.Changed.{ChangesAt}
 use Rattle.lay_after_edits.proofs.ContextsLemmas.StayingNodes.{IsFlagged, all-stay, flagged-still}
 use Rattle.lay_after_edits.proofs.contexts.changed.changed_nodes.Goals as goal

@@ -1,6 +1,6 @@
 use Rattle.std.proofs.Common.{◌≡◌, ◌∙◌, List, ℕ, ap, arith, length, subst, sym}
 use Rattle.lay_style.specs.declared.style.Style.{Style}
-use Rattle.lay_doc.proofs.NodeColumns.{length-parents}
+use Rattle.lay_after_edits.proofs.Cited.{length-parents}
 use Rattle.lay_contexts.specs.ListedContexts.{AreContextPlaces}
 use Rattle.lay_after_edits.specs.Contexts.Reach.{AreAlike, AreReachFlags, IsReach}
 use Rattle.lay_after_edits.specs.Contexts.Rebuilt.{AreRebuilt}

@@ -1,5 +1,5 @@
 use Rattle.std.proofs.Common.{arith}
-use Rattle.lay_doc.proofs.NodeColumns.{length-parents}
+use Rattle.lay_after_edits.proofs.Cited.{length-parents}
 use Rattle.lay_after_edits.proofs.contexts.near.near_above.Goals as goal
 
 pub bounds-near-parent_place : goal.bounds-near-parent_place

@@ -1,5 +1,5 @@
 use Rattle.std.proofs.Common.{rules, ◌≡◌, ◌∙◌, ℕ, true, false, is_some, slice_index, arith, subst, sym}
-use Rattle.lay_doc.proofs.NodeColumns.{length-parents}
+use Rattle.lay_after_edits.proofs.Cited.{length-parents}
 use Rattle.lay_contexts.specs.ContextTree.{IsAround}
 use Rattle.lay_after_edits.proofs.ContextsLemmas.Climbing.{above-root, answered, on-outward, unanswered}
 use Rattle.lay_after_edits.proofs.contexts.reach.number_around.Goals as goal

@@ -1,5 +1,5 @@
 use Rattle.std.proofs.Common.{◌≡◌, ◌++◌, ◌∷◌, []}
-use Rattle.lay_contexts.proofs.ListedSteps.{not_true}
+use Rattle.lay_after_edits.proofs.Cited.{not_true}
 use Rattle.lay_after_edits.proofs.ContextsLemmas.BuiltSteps.{one-reach-flag}
 use Rattle.lay_after_edits.proofs.contexts.reach.reached_flags.Goals as goal
 

@@ -1,8 +1,7 @@
 use Rattle.std.proofs.Common.{rules, ◌≡◌, ◌∙◌, ◌<◌, ◌++◌, ◌∷◌, [], ap, arith, length}
 use Rattle.lay_style.specs.ComputedStyle.{computed_style, declarations_at, parent_style, style_at}
 use Rattle.lay_doc.specs.Document.{declarations_of, parents_of}
-use Rattle.lay_doc.proofs.NodeColumns.{length-parents}
-use Rattle.lay_inherit.proofs.StyleSteps.{one_more}
+use Rattle.lay_after_edits.proofs.Cited.{length-parents, one_more}
 use Rattle.lay_after_edits.proofs.contexts.restyled.push_styled.Goals as goal
 
 pub returns-clause-styles : goal.returns-clause-styles

@@ -2,9 +2,8 @@ use Rattle.std.proofs.Common.{◌≡◌, ◌<◌, ◌+◌, ◌++◌, ◌∷◌, 
 use Rattle.lay_style.specs.declared.style.Style.{Style}
 use Rattle.lay_style.specs.ComputedStyle.{style_at}
 use Rattle.lay_doc.specs.Document.{declarations_of, parents_of}
-use Rattle.lay_doc.proofs.NodeColumns.{length-parents}
+use Rattle.lay_after_edits.proofs.Cited.{all_known, length-parents}
 use Rattle.lay_inherit.specs.StylesTo.{StylesTo}
-use Rattle.lay_inherit.proofs.StyleSteps.{all_known}
 use Rattle.lay_after_edits.specs.Contexts.Changed.{IsStyleOf, KeepsUnmade}
 use Rattle.lay_after_edits.specs.Contexts.Links.{is_made}
 use Rattle.lay_after_edits.proofs.ContextsLemmas.KeptStyles.{kept-style, one-kept}

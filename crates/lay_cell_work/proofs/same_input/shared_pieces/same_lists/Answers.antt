@@ -1,7 +1,7 @@
 use Rattle.std.proofs.Common.{◌∙◌, map, [], arith, sym, refl}
 use Rattle.std.proofs.lemmas.List.{length-map}
 use Rattle.lay_placements.specs.InnerPieces.{pieces_or_none}
-use Rattle.lay_same.proofs.Lists.{same_lists as equal_lists, one_more_at}
+use Rattle.lay_cell_work.proofs.Cited.{one_more_at, same_lists as equal_lists}
 use Rattle.lay_cell_work.proofs.same_input.shared_pieces.same_lists.Goals as goal
 
 pub loop-k-init : goal.loop-k-init

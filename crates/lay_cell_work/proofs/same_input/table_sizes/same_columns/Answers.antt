@@ -1,5 +1,5 @@
 use Rattle.std.proofs.Common.{arith, refl}
-use Rattle.lay_same.proofs.Lists.{same_lists, one_more_at}
+use Rattle.lay_cell_work.proofs.Cited.{one_more_at, same_lists}
 use Rattle.lay_cell_work.proofs.same_input.table_sizes.same_columns.Goals as goal
 
 pub loop-k-init : goal.loop-k-init

@@ -5,7 +5,7 @@ use Rattle.lay_doc.specs.Laws.{PutsNode}
 use Rattle.lay_doc.specs.declared.edit.Edit.{Edit}
 use Rattle.lay_history.specs.Edits.EditLists.{first}
 use Rattle.lay_cells.specs.Reads.{AllClean}
-use Rattle.lay_kept_cells.proofs.ListStepsLemmas.Viewports.{one_medium_of_all}
+use Rattle.lay_document_cells.proofs.Cited.{one_medium_of_all}
 use Rattle.lay_shape.specs.KeptShapes.KeptBoxes.{KeepCells}
 use Rattle.lay_kept_cells.specs.Settled.Since.{IsSince, Since}
 use Rattle.lay_document_cells.specs.Kept.{since_edit}

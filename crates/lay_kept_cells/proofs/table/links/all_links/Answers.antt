@@ -1,5 +1,5 @@
 use Rattle.lay_contexts.specs.FormattingContexts.{formatting_context_at}
-use Rattle.lay_context.proofs.GivenFacts.{one_more_of}
+use Rattle.lay_kept_cells.proofs.Cited.{one_more_of}
 use Rattle.lay_context.specs.DocumentLayout.{flow_number}
 use Rattle.lay_cell_work.specs.CellColumns.{link_to}
 use Rattle.lay_kept_cells.proofs.table.links.all_links.Goals as goal

@@ -1,4 +1,4 @@
-use Rattle.lay_context.proofs.GivenFacts.{inner_within}
+use Rattle.lay_kept_cells.proofs.Cited.{inner_within}
 use Rattle.lay_kept_cells.proofs.table.links.link_at.Goals as goal
 
 pub link_to-requires : goal.link_to-requires

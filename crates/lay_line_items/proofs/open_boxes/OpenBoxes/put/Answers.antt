@@ -1,6 +1,6 @@
 use Rattle.std.proofs.Common.{◌≡◌, ◌+◌, ◌∷◌, ◌++◌, [], true, drop, reverse, arith, sym, ap, ◌∙◌, subst, rules}
 use Rattle.lay_box_tree.specs.Roles.{role_of}
-use Rattle.lay_box_tree.proofs.BoxForests.{length-parents}
+use Rattle.lay_line_items.proofs.Cited.{length-parents}
 use Rattle.lay_space.specs.declared.item.Item.TheVariants as item
 use Rattle.lay_line_items.specs.InlineItems.{items_below}
 use Rattle.lay_line_items.specs.OpenBoxes.{Fall, all_items, innermost, is_inline}
