@@ -12,7 +12,7 @@ use Rattle.lay_widths.specs.Lengths.{edges_of, or_zero}
 use Rattle.lay_widths.specs.MinMax.{AtLeast, AtMost, IsBounded}
 use Rattle.lay_abspos.specs.declared.axis.Axis.{Axis}
 use Rattle.lay_abspos.specs.declared.axis.Offsets.{Offsets}
-use Rattle.lay_abspos.specs.AbsoluteAxis.{Cases, SolvesAxis, across, available_beside, first_share_of, fitting, width_in}
+use Rattle.lay_abspos.specs.AbsoluteAxis.{Cases, SolvesAxis, across, available_beside, first_share_of, fitting, axis_width_in}
 use Rattle.lay_abspos.specs.Laws.{SomeUsedAxis}
 
 abbrev right_following : BlockIn → (left margin_left width margin_right : ℤ) → Offsets
@@ -168,5 +168,5 @@ held_of used = record {
 
 pub some_used_axis_lem : SomeUsedAxis
 some_used_axis_lem a =
-    let found = some_bounded width_in (SolvesAxis a) (some_solution a) a.block.width a.block.min_width a.block.max_width in
+    let found = some_bounded axis_width_in (SolvesAxis a) (some_solution a) a.block.width a.block.min_width a.block.max_width in
     (held_of found.0, record { used = found.0; bounded = found.1; held = record { left = refl; margin_left = refl; width = refl; margin_right = refl; right = refl } })

@@ -8,7 +8,7 @@ use Rattle.lay_units.specs.declared.records.BlockIn.{BlockIn}
 use Rattle.lay_abspos.proofs.Cited.{bounded_same}
 use Rattle.lay_abspos.specs.declared.axis.Axis.{Axis}
 use Rattle.lay_abspos.specs.declared.axis.Offsets.{Offsets}
-use Rattle.lay_abspos.specs.AbsoluteAxis.{across, available_beside, Cases, GivenAll, SolvesAxis, IsHeld, width_in}
+use Rattle.lay_abspos.specs.AbsoluteAxis.{across, available_beside, Cases, GivenAll, SolvesAxis, AreHeldOffsets, axis_width_in}
 use Rattle.lay_abspos.specs.Laws.{OneUsedAxis}
 
 abbrev offsets_of : ℤ → ℤ → ℤ → ℤ → ℤ → Offsets
@@ -66,9 +66,9 @@ abbrev out_of : ℤ → ℤ → ℤ → ℤ → ℤ → AbsOut
 out_of left margin_left width margin_right right =
     record { left = record { 0 = left }; margin_left = record { 0 = margin_left }; width = record { 0 = width }; margin_right = record { 0 = margin_right }; right = record { 0 = right } }
 
-held_same : (s t : Offsets) (x y : AbsOut) → s ≡ t → IsHeld s x → IsHeld t y → x ≡ y
+held_same : (s t : Offsets) (x y : AbsOut) → s ≡ t → AreHeldOffsets s x → AreHeldOffsets t y → x ≡ y
 held_same s t x y same p q =
-    let h : IsHeld s y = subst (λ (u : Offsets). IsHeld u y) (sym same) q in
+    let h : AreHeldOffsets s y = subst (λ (u : Offsets). AreHeldOffsets u y) (sym same) q in
     let l = p.left ∙ sym h.left in
     let ml = p.margin_left ∙ sym h.margin_left in
     let w = p.width ∙ sym h.width in
@@ -79,4 +79,4 @@ held_same s t x y same p q =
 
 pub one_used_axis_lem : OneUsedAxis
 one_used_axis_lem a x y p q =
-    held_same p.used q.used x y (bounded_same width_in (SolvesAxis a) (axis_same a) a.block.width a.block.min_width a.block.max_width p.used q.used p.bounded q.bounded) p.held q.held
+    held_same p.used q.used x y (bounded_same axis_width_in (SolvesAxis a) (axis_same a) a.block.width a.block.min_width a.block.max_width p.used q.used p.bounded q.bounded) p.held q.held

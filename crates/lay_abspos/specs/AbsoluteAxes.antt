@@ -65,13 +65,13 @@ block_down containing natural style height = record {
 }
 
 -- the height of the content of a border box that is so high
-abbrev pub content_height : ContainingBlock → Style → Length → Length
-content_height containing style height =
+abbrev pub content_box_height : ContainingBlock → Style → Length → Length
+content_box_height containing style height =
     record { 0 = height.0 -ℤ (edges_of containing.width style).top.0 -ℤ (edges_of containing.width style).bottom.0 }
 
 -- a box without borders and paddings, between these margins
-abbrev pub wrapper_block : Length → Len → Len → Len → BlockIn
-wrapper_block containing before size after = record {
+abbrev pub block_without_edges : Length → Len → Len → Len → BlockIn
+block_without_edges containing before size after = record {
   containing_width = containing;
   margin_left = before;
   border_left = no_length;
@@ -87,8 +87,8 @@ wrapper_block containing before size after = record {
 -- the wrapper of a table, across and down
 abbrev pub wrapper_across : AbsoluteSetting → Style → Len → BlockIn
 wrapper_across s style width =
-    wrapper_block s.rect.w (used_margin s.rect.w style.margin.left) width (used_margin s.rect.w style.margin.right)
+    block_without_edges s.rect.w (used_margin s.rect.w style.margin.left) width (used_margin s.rect.w style.margin.right)
 
 abbrev pub wrapper_down : AbsoluteSetting → Style → Len → BlockIn
 wrapper_down s style height =
-    wrapper_block s.rect.h (used_margin s.rect.w style.margin.top) height (used_margin s.rect.w style.margin.bottom)
+    block_without_edges s.rect.h (used_margin s.rect.w style.margin.top) height (used_margin s.rect.w style.margin.bottom)

@@ -91,11 +91,11 @@ pub record SolvesAxis (a : Axis) (computed : Len) (used : Offsets) : Type 0 wher
   pub equation : across a.block used ≡ a.block.containing_width.0
   pub cases : Cases a a.left computed a.right used
 
-abbrev pub width_in : Offsets → ℤ
-width_in used = used.width
+abbrev pub axis_width_in : Offsets → ℤ
+axis_width_in used = used.width
 
 -- offsets, margins and size, held within the bounds of used lengths
-pub record IsHeld (used : Offsets) (out : AbsOut) : Type 0 where
+pub record AreHeldOffsets (used : Offsets) (out : AbsOut) : Type 0 where
   pub left : out.left.0 ≡ clamp_of used.left
   pub margin_left : out.margin_left.0 ≡ clamp_of used.margin_left
   pub width : out.width.0 ≡ clamp_size_of used.width
@@ -105,5 +105,5 @@ pub record IsHeld (used : Offsets) (out : AbsOut) : Type 0 where
 -- the used offsets, margins and size of an absolutely positioned box along one axis
 pub record IsUsedAxis (a : Axis) (out : AbsOut) : Type 0 where
   pub used : Offsets
-  pub bounded : IsBounded width_in (SolvesAxis a) a.block.width a.block.min_width a.block.max_width used
-  pub held : IsHeld used out
+  pub bounded : IsBounded axis_width_in (SolvesAxis a) a.block.width a.block.min_width a.block.max_width used
+  pub held : AreHeldOffsets used out

@@ -51,15 +51,15 @@ abbrev pub own_axis_down : AbsoluteSetting → BoxNode → Length → Axis
 own_axis_down s own height =
     axis_down s own.style (block_down (block_in s) (natural_in own.kind) own.style s.rect.h) (stands height)
 
-abbrev pub is_auto : Len → Bool
-is_auto auto = true
-is_auto (of v) = false
+abbrev pub is_auto_len : Len → Bool
+is_auto_len auto = true
+is_auto_len (of v) = false
 
 -- the height of this box is that between `top` and `bottom`, which no table takes (17.5.3)
 abbrev pub is_stretched : AbsoluteSetting → BoxNode → Bool
 is_stretched s own =
-    not (is_wrapper own.kind) && is_auto (height_of (block_in s) (natural_in own.kind) own.style)
-    && not (is_auto (used_margin s.rect.h own.style.offset.top)) && not (is_auto (used_margin s.rect.h own.style.offset.bottom))
+    not (is_wrapper own.kind) && is_auto_len (height_of (block_in s) (natural_in own.kind) own.style)
+    && not (is_auto_len (used_margin s.rect.h own.style.offset.top)) && not (is_auto_len (used_margin s.rect.h own.style.offset.bottom))
 
 -- the size that an axis gives
 pub record IsAxisSize (a : Axis) (size : Length) : Type 0 where

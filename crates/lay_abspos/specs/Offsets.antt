@@ -12,14 +12,14 @@ use Rattle.lay_abspos.specs.declared.axis.ContentSize.TheVariants.{Stands as sta
 use Rattle.lay_abspos.specs.AbsoluteAxis.{IsUsedAxis}
 use Rattle.lay_placements.specs.declared.corner.Corner.{Corner}
 use Rattle.lay_abspos.specs.declared.setting.AbsoluteSetting.{AbsoluteSetting}
-use Rattle.lay_abspos.specs.AbsoluteAxes.{axis_down, content_height, wrapper_down}
+use Rattle.lay_abspos.specs.AbsoluteAxes.{axis_down, content_box_height, wrapper_down}
 use Rattle.lay_abspos.specs.AbsoluteSizes.{border_start, own_axis_down}
 use Rattle.lay_abspos.specs.AbsoluteSettings.{block_in}
 
 -- the equation down, of a box whose border box is so high; `top` and `bottom` never stretch a table
 abbrev pub axis_of_height : (is_table : Bool) → AbsoluteSetting → BoxNode → Length → Axis
 axis_of_height true s own height = axis_down s own.style (wrapper_down s own.style (of height)) (stands no_length)
-axis_of_height false s own height = own_axis_down s own (content_height (block_in s) own.style height)
+axis_of_height false s own height = own_axis_down s own (content_box_height (block_in s) own.style height)
 
 -- so far from the left and the top edge of a containing block
 abbrev pub corner_inside : AbsoluteSetting → Length → Length → Corner

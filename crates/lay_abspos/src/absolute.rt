@@ -8,13 +8,13 @@ ghost use Rattle.lay_abspos.specs.AbsoluteAxis.{
   Cases,
   GivenAll,
   HasGivenMargins,
-  IsHeld,
+  AreHeldOffsets,
   IsUsedAxis,
   SolvesAxis,
   across,
   available_beside,
   first_share_of,
-  width_in,
+  axis_width_in,
 };
 
 use crate::axis::{Axis, ContentSize, Offsets};
@@ -43,7 +43,7 @@ pub fn solve_absolute(axis: &Axis) -> AbsOut
 }
 
 fn held(used: &Offsets) -> AbsOut
-    ensures { IsHeld used.now result }
+    ensures { AreHeldOffsets used.now result }
 {
     AbsOut {
         left: clamp(used.left),
@@ -66,7 +66,7 @@ impl WidthRules for AxisRules<'_> {
 
     ghost give = { λ r. SolvesAxis r.axis.now };
 
-    ghost width = { width_in };
+    ghost width = { axis_width_in };
 
     fn widths_for(&self, computed: Len) -> Offsets
         requires fit { AxisFits self.now.axis.now }
@@ -77,7 +77,7 @@ impl WidthRules for AxisRules<'_> {
     }
 
     fn width_in(&self, used: Offsets) -> i128
-        ensures { result ≡ width_in used }
+        ensures { result ≡ axis_width_in used }
     {
         used.width
     }

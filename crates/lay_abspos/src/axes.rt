@@ -5,8 +5,8 @@ ghost use Rattle.lay_units.specs.Units.{IsPosition};
 ghost use Rattle.lay_style.specs.LengthValues.{size_of};
 ghost use Rattle.lay_widths.specs.Lengths.{BlockFits, LenFits, LenIsSize};
 ghost use Rattle.lay_abspos.specs.AbsoluteFits.{AxisFits};
-ghost use Rattle.lay_abspos.specs.AbsoluteAxes.{axis_across, axis_down, block_across, block_down, content_height};
-ghost use Rattle.lay_abspos.specs.AbsoluteAxes.{natural_in, wrapper_across, wrapper_block, wrapper_down};
+ghost use Rattle.lay_abspos.specs.AbsoluteAxes.{axis_across, axis_down, block_across, block_down, content_box_height};
+ghost use Rattle.lay_abspos.specs.AbsoluteAxes.{natural_in, wrapper_across, block_without_edges, wrapper_down};
 ghost use Rattle.lay_abspos.specs.AbsoluteSettings.{SettingFits};
 
 use crate::lengths::inside;
@@ -124,7 +124,7 @@ pub(crate) fn block_down(
 /// The height of the content of a border box that is so high.
 pub(crate) fn content_height(containing: ContainingBlock, style: &Style, height: Unit) -> Unit
     requires { IsPosition height.0 }
-    ensures { result ≡ content_height containing style.now height }
+    ensures { result ≡ content_box_height containing style.now height }
 {
     let edges = edges_of(containing.width, style);
     inside(height, edges.top, edges.bottom)
@@ -168,7 +168,7 @@ fn wrapper_block(containing: Unit, before: Len, size: Len, after: Len) -> BlockI
     requires before { LenFits before }
     requires size { LenIsSize size }
     requires after { LenFits after }
-    ensures block { result ≡ wrapper_block containing before size after }
+    ensures block { result ≡ block_without_edges containing before size after }
     ensures fits { BlockFits result }
 {
     BlockIn {

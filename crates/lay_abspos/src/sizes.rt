@@ -7,7 +7,7 @@ ghost use Rattle.lay_abspos.specs.AbsoluteFits.{AxisFits};
 ghost use Rattle.lay_sizes.specs.BoxSizes.{natural_of};
 ghost use Rattle.lay_sizes.specs.SizeBounds.{SizeFits};
 ghost use Rattle.lay_abspos.specs.AbsoluteSizes.{IsAbsoluteSized, IsStretchedHeight, border_start};
-ghost use Rattle.lay_abspos.specs.AbsoluteSizes.{is_auto, is_stretched, own_axis_across, own_axis_down, widths_in};
+ghost use Rattle.lay_abspos.specs.AbsoluteSizes.{is_auto_len, is_stretched, own_axis_across, own_axis_down, widths_in};
 ghost use Rattle.lay_abspos.specs.OffsetBounds.{AbsOutFits, IsStart};
 ghost use Rattle.lay_abspos.specs.AbsoluteSettings.{SettingFits};
 
@@ -159,7 +159,7 @@ fn is_stretched(setting: &AbsoluteSetting, own: &BoxNode) -> bool
 }
 
 fn is_auto(length: Len) -> bool
-    ensures { result ≡ is_auto length }
+    ensures { result ≡ is_auto_len length }
 {
     matches!(length, Len::Auto)
 }

@@ -12,7 +12,7 @@ use Rattle.lay_audit.proofs.Cited.{decimal_lacks, lacks_append, laid_body}
 use Rattle.lay_context.specs.Laws.{OneSolution}
 use Rattle.lay_audit.specs.LegalReports.{Basis, IsLegalReport, IsWholeRun}
 use Rattle.lay_audit.specs.Lines.{behind_line, first_line}
-use Rattle.lay_audit.specs.Readings.{Ends, GoesOn, IsAtEnd, IsLaidNext, IsRead, IsTreeOf, MayEnd, ReadingValue}
+use Rattle.lay_audit.specs.Readings.{ReadingEnds, GoesOn, IsAtEnd, IsLaidNext, IsRead, IsTreeOf, MayEnd, ReadingValue}
 use Rattle.lay_audit.specs.WholeLines.{AreLines, LacksEnd}
 use Rattle.lay_audit.proofs.Entries.{begins_with, final_is_line, not_final}
 use Rattle.lay_audit.proofs.Fronts.{fronts_whole}
@@ -87,7 +87,7 @@ reads_final one basis text r rest is may at = record {
         (sym is.played.present.last_is ∙ may.whole) (last_tree basis text r [] is may)
 
     tells_by : (more : List ℕ) (legal : IsLegalReport basis ((is.front ++ final_line r.present.count) ++ more)) (later : List Entry) → legal.history ≡ is.history ++ later
-        → final_line r.present.count ++ more ≡ [] ++ report_behind legal.trees later (accepted legal.history) legal.laid → Ends r.tree.contexts r.tree.text more
+        → final_line r.present.count ++ more ≡ [] ++ report_behind legal.trees later (accepted legal.history) legal.laid → ReadingEnds r.tree.contexts r.tree.text more
     tells_by more legal [] goes behind =
         let same : legal.history ≡ is.history = goes ∙ append-nil is.history in
         let on : GoesOn is.history legal.history = record { later = []; history_is = goes } in

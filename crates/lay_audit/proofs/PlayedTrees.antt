@@ -18,7 +18,7 @@ use Rattle.lay_context.specs.Laws.{OneSolution}
 use Rattle.lay_context.specs.Solves.{Solves}
 use Rattle.lay_audit.specs.declared.step.Step.{Step}
 use Rattle.lay_audit.specs.declared.step.Step.TheVariants as step
-use Rattle.lay_audit.specs.LegalReports.{AreSolved, Basis, IsWholeRun}
+use Rattle.lay_audit.specs.LegalReports.{AreTreesSolved, Basis, IsWholeRun}
 use Rattle.lay_audit.specs.Presents.{IsStep, Moves, PresentValue}
 use Rattle.lay_audit.specs.Readings.{GoesOn, HaveTrees, IsLayoutOf, IsPlayed, IsTreeOf, LastTreeValue}
 use Rattle.lay_audit.proofs.NextEntries.{present_more}
@@ -95,7 +95,7 @@ past_of init h trees legal has k d lt =
     (let n = version_count trees in omega (arith, lt, n)))
 
 solved_more : (basis : Basis) (h : List Entry) (e : Entry) (trees : List PublishedTreeValue) → IsLegal basis.init h → HasTrees h trees
-    → AreSolved basis h trees → AreSolved basis (h ++ e ∷ []) trees
+    → AreTreesSolved basis h trees → AreTreesSolved basis (h ++ e ∷ []) trees
 solved_more basis h e trees legal has solved k d lt =
     subst (λ x. Solves x basis.face (slice_index_or trees k d).tree)
     (sym (doc_before basis.init h e (slice_index_or trees k d).version (past_of basis.init h trees legal has k d lt))) (solved k d lt)

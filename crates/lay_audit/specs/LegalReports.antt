@@ -22,8 +22,8 @@ pub record Basis : Type 0 where
   pub scripts : List (List Cmd)
 
 -- each tree is the layout of the document of its version
-abbrev pub AreSolved : Basis → List Entry → List PublishedTreeValue → Type 0
-AreSolved basis history trees = All (λ t. Solves (doc_at basis.init history t.version) basis.face t.tree) trees
+abbrev pub AreTreesSolved : Basis → List Entry → List PublishedTreeValue → Type 0
+AreTreesSolved basis history trees = All (λ t. Solves (doc_at basis.init history t.version) basis.face t.tree) trees
 
 -- a whole history of the editors, with a tree for each version that it publishes
 pub record IsWholeRun (basis : Basis) (history : List Entry) (trees : List PublishedTreeValue) : Type 0 where
@@ -31,7 +31,7 @@ pub record IsWholeRun (basis : Basis) (history : List Entry) (trees : List Publi
   pub answers : AnswersScripts history basis.scripts
   pub whole : IsWhole history
   pub has_trees : HasTrees history trees
-  pub solved : AreSolved basis history trees
+  pub solved : AreTreesSolved basis history trees
 
 -- the text is the report of such a history
 pub record IsLegalReport (basis : Basis) (text : List ℕ) : Type 0 where

@@ -15,7 +15,7 @@ use Rattle.lay_report.specs.Report.{entry_text, final_line, laid_line, run_repor
 use Rattle.lay_audit.specs.declared.next.Next.{Next}
 use Rattle.lay_audit.specs.declared.next.Next.TheVariants.{Entry as entry_read, Bad, NoEntry}
 use Rattle.lay_audit.specs.declared.step.Step.{Step}
-use Rattle.lay_audit.specs.LegalReports.{AreSolved, Basis, IsLegalReport, IsWholeRun}
+use Rattle.lay_audit.specs.LegalReports.{AreTreesSolved, Basis, IsLegalReport, IsWholeRun}
 use Rattle.lay_audit.specs.Lines.{first_line}
 use Rattle.lay_audit.specs.Presents.{AllAnswered, AreCommandsWithin, IsPresent, PresentValue}
 use Rattle.lay_audit.specs.NextLines.{StandsNot}
@@ -38,7 +38,7 @@ pub record ReadingValue : Type 0 where
 pub record HaveTrees (basis : Basis) (history : List Entry) : Type 0 where
   pub trees : List PublishedTreeValue
   pub has_trees : HasTrees history trees
-  pub solved : AreSolved basis history trees
+  pub solved : AreTreesSolved basis history trees
 
 -- it is of the layout of a document
 pub record IsLayoutOf (d : Document) (face : FaceValue) (t : LastTreeValue) : Type 0 where
@@ -97,7 +97,7 @@ pub record MayEnd (scripts : List (List Cmd)) (p : PresentValue) : Type 0 where
   pub whole : p.last ≡ Some p.count
 
 -- the history ended; behind what was read come these lines of the last tree, and the number of claims
-pub record Ends (contexts : ℕ) (pending more : List ℕ) : Type 0 where
+pub record ReadingEnds (contexts : ℕ) (pending more : List ℕ) : Type 0 where
   pub laid : ℕ
   pub enough : 3 * contexts ≤ laid
   pub within : laid < 2 ^ 64
@@ -109,7 +109,7 @@ pub record IsAtEnd (basis : Basis) (text : List ℕ) (lines : ℕ) (rest : List 
   pub are_lines : AreLines lines front
   pub few : 3 * contexts < 2 ^ 64
   pub writes : (laid : ℕ) → 3 * contexts ≤ laid → laid < 2 ^ 64 → IsLegalReport basis (front ++ (pending ++ laid_line laid))
-  pub tells : (more : List ℕ) → IsLegalReport basis (front ++ more) → Ends contexts pending more
+  pub tells : (more : List ℕ) → IsLegalReport basis (front ++ more) → ReadingEnds contexts pending more
 
 -- two texts are compared line by line: the first one is a front of the other, or else a line of it, behind so many that
 -- are the same, isn't the next one there

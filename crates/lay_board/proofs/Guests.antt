@@ -3,7 +3,7 @@ use Rattle.std.proofs.Common.{◌≡◌, ◌≤◌, ◌+◌, ◌^◌, ◌⊎◌,
 use Rattle.std.specs.Prelude.{⊤, IfOk}
 use Rattle.lay_units.specs.declared.memory.NoMemory.{NoMemory as Want}
 use Rattle.lay_cell_work.specs.Claims.{Claim}
-use Rattle.lay_document_cells.specs.Batches.{ClaimsSome as CellsClaimSome, fewer, full, none}
+use Rattle.lay_document_cells.specs.Batches.{CellsClaimSome, fewer, full, none}
 use Rattle.lay_document_cells.specs.State.{State as DocumentCells}
 use Rattle.lay_document_cells.specs.declared.idle.IdleKind.{IdleKind}
 use Rattle.lay_core.specs.Claims.{ClaimsSome, DrawsFew}

@@ -8,7 +8,7 @@ use Rattle.atomic_table.proofs.Lists.{at_set}
 use Rattle.lay_history.specs.declared.edits.history.Entry.{Entry}
 use Rattle.lay_board.specs.declared.views.View.{View}
 use Rattle.lay_board.specs.Entries.{Begins, by_editor, own_if}
-use Rattle.lay_board.specs.Rules.{At, all_calls, calls_of}
+use Rattle.lay_board.specs.Rules.{At, all_calls, view_calls}
 
 pub if_some : {A : Type 0} (P : A → Type 0) (o : Option A) → ((a : A) → o ≡ Some a → P a) → IfSome o P
 if_some P None f = tt
@@ -45,17 +45,17 @@ at_end (x ∷ xs) a b (suc j) e = ⊎_elim inl (λ h. inr (ap suc h.0, h.1)) (at
 pub more_read : {A : Type 0} (read : View → Option A) (views : List View) (w : View) (j : ℕ) (a : A) → At read (views ++ w ∷ []) j a → (At read views j a) ⊎ ((j ≡ length views) × (read w ≡ Some a))
 more_read read views w j a t = ⊎_elim (λ h. inl (t.0, h, t.2)) (λ (h : (j ≡ length views) × (w ≡ t.0)). inr (h.0, ap read h.1 ∙ t.2)) (at_end views w t.0 j t.1)
 
-pub calls_set : (views : List View) (id : ℕ) (v w : View) → get_elem? views id ≡ opt.some v → all_calls (set views id w) + calls_of v ≡ all_calls views + calls_of w
+pub calls_set : (views : List View) (id : ℕ) (v w : View) → get_elem? views id ≡ opt.some v → all_calls (set views id w) + view_calls v ≡ all_calls views + view_calls w
 calls_set [] id v w at = absurd (some-ne-none v (sym at))
-calls_set (x ∷ xs) zero v w at = let e = ap calls_of (some-injective x v at) in omega (arith, e)
+calls_set (x ∷ xs) zero v w at = let e = ap view_calls (some-injective x v at) in omega (arith, e)
 calls_set (x ∷ xs) (suc id) v w at = let h = calls_set xs id v w at in omega (arith, h)
 
-pub calls_at : (views : List View) (id : ℕ) (v : View) → get_elem? views id ≡ opt.some v → calls_of v ≤ all_calls views
+pub calls_at : (views : List View) (id : ℕ) (v : View) → get_elem? views id ≡ opt.some v → view_calls v ≤ all_calls views
 calls_at [] id v at = absurd (some-ne-none v (sym at))
-calls_at (x ∷ xs) zero v at = let e = ap calls_of (some-injective x v at) in omega (arith, e)
+calls_at (x ∷ xs) zero v at = let e = ap view_calls (some-injective x v at) in omega (arith, e)
 calls_at (x ∷ xs) (suc id) v at = let h = calls_at xs id v at in omega (arith, h)
 
-pub calls_more : (views : List View) (w : View) → all_calls (views ++ w ∷ []) ≡ all_calls views + calls_of w
+pub calls_more : (views : List View) (w : View) → all_calls (views ++ w ∷ []) ≡ all_calls views + view_calls w
 calls_more [] w = omega arith
 calls_more (x ∷ xs) w = let h = calls_more xs w in omega (arith, h)
 

@@ -17,7 +17,7 @@ use Rattle.lay_board.specs.Entries.{by_editor, Begins}
 use Rattle.lay_core.specs.State.{State}
 use Rattle.lay_board.specs.Cores.{Adds, IsQuiet, most_draws, origin_of}
 use Rattle.lay_board.specs.declared.views.Origin.{Origin}
-use Rattle.lay_board.specs.Rules.{At, pass_of, hold_of, maker_of, guest_of, met_of, calls_of, all_calls, Fits, IsCoreOf, IsKept, IsNoEditor, MeetsPass, MeetsMaker, MeetsGuest, MeetsSeat, TakesIt, TellsIt, GivesIt, LooksIt, ComesIt, LearnsIt, meeting, SeatView, blank, guest_view, held_by, maker_view, pass_view, maker_after, next_pass, grown, left_of_pass}
+use Rattle.lay_board.specs.Rules.{At, pass_of, hold_of, maker_of, guest_of, met_of, view_calls, all_calls, Fits, IsCoreOf, IsKept, IsNoEditor, MeetsPass, MeetsMaker, MeetsGuest, MeetsSeat, TakesIt, TellsIt, GivesIt, LooksIt, ComesIt, LearnsIt, meeting, SeatView, blank_view, guest_view, held_by, maker_view, pass_view, maker_after, next_pass, grown, left_of_pass}
 use Rattle.lay_board.proofs.Lists.{if_some, at_read, same_read, lost_read, here, more_read, calls_set, calls_at, calls_more, kept_read, some_within, begins_all, begins_none, begins_more, by_editor_append}
 
 quiet_draws : (h c : State) (room : ℕ) → IsQuiet h c → h.cells.draws ≤ most_draws room → room ≤ 8192 → c.cells.draws ≤ most_draws room
@@ -440,13 +440,13 @@ makes_it origin id i made n ns s k at =
       few = let e = calls_set s.views id v v' at in let l = calls_more vs (pass_view x) in let f = k.few in omega (arith, e, l, f, before, after, given);
     }
   where
-    before : calls_of (maker_view i made (n ∷ ns)) ≡ (n + sum ns) + 0
+    before : view_calls (maker_view i made (n ∷ ns)) ≡ (n + sum ns) + 0
     before = let h = sum_cons n ns in omega (arith, h)
 
-    after : calls_of (maker_view i (made + 1) ns) ≡ sum ns + 0
+    after : view_calls (maker_view i (made + 1) ns) ≡ sum ns + 0
     after = refl
 
-    given : calls_of (pass_view record { origin = i; number = made + 1; left = n; known = []; own = []; seen = 0 }) ≡ 0 + n
+    given : view_calls (pass_view record { origin = i; number = made + 1; left = n; known = []; own = []; seen = 0 }) ≡ 0 + n
     given = refl
 
 only : {A : Type 0} (read : View → Option A) (v : View) (j : ℕ) (a : A) → At read (v ∷ []) j a → (j ≡ 0) × (read v ≡ Some a)
@@ -479,21 +479,21 @@ begins origin calls core same empty enough at_most drawn =
     }
 
 -- who has the core meets a pass
-pub meets_it : (origin : Origin) (id : ℕ) (v : View) (h : State) (other : ℕ) (p : PassView) → v.hold ≡ Some h → Joins (IsKept origin) id v other (pass_view p) (meeting v (pass_view p)) blank
+pub meets_it : (origin : Origin) (id : ℕ) (v : View) (h : State) (other : ℕ) (p : PassView) → v.hold ≡ Some h → Joins (IsKept origin) id v other (pass_view p) (meeting v (pass_view p)) blank_view
 meets_it origin id v h other p is s k at apart there =
     let w = meeting v (pass_view p) in
     let vs : List View = set s.views id w in
     let old : get_elem? s.views other ≡ opt.some (pass_view p) =
     ⊎_elim (λ (t : (other ≡ id) × (w ≡ pass_view p)). absurd (apart t.0)) (λ (t : (other ≢ id) × (get_elem? s.views other ≡ opt.some (pass_view p))). t.1) (at_set s.views id other w (pass_view p) there) in
     let mine : At hold_of s.views id h = (v, at, is) in
-    let holders : (j : ℕ) (q : State) → At hold_of (set vs other blank) j q → At hold_of s.views j q =
-    λ j q t. same_read hold_of s.views id v w at refl j q (lost_read hold_of vs other blank refl j q t).1 in
-    let passers : (j : ℕ) (q : PassView) → At pass_of (set vs other blank) j q → At pass_of s.views j q =
-    λ j q t. same_read pass_of s.views id v w at refl j q (lost_read pass_of vs other blank refl j q t).1 in
-    let makers : (j : ℕ) (q : MakerView) → At maker_of (set vs other blank) j q → At maker_of s.views j q =
-    λ j q t. same_read maker_of s.views id v w at refl j q (lost_read maker_of vs other blank refl j q t).1 in
-    let guests : (j : ℕ) (q : Origin) → At guest_of (set vs other blank) j q → At guest_of s.views j q =
-    λ j q t. same_read guest_of s.views id v w at refl j q (lost_read guest_of vs other blank refl j q t).1 in
+    let holders : (j : ℕ) (q : State) → At hold_of (set vs other blank_view) j q → At hold_of s.views j q =
+    λ j q t. same_read hold_of s.views id v w at refl j q (lost_read hold_of vs other blank_view refl j q t).1 in
+    let passers : (j : ℕ) (q : PassView) → At pass_of (set vs other blank_view) j q → At pass_of s.views j q =
+    λ j q t. same_read pass_of s.views id v w at refl j q (lost_read pass_of vs other blank_view refl j q t).1 in
+    let makers : (j : ℕ) (q : MakerView) → At maker_of (set vs other blank_view) j q → At maker_of s.views j q =
+    λ j q t. same_read maker_of s.views id v w at refl j q (lost_read maker_of vs other blank_view refl j q t).1 in
+    let guests : (j : ℕ) (q : Origin) → At guest_of (set vs other blank_view) j q → At guest_of s.views j q =
+    λ j q t. same_read guest_of s.views id v w at refl j q (lost_read guest_of vs other blank_view refl j q t).1 in
     record {
       log = k.log;
       lock = k.lock;
@@ -513,17 +513,17 @@ meets_it origin id v h other p is s k at apart there =
           ⊎_elim
           (λ u. (subst (Fits origin k.made k.log) (same_Some p q u.1) (k.passes other p (pass_view p, old, refl)), (h, stays j u.0)))
           (λ (u : (j ≢ id) × At met_of s.views j q). let g = k.met j q u.1 in absurd (u.0 (k.one j id g.1.0 h g.1.1 mine)))
-          (at_read met_of s.views id j w q (lost_read met_of vs other blank refl j q t).1);
+          (at_read met_of s.views id j w q (lost_read met_of vs other blank_view refl j q t).1);
       unmade = k.unmade;
       some = k.some;
-      few = let a = calls_set s.views id v w at in let b = calls_set vs other (pass_view p) blank there in let f = k.few in omega (arith, a, b, f);
+      few = let a = calls_set s.views id v w at in let b = calls_set vs other (pass_view p) blank_view there in let f = k.few in omega (arith, a, b, f);
     }
   where
-    stays : (j : ℕ) → j ≡ id → At hold_of (set (set s.views id (meeting v (pass_view p))) other blank) j h
+    stays : (j : ℕ) → j ≡ id → At hold_of (set (set s.views id (meeting v (pass_view p))) other blank_view) j h
     stays j same = (
       meeting v (pass_view p),
-      ap (get_elem? (set (set s.views id (meeting v (pass_view p))) other blank)) same
-          ∙ set_else (set s.views id (meeting v (pass_view p))) other id blank (λ z. apart (sym z))
+      ap (get_elem? (set (set s.views id (meeting v (pass_view p))) other blank_view)) same
+          ∙ set_else (set s.views id (meeting v (pass_view p))) other id blank_view (λ z. apart (sym z))
           ∙ set_here s.views id (meeting v (pass_view p)) (some_within s.views id v at),
       is,
     )
@@ -574,8 +574,8 @@ learns_it origin slots id v c h is s k homes at _ =
 pub makes_as : (origin : Origin) (id : ℕ) (i : Origin) (made n : ℕ) (ns : List ℕ) (v : View) → v ≡ maker_view i made (n ∷ ns) → Splits (IsKept origin) id v (maker_after v) (next_pass v)
 makes_as origin id i made n ns v is = subst (λ (x : View). Splits (IsKept origin) id x (maker_after x) (next_pass x)) (sym is) (makes_it origin id i made n ns)
 
-pub meets_as : (origin : Origin) (id other : ℕ) (v w : View) (h : State) (p : PassView) → v.hold ≡ Some h → w ≡ pass_view p → Joins (IsKept origin) id v other w (meeting v w) blank
-meets_as origin id other v w h p is w_is = subst (λ (y : View). Joins (IsKept origin) id v other y (meeting v y) blank) (sym w_is) (meets_it origin id v h other p is)
+pub meets_as : (origin : Origin) (id other : ℕ) (v w : View) (h : State) (p : PassView) → v.hold ≡ Some h → w ≡ pass_view p → Joins (IsKept origin) id v other w (meeting v w) blank_view
+meets_as origin id other v w h p is w_is = subst (λ (y : View). Joins (IsKept origin) id v other y (meeting v y) blank_view) (sym w_is) (meets_it origin id v h other p is)
 
 pub learns_as : (origin : Origin) (slots id : ℕ) (me : SeatView) (v : View) (c : List (ℕ × Option State)) (h : State) → me ≡ (v, c) → v.hold ≡ Some h → Allows (IsKept origin) slots id me 0 (λ n. n) (LearnsIt (step slots 0 0 0 opt.none) me)
 learns_as origin slots id me v c h is hold = subst (λ (m : SeatView). Allows (IsKept origin) slots id m 0 (λ n. n) (LearnsIt (step slots 0 0 0 opt.none) m)) (sym is) (learns_it origin slots id v c h hold)

@@ -40,12 +40,12 @@ left_of_maker None = 0
 left_of_maker (Some m) = sum m.calls
 
 -- the calls that a seat may make or give
-abbrev pub calls_of : View → ℕ
-calls_of v = left_of_maker v.maker + left_of_pass v.pass
+abbrev pub view_calls : View → ℕ
+view_calls v = left_of_maker v.maker + left_of_pass v.pass
 
 abbrev pub all_calls : List View → ℕ
 all_calls [] = 0
-all_calls (v ∷ vs) = calls_of v + all_calls vs
+all_calls (v ∷ vs) = view_calls v + all_calls vs
 
 -- the history begins with what a pass knows, and has its own entries and no others of it
 pub record Fits (origin : Origin) (made : ℕ) (log : List Entry) (p : PassView) : Type 0 where
@@ -92,8 +92,8 @@ abbrev pub SeatView : Type 0
 SeatView = Me (Option State) View
 
 -- that of a seat that knows nothing
-abbrev pub blank : View
-blank = record { maker = None; pass = None; guest = None; hold = None; met = None }
+abbrev pub blank_view : View
+blank_view = record { maker = None; pass = None; guest = None; hold = None; met = None }
 
 abbrev pub guest_view : Origin → View
 guest_view origin = record { maker = None; pass = None; guest = Some origin; hold = None; met = None }

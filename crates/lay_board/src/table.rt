@@ -92,11 +92,11 @@ impl Split<View> for Makes {
 pub struct Meets;
 
 impl Join<View> for Meets {
-    ghost use Rattle.lay_board.specs.Rules.{blank, meeting};
+    ghost use Rattle.lay_board.specs.Rules.{blank_view, meeting};
 
     ghost both = { meeting };
 
-    ghost spent = { blank };
+    ghost spent = { blank_view };
 }
 
 /// Who has the core is told of the pass that it met.

@@ -8,7 +8,7 @@ use Rattle.lay_frag.specs.declared.frag.Frag.{Frag}
 use Rattle.lay_frag.specs.declared.frag.FragKind.{FragKind}
 use Rattle.lay_frag.specs.declared.frag.FragKind.TheVariants.{Box, Text}
 use Rattle.lay_frag.specs.Pieces.{AreInRange, Context, IsContextInRange, IsRectInRange, IsTreeInRange}
-use Rattle.lay_box_cases.specs.Small.{IsShort, IsShortRect}
+use Rattle.lay_box_cases.specs.Small.{IsShortLength, IsShortRect}
 
 abbrev piece : FragKind → ℕ → Rect → Frag
 piece kind node rect = record { kind = kind; node = record { 0 = node }; part = 0; rect = rect }
@@ -21,7 +21,7 @@ context own shift inner = record {
   pieces = piece Box 1 own ∷ piece Text 2 inner ∷ [];
 }
 
-short : (v : ℤ) → IsShort v → IsPosition v
+short : (v : ℤ) → IsShortLength v → IsPosition v
 short v is = let a = is.0 in let b = is.1 in (omega (arith, ints, a), omega (arith, ints, b))
 
 in_range : (r : Rect) → IsShortRect r → IsRectInRange r
@@ -32,7 +32,7 @@ two a b first second zero less = first
 two a b first second (suc zero) less = second
 two a b first second (suc (suc k)) less = absurd (omega (arith, less))
 
-moved_in_range : (own : Rect) (shift : Unit) (inner : Rect) → IsShortRect own → IsShort shift.0 → IsShortRect inner
+moved_in_range : (own : Rect) (shift : Unit) (inner : Rect) → IsShortRect own → IsShortLength shift.0 → IsShortRect inner
     → IsRectInRange (record { x = record { 0 = own.x.0 +ℤ inner.x.0 }; y = record { 0 = (own.y.0 +ℤ shift.0) +ℤ inner.y.0 }; w = inner.w; h = inner.h })
 moved_in_range own shift inner p s q =
     let ox = p.x in
@@ -46,7 +46,7 @@ moved_in_range own shift inner p s q =
       h = short _ q.h;
     }
 
-pub tree_in_range : (own : Rect) (shift : Unit) (inner : Rect) → IsShortRect own → IsShort shift.0 → IsShortRect inner
+pub tree_in_range : (own : Rect) (shift : Unit) (inner : Rect) → IsShortRect own → IsShortLength shift.0 → IsShortRect inner
     → IsTreeInRange (context own shift inner ∷ [])
 tree_in_range own shift inner p s q = record { contexts = each; few = omega arith }
   where

@@ -3,16 +3,16 @@ use Rattle.std.specs.Prelude.{ℕ, ◌+◌, ◌*◌, ◌/◌, ◌%◌, ◌==◌}
 use Rattle.lay_box_cases.specs.declared.float_draws.Drawn.{Drawn}
 
 -- the number after this one
-abbrev pub next : ℕ → ℕ
-next x = (x * 1103515245 + 12345) % 2147483648
+abbrev pub next_draw : ℕ → ℕ
+next_draw x = (x * 1103515245 + 12345) % 2147483648
 
-abbrev pub draw : ℕ → ℕ
-draw x = x / 65536
+abbrev pub drawn_number : ℕ → ℕ
+drawn_number x = x / 65536
 
 -- the float of the three draws after this number: a left one where the first is odd, 10 to 209 px wide and 1 to 60 px high
 abbrev pub drawn_after : ℕ → Drawn
 drawn_after x = record {
-  is_left = draw (next x) % 2 == 1;
-  width = draw (next (next x)) % 200 + 10;
-  height = draw (next (next (next x))) % 60 + 1;
+  is_left = drawn_number (next_draw x) % 2 == 1;
+  width = drawn_number (next_draw (next_draw x)) % 200 + 10;
+  height = drawn_number (next_draw (next_draw (next_draw x))) % 60 + 1;
 }

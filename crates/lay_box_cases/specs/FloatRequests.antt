@@ -5,8 +5,8 @@ use Rattle.lay_floats.specs.declared.requests.Clear.TheVariants.{None}
 use Rattle.lay_floats.specs.declared.requests.Side.TheVariants.{Left, Right}
 use Rattle.lay_box_cases.specs.declared.float_draws.Drawn.{Drawn}
 
-abbrev pub request_of : Drawn → FloatReq
-request_of f = record {
+abbrev pub drawn_request : Drawn → FloatReq
+drawn_request f = record {
   side = if f.is_left then Left else Right;
   width = record { 0 = pos (f.width * 64) };
   height = record { 0 = pos (f.height * 64) };

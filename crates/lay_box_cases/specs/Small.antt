@@ -38,11 +38,11 @@ pub record IsSmallNeed (rows : ℕ) (cell : RowCell) : Type 0 where
   pub baseline : MayBeSmall cell.baseline
 
 -- px of 16 bits, in units
-abbrev pub IsShort : ℤ → Type 0
-IsShort v = (neg_ℤ (pos 2097152) ≤ℤ v) × (v ≤ℤ pos 2097152)
+abbrev pub IsShortLength : ℤ → Type 0
+IsShortLength v = (neg_ℤ (pos 2097152) ≤ℤ v) × (v ≤ℤ pos 2097152)
 
 pub record IsShortRect (r : Rect) : Type 0 where
-  pub x : IsShort r.x.0
-  pub y : IsShort r.y.0
-  pub w : IsShort r.w.0
-  pub h : IsShort r.h.0
+  pub x : IsShortLength r.x.0
+  pub y : IsShortLength r.y.0
+  pub w : IsShortLength r.w.0
+  pub h : IsShortLength r.h.0

@@ -2,7 +2,7 @@
 
 ghost use Rattle.std.specs.Prelude.{◌≡◌, [], ◌∷◌, IfOk};
 ghost use Rattle.lay_frag.specs.Pieces.{IsTreeInRange};
-ghost use Rattle.lay_box_cases.specs.Small.{IsShort, IsShortRect};
+ghost use Rattle.lay_box_cases.specs.Small.{IsShortLength, IsShortRect};
 
 use anyhow::Result;
 use lay_case_reading::{Row, ample};
@@ -59,7 +59,7 @@ fn read(alloc: Global, cells: &mut Row<'_>) -> Result<Tree> {
 #[tactic(auto, using(crate::proofs::ShortTrees::tree_in_range))]
 fn tree(alloc: Global, own: Rect, shift: Unit, inner: Rect) -> Result<Tree>
     requires own { IsShortRect own }
-    requires shift { IsShort shift.0 }
+    requires shift { IsShortLength shift.0 }
     requires inner { IsShortRect inner }
 {
     let mut pieces = Vec::new(alloc);
@@ -98,7 +98,7 @@ fn rect(cells: &mut Row<'_>) -> Result<Rect>
 }
 
 fn px(v: i16) -> Unit
-    ensures { IsShort result.0 }
+    ensures { IsShortLength result.0 }
 {
     Unit(i64::from(v) * 64)
 }

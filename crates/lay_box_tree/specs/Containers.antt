@@ -4,12 +4,12 @@
 use Rattle.std.specs.Prelude.{ℕ, zero, ◌≡◌, ◌<◌, Bool, true, false, List, length, map, slice_index, slice_index_or}
 use Rattle.lay_doc.specs.Tree.{IsTree}
 use Rattle.lay_box_tree.specs.BoxColumns.{box_parents}
-use Rattle.lay_box_tree.specs.Kinds.{is_block_container}
+use Rattle.lay_box_tree.specs.Kinds.{is_block_container_kind}
 use Rattle.lay_box_tree.specs.declared.box_tree.BoxNode.{BoxNode}
 
 -- what counts, of each box: block containers, and the own box
 abbrev pub box_containers : List BoxNode → List Bool
-box_containers boxes = map (λ b. is_block_container b.kind) boxes
+box_containers boxes = map (λ b. is_block_container_kind b.kind) boxes
 
 abbrev pub counts : List BoxNode → ℕ → Bool
 counts boxes zero = true

@@ -6,14 +6,14 @@ use Rattle.lay_box_tree.specs.declared.box_tree.BoxKind.TheVariants.{Block, Inli
 
 -- 9.2.1, a block container "contains only block-level boxes or establishes an inline formatting context". So do the
 -- wrapper of a table, which is a block box, and that of an inline-table, an inline-block (17.4).
-abbrev pub is_block_container : BoxKind → Bool
-is_block_container Block = true
-is_block_container InlineBlock = true
-is_block_container (Cell colspan rowspan) = true
-is_block_container Caption = true
-is_block_container Wrapper = true
-is_block_container InlineWrapper = true
-is_block_container _ = false
+abbrev pub is_block_container_kind : BoxKind → Bool
+is_block_container_kind Block = true
+is_block_container_kind InlineBlock = true
+is_block_container_kind (Cell colspan rowspan) = true
+is_block_container_kind Caption = true
+is_block_container_kind Wrapper = true
+is_block_container_kind InlineWrapper = true
+is_block_container_kind _ = false
 
 -- the wrapper of a table or of an inline-table
 abbrev pub is_wrapper : BoxKind → Bool
@@ -25,10 +25,10 @@ abbrev pub is_inline : BoxKind → Bool
 is_inline Inline = true
 is_inline _ = false
 
-abbrev pub is_caption : BoxKind → Bool
-is_caption Caption = true
-is_caption _ = false
+abbrev pub is_caption_kind : BoxKind → Bool
+is_caption_kind Caption = true
+is_caption_kind _ = false
 
-abbrev pub is_cell : BoxKind → Bool
-is_cell (Cell colspan rowspan) = true
-is_cell _ = false
+abbrev pub is_cell_kind : BoxKind → Bool
+is_cell_kind (Cell colspan rowspan) = true
+is_cell_kind _ = false

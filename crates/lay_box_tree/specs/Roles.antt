@@ -80,17 +80,17 @@ is_inline_level role.Atomic = true
 is_inline_level _ = false
 
 -- Boxes in normal flow (9.4): in the context's formatting context, or in lines.
-abbrev pub is_in_flow : Role → Bool
-is_in_flow role.Block = true
-is_in_flow role.Solid = true
-is_in_flow r = is_inline_level r
+abbrev pub is_role_in_flow : Role → Bool
+is_role_in_flow role.Block = true
+is_role_in_flow role.Solid = true
+is_role_in_flow r = is_inline_level r
 
 -- what `clear` says for a box: on a table it is used on the table box in the wrapper (17.4), where nothing floats
-abbrev pub clear_of : BoxNode → Clear
-clear_of b = if is_wrapper b.kind then clear.None else b.style.clear
+abbrev pub clear_of_box : BoxNode → Clear
+clear_of_box b = if is_wrapper b.kind then clear.None else b.style.clear
 
 abbrev pub box_clears : List BoxNode → List Clear
-box_clears boxes = map clear_of boxes
+box_clears boxes = map clear_of_box boxes
 
 -- The sides that the box at k clears. 9.5.2, `clear`: "Applies to: block-level elements".
 abbrev pub clear_at : List BoxNode → ℕ → Clear

@@ -31,7 +31,7 @@ pub enum Role {
 }
 
 impl Role {
-    ghost use Rattle.lay_box_tree.specs.Roles.{is_float, is_block_level, is_inline_level, is_in_flow};
+    ghost use Rattle.lay_box_tree.specs.Roles.{is_float, is_block_level, is_inline_level, is_role_in_flow};
 
     pub fn is_float(self) -> bool
         ensures { result ≡ is_float self }
@@ -55,7 +55,7 @@ impl Role {
 
     /// Whether it is in normal flow (9.4).
     pub fn is_in_flow(self) -> bool
-        ensures { result ≡ is_in_flow self }
+        ensures { result ≡ is_role_in_flow self }
     {
         matches!(self, Role::Block | Role::Solid) || self.is_inline_level()
     }
@@ -90,7 +90,7 @@ fn float_role(side: Float, role: Role) -> Role
 }
 
 impl BoxNode {
-    ghost use Rattle.lay_box_tree.specs.Roles.{role_of, clear_of};
+    ghost use Rattle.lay_box_tree.specs.Roles.{role_of, clear_of_box};
 
     /// What the box is in the formatting context that it stands in, where it isn't the context's own box.
     pub fn role(&self) -> Role
@@ -105,7 +105,7 @@ impl BoxNode {
 
     /// What `clear` says for it, where it is block-level.
     fn clear(&self) -> Clear
-        ensures { result ≡ clear_of self.now }
+        ensures { result ≡ clear_of_box self.now }
     {
         if is_wrapper(&self.kind) {
             return Clear::None;

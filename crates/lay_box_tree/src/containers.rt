@@ -10,11 +10,11 @@ use lay_units::NoMemory;
 use std::alloc::Global;
 
 impl BoxNode {
-    ghost use Rattle.lay_box_tree.specs.Kinds.{is_block_container};
+    ghost use Rattle.lay_box_tree.specs.Kinds.{is_block_container_kind};
 
     /// Whether it holds blocks or lines (9.2.1).
     pub fn is_block_container(&self) -> bool
-        ensures { result ≡ is_block_container self.now.kind }
+        ensures { result ≡ is_block_container_kind self.now.kind }
     {
         matches!(
             self.kind,

@@ -1,7 +1,7 @@
 //! What the kind of a box says of it.
 
 ghost use Rattle.std.specs.Prelude.{◌≡◌};
-ghost use Rattle.lay_box_tree.specs.Kinds.{is_caption, is_cell, is_wrapper};
+ghost use Rattle.lay_box_tree.specs.Kinds.{is_caption_kind, is_cell_kind, is_wrapper};
 
 use crate::box_tree::BoxKind;
 
@@ -13,14 +13,14 @@ pub fn is_wrapper(kind: &BoxKind) -> bool
 }
 
 pub fn is_caption(kind: &BoxKind) -> bool
-    ensures { result ≡ is_caption kind.now }
+    ensures { result ≡ is_caption_kind kind.now }
 {
     matches!(kind, BoxKind::Caption)
 }
 
 /// Whether it is a cell of a table.
 pub fn is_cell(kind: &BoxKind) -> bool
-    ensures { result ≡ is_cell kind.now }
+    ensures { result ≡ is_cell_kind kind.now }
 {
     matches!(kind, BoxKind::Cell { .. })
 }

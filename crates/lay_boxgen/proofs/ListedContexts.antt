@@ -6,7 +6,7 @@ use Rattle.lay_doc.specs.Document.{Document, IsDocument, ids_of}
 use Rattle.lay_boxgen.proofs.Cited.{length-ids}
 use Rattle.lay_boxgen.specs.Boxes.{Tree, Trees, tree, no_trees, also, trees_of, facts_of}
 use Rattle.lay_boxgen.specs.Contexts.{IsContextAt, IsContextThere}
-use Rattle.lay_boxgen.specs.InnerBoxes.{AllBoxes, AllIn, AllOf, IsInnerContext, LeadsOn, IsBehind, BoxesLeadOn}
+use Rattle.lay_boxgen.specs.InnerBoxes.{AllBoxes, AllIn, AllOf, IsInnerContext, LeadsOn, IsPlaceBehind, BoxesLeadOn}
 use Rattle.lay_boxgen.specs.Listing.{box_node, listed, all_listed, listed_part, boxes_at, boxes_of}
 use Rattle.lay_boxgen.specs.Parts.{is_closed, put, all_put, put_list, nothing, whole, part}
 use Rattle.lay_box_tree.specs.declared.box_tree.BoxNode.{BoxNode}
@@ -70,7 +70,7 @@ module _ (d : Document) (styles : List Style) (id k : ℕ) (doc : IsDocument d) 
       ap (λ x. place_of x (ids_of d.nodes)) (ap (λ x. x.0) n ∙ sym c.node)
       ∙ place-found (ids_of d.nodes) f.place (subst (λ m. f.place < m) (sym (length-ids d.nodes)) c.within) (λ j low e. doc.ids j f.place low c.within e) in (
         subst (IsContextThere d.nodes styles) (sym found) c.context,
-        subst (λ o. IsBehind o (place_of b.node.0 (ids_of d.nodes))) (sym at) (subst (IsBehind (Some k)) (sym found) c.behind),
+        subst (λ o. IsPlaceBehind o (place_of b.node.0 (ids_of d.nodes))) (sym at) (subst (IsPlaceBehind (Some k)) (sym found) c.behind),
       )
 
   mutual

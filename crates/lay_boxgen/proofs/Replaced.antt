@@ -3,7 +3,7 @@ use Rattle.std.proofs.Common.{◌≡◌, Bool, true, false, List, [], ◌∷◌,
 use Rattle.std.proofs.lemmas.List.{append_assoc, append-nil}
 use Rattle.lay_boxgen.specs.Boxes.{Tree, facts_of}
 use Rattle.lay_boxgen.specs.Runs.{gathered, gathered_from, run_over, is_some, is_white_box}
-use Rattle.lay_boxgen.specs.RunLaws.{IsGap, IsRun, one, further, EndsRun, nothing_follows, other, behind_white, IsReplaced, none, kept, replaced, RunsAreReplaced}
+use Rattle.lay_boxgen.specs.RunLaws.{IsGap, IsFaultyRun, one, further, EndsRun, nothing_follows, other, behind_white, IsReplaced, none, kept, replaced, RunsAreReplaced}
 use Rattle.lay_boxgen.specs.declared.facts.Facts.{Facts}
 
 -- three lists and a box between
@@ -15,7 +15,7 @@ some-append [] t zs = refl
 some-append (x ∷ xs) t zs = refl
 
 module _ (fault : Facts → Bool) (close : List Tree → List Tree) where
-  some_run : (run : List Tree) → IsRun fault run → is_some run ≡ true
+  some_run : (run : List Tree) → IsFaultyRun fault run → is_some run ≡ true
   some_run run (one t h) = refl
   some_run run (further r gap t i g h) = some-append (r ++ gap) t []
 
@@ -38,7 +38,7 @@ module _ (fault : Facts → Bool) (close : List Tree → List Tree) where
   through_fault run gap t ts h = simp h refl
 
   -- a run is open behind it
-  through_run : (run ts : List Tree) → IsRun fault run → gathered fault close (run ++ ts) ≡ gathered_from fault close run [] ts
+  through_run : (run ts : List Tree) → IsFaultyRun fault run → gathered fault close (run ++ ts) ≡ gathered_from fault close run [] ts
   through_run run ts (one t h) = through_fault [] [] t ts h
   through_run run ts (further r gap t i g h) =
       ap (gathered fault close) (seam r gap t ts)
@@ -85,13 +85,13 @@ module _ (fault : Facts → Bool) (close : List Tree → List Tree) where
   abbrev Both : List Tree → Type 0
   Both ts =
       IsReplaced fault close ts (gathered fault close ts)
-      × ((run gap : List Tree) → IsRun fault run → IsGap fault gap → IsReplaced fault close (run ++ (gap ++ ts)) (gathered_from fault close run gap ts))
+      × ((run gap : List Tree) → IsFaultyRun fault run → IsGap fault gap → IsReplaced fault close (run ++ (gap ++ ts)) (gathered_from fault close run gap ts))
 
   closed_by : (t : Tree) (ts : List Tree) → Both ts → (b : Bool) → fault (facts_of t) ≡ b → IsReplaced fault close (t ∷ ts) (gathered fault close (t ∷ ts))
   closed_by t ts ih true h = subst (IsReplaced fault close (t ∷ ts)) (sym (through_fault [] [] t ts h)) (ih.1 (t ∷ []) [] (one t h) tt)
   closed_by t ts ih false h = subst (IsReplaced fault close (t ∷ ts)) (sym (stays t ts h)) (kept t ts (gathered fault close ts) h ih.0)
 
-  opened_by : (t : Tree) (ts : List Tree) → Both ts → (run gap : List Tree) → IsRun fault run → IsGap fault gap → (b w : Bool) → fault (facts_of t) ≡ b → is_white_box t ≡ w
+  opened_by : (t : Tree) (ts : List Tree) → Both ts → (run gap : List Tree) → IsFaultyRun fault run → IsGap fault gap → (b w : Bool) → fault (facts_of t) ≡ b → is_white_box t ≡ w
       → IsReplaced fault close (run ++ (gap ++ t ∷ ts)) (gathered_from fault close run gap (t ∷ ts))
   opened_by t ts ih run gap i g true w h v =
       subst (λ r. IsReplaced fault close r (gathered_from fault close run gap (t ∷ ts))) (seam run gap t ts)
@@ -107,7 +107,7 @@ module _ (fault : Facts → Bool) (close : List Tree → List Tree) where
       (replaced run (gap ++ t ∷ ts) (gap ++ t ∷ gathered fault close ts) i (gap_ends gap (t ∷ ts) g (other t ts h v))
       (gap_kept gap (t ∷ ts) (t ∷ gathered fault close ts) g (kept t ts (gathered fault close ts) h ih.0)))
 
-  at_end : (run gap : List Tree) → IsRun fault run → IsGap fault gap → IsReplaced fault close (run ++ (gap ++ [])) (gathered_from fault close run gap [])
+  at_end : (run gap : List Tree) → IsFaultyRun fault run → IsGap fault gap → IsReplaced fault close (run ++ (gap ++ [])) (gathered_from fault close run gap [])
   at_end run gap i g =
       subst (IsReplaced fault close (run ++ (gap ++ []))) (ap (λ r. close run ++ r) (append-nil gap) ∙ sym (over run gap (some_run run i)))
       (replaced run (gap ++ []) (gap ++ []) i (gap_ends gap [] g nothing_follows) (gap_kept gap [] [] g none))

@@ -7,12 +7,12 @@ use Rattle.std.proofs.lemmas.List.{take-append-drop}
 use Rattle.std.proofs.lemmas.List.Edits.{length-between}
 use Rattle.std.proofs.lemmas.Slice.{between_is}
 use Rattle.lay_doc.specs.Document.{parents_of}
-use Rattle.lay_boxgen.specs.CutTrees.{as_leaf, cut, cut_own, cut_tree_at}
+use Rattle.lay_boxgen.specs.CutTrees.{as_leaf, cut_tree, cut_own, cut_tree_at}
 use Rattle.lay_boxgen.specs.Parts.{own_tree}
 use Rattle.lay_boxgen.proofs.CutNodes.{tree-cut}
 use Rattle.lay_boxgen.specs.Boxes.{Tree}
 use Rattle.lay_boxgen.specs.NodeBoxes.{node_box}
-use Rattle.lay_boxgen.specs.NodeTrees.{as_child, tree_at, and_child, children_of, others_than_children, with_node, box_with, node_trees, first_tree}
+use Rattle.lay_boxgen.specs.NodeTrees.{as_child, tree_at, and_child, children_of, others_than_children, with_node_tree, box_with, node_trees, first_tree}
 use Rattle.lay_boxgen.specs.declared.node_trees.NodeTree.{NodeTree}
 
 -- none is there, or the first one's parent stands before this place
@@ -58,7 +58,7 @@ module _ (seen : Tree → Tree) (c : ℕ) where
   others-split k le [] ys h = all-behind k le ys h
   others-split k le (x ∷ xs) ys h = others_by x xs ys k (others-split k le xs ys h) (x.parent == k)
 
-  node-split : (k : ℕ) → c ≤ k → (n : Node) (s : Style) (xs ys : List NodeTree) → StartsBefore c ys → with_node seen k n s (xs ++ ys) ≡ with_node seen k n s xs ++ ys
+  node-split : (k : ℕ) → c ≤ k → (n : Node) (s : Style) (xs ys : List NodeTree) → StartsBefore c ys → with_node_tree seen k n s (xs ++ ys) ≡ with_node_tree seen k n s xs ++ ys
   node-split k le n s xs ys h =
       ap (λ t. record { parent = n.parent; tree = box_with (node_box k n s) t } ∷ others_than_children k (xs ++ ys)) (children-split k le xs ys h)
       ∙ ap (λ r. record { parent = n.parent; tree = box_with (node_box k n s) (children_of seen k xs) } ∷ r) (others-split k le xs ys h)
@@ -70,8 +70,8 @@ module _ (seen : Tree → Tree) (c : ℕ) where
   trees-split k le (x ∷ xs) ys [] ts e h = absurd (omega (arith, e))
   trees-split k le (x ∷ xs) ys (s ∷ ss) ts e h =
       let same : (k + 1) + length xs ≡ k + length (x ∷ xs) = omega arith in
-      ap (with_node seen k x s) (trees-split (k + 1) (omega (arith, le)) xs ys ss ts (omega (arith, e)) h)
-      ∙ (ap (λ m. with_node seen k x s (node_trees seen (k + 1) xs ss ++ node_trees seen m ys ts)) same
+      ap (with_node_tree seen k x s) (trees-split (k + 1) (omega (arith, le)) xs ys ss ts (omega (arith, e)) h)
+      ∙ (ap (λ m. with_node_tree seen k x s (node_trees seen (k + 1) xs ss ++ node_trees seen m ys ts)) same
       ∙ node-split k le x s (node_trees seen (k + 1) xs ss) (node_trees seen (k + length (x ∷ xs)) ys ts) (starts (k + length (x ∷ xs)) ys ts h))
 
   pub first-split : (xs ys : List Node) (ss ts : List Style) → length ss ≡ length xs → 0 < length xs → NodesStartBefore c ys
@@ -104,7 +104,7 @@ tree-between nodes styles c e less le same h =
     ∙ (ap (λ r. first_tree (node_trees as_child c r (between c e styles ++ drop e styles))) (sym ns)
     ∙ ap (λ r. first_tree (node_trees as_child c (drop c nodes) r)) (sym ss))
 
-pub own-cut : (o : Option Tree) → option_map own_tree (option_map cut o) ≡ option_map cut_own o
+pub own-cut : (o : Option Tree) → option_map own_tree (option_map cut_tree o) ≡ option_map cut_own o
 own-cut None = refl
 own-cut (Some t) = refl
 

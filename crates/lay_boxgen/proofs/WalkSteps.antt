@@ -16,7 +16,7 @@ use Rattle.lay_boxgen.specs.ContextWalk.{Rise, as_leaves, boxes_at_places, is_co
 use Rattle.lay_boxgen.specs.CutTrees.{as_leaf, cut_tree_at}
 use Rattle.lay_boxgen.specs.Listing.{listed_part}
 use Rattle.lay_boxgen.specs.NodeBoxes.{node_box}
-use Rattle.lay_boxgen.specs.NodeTrees.{and_child, box_with, children_of, first_tree, node_trees, others_than_children, tree_at, with_node}
+use Rattle.lay_boxgen.specs.NodeTrees.{and_child, box_with, children_of, first_tree, node_trees, others_than_children, tree_at, with_node_tree}
 use Rattle.lay_boxgen.specs.Parts.{own_tree, part}
 use Rattle.lay_boxgen.specs.declared.node_trees.NodeTree.{NodeTree}
 use Rattle.lay_boxgen.proofs.CutNodes.{tree-cut}
@@ -48,16 +48,16 @@ module _ (k : ℕ) (n : Node) (s : Style) (xs ys : List NodeTree) (alike : as_le
   same_children : children_of as_leaf k xs ≡ children_of as_leaf k ys
   same_children = children_leaf k xs ∙ ap (children_of same k) alike ∙ sym (children_leaf k ys)
 
-  same_first : first_tree (with_node as_leaf k n s xs) ≡ first_tree (with_node as_leaf k n s ys)
+  same_first : first_tree (with_node_tree as_leaf k n s xs) ≡ first_tree (with_node_tree as_leaf k n s ys)
   same_first = ap (box_with (node_box k n s)) same_children
 
   same_others : as_leaves (others_than_children k xs) ≡ as_leaves (others_than_children k ys)
   same_others = others_leaf k xs ∙ ap (others_than_children k) alike ∙ sym (others_leaf k ys)
 
-  same_leaves : as_leaves (with_node as_leaf k n s xs) ≡ as_leaves (with_node as_leaf k n s ys)
+  same_leaves : as_leaves (with_node_tree as_leaf k n s xs) ≡ as_leaves (with_node_tree as_leaf k n s ys)
   same_leaves =
       ap (λ (t : Option Tree). record { parent = n.parent; tree = option_map as_leaf t } ∷ as_leaves (others_than_children k xs)) same_first
-      ∙ ap (λ (r : List NodeTree). record { parent = n.parent; tree = option_map as_leaf (first_tree (with_node as_leaf k n s ys)) } ∷ r) same_others
+      ∙ ap (λ (r : List NodeTree). record { parent = n.parent; tree = option_map as_leaf (first_tree (with_node_tree as_leaf k n s ys)) } ∷ r) same_others
 
 -- the box of a context is no inline box, so that its tree is that of a context
 closed_by : (k : ℕ) (n : Node) (o : Option Facts) (cs : List Tree) → IsNodeBox k n o → IsTrue (is_marked o) → is_context_tree (box_with o cs) ≡ true
@@ -72,21 +72,21 @@ module _ (nodes : List Node) (styles : List Style) (n : ℕ) (node : Node) (styl
   box_there = ap (λ (o : Option Node). box_of_node n o (style_at styles n)) node_there ∙ ap (node_box n node) (sym styled)
 
   -- the node that is put there is a context
-  pub next_context : (xs ws : List NodeTree) → ws ≡ with_node as_leaf n node style xs → IsContextAt nodes styles n → is_context_tree (first_tree ws) ≡ true
+  pub next_context : (xs ws : List NodeTree) → ws ≡ with_node_tree as_leaf n node style xs → IsContextAt nodes styles n → is_context_tree (first_tree ws) ≡ true
   next_context xs ws put context =
       ap (λ (ts : List NodeTree). is_context_tree (first_tree ts)) put
       ∙ closed_by n node (node_box n node style) (children_of as_leaf n xs) (is-node_box n node style) (subst (λ (o : Option Facts). IsTrue (is_marked o)) box_there context.establishes)
 
 module _ (nodes : List Node) (styles : List Style) (n : ℕ) (node : Node) (style : Style) (is : node ≡ get_or nodes n node) (styled : style ≡ style_at styles n)
     (lt : n < length nodes) (count : length styles ≡ length nodes) where
-  next_trees : node_trees as_leaf n (drop n nodes) (drop n styles) ≡ with_node as_leaf n node style (node_trees as_leaf (n + 1) (drop (n + 1) nodes) (drop (n + 1) styles))
+  next_trees : node_trees as_leaf n (drop n nodes) (drop n styles) ≡ with_node_tree as_leaf n node style (node_trees as_leaf (n + 1) (drop (n + 1) nodes) (drop (n + 1) styles))
   next_trees =
       let q : suc n ≡ n + 1 = omega arith in
       let ns : drop n nodes ≡ node ∷ drop (n + 1) nodes = drop-cons nodes n node lt ∙ ap (λ (x : Node). x ∷ drop (suc n) nodes) (sym is) ∙ ap (λ (m : ℕ). node ∷ drop m nodes) q in
       let ss : drop n styles ≡ style ∷ drop (n + 1) styles = drop-cons styles n initial_style (omega (arith, lt, count)) ∙ ap (λ (x : Style). x ∷ drop (suc n) styles) (sym styled) ∙ ap (λ (m : ℕ). style ∷ drop m styles) q in
       ap (λ (xs : List Node). node_trees as_leaf n xs (drop n styles)) ns ∙ ap (node_trees as_leaf n (node ∷ drop (n + 1) nodes)) ss
 
-  module _ (xs ws : List NodeTree) (alike : as_leaves xs ≡ as_leaves (node_trees as_leaf (n + 1) (drop (n + 1) nodes) (drop (n + 1) styles))) (put : ws ≡ with_node as_leaf n node style xs) where
+  module _ (xs ws : List NodeTree) (alike : as_leaves xs ≡ as_leaves (node_trees as_leaf (n + 1) (drop (n + 1) nodes) (drop (n + 1) styles))) (put : ws ≡ with_node_tree as_leaf n node style xs) where
     pub next_leaves : as_leaves ws ≡ as_leaves (node_trees as_leaf n (drop n nodes) (drop n styles))
     next_leaves = ap as_leaves put ∙ same_leaves n node style xs (node_trees as_leaf (n + 1) (drop (n + 1) nodes) (drop (n + 1) styles)) alike ∙ ap as_leaves (sym next_trees)
 

@@ -5,7 +5,7 @@ use Rattle.lay_doc.specs.declared.node.Node.{Node}
 use Rattle.lay_boxgen.specs.Boxes.{Tree, Trees, tree, no_trees, also, trees_of}
 use Rattle.lay_boxgen.specs.Forms.{is_absolute, is_inline, is_in_flow, is_white}
 use Rattle.lay_boxgen.specs.Generation.{generated}
-use Rattle.lay_boxgen.specs.Laws.{inside, below, inner_boxes, PartsAreWhole, ContextIsOneBox, AnchorsHoldBoxes}
+use Rattle.lay_boxgen.specs.Laws.{inside, trees_below, inner_boxes, PartsAreWhole, ContextIsOneBox, AnchorsHoldBoxes}
 use Rattle.lay_boxgen.specs.NodeTrees.{as_own, anchor_facts, tree_at}
 use Rattle.lay_boxgen.specs.Parts.{put_list, nothing, generated_of}
 use Rattle.lay_boxgen.specs.declared.facts.Facts.{Facts}
@@ -18,7 +18,7 @@ whole_by : (nodes : List Node) (styles : List Style) (o : Option Tree) → IsSet
     → generated_of o ≡ put_list (inner_boxes nodes styles) (put_list nothing (generated_of o))
 whole_by nodes styles None s = refl
 whole_by nodes styles (Some (tree f us)) s =
-    let g = below nodes styles in
+    let g = trees_below nodes styles in
     let t = tree (as_own f) us in
     ap (λ r. generated (tree (as_own f) r)) (sym s.inner)
     ∙ (generates_inside g t ∙ sym (list_put-put (inner_boxes nodes styles) nothing (generated t)))

@@ -9,7 +9,7 @@
 use Rattle.std.specs.Prelude.{Bool, true, false, ◌&&◌, ◌||◌, not, List, [], ◌∷◌, ◌++◌, if◌then◌else◌, filter}
 use Rattle.std.specs.List.{list_any}
 use Rattle.lay_boxgen.specs.Boxes.{Tree, tree, trees_of, facts_of}
-use Rattle.lay_boxgen.specs.Forms.{is_block, is_inline, is_text, is_blank, is_in_flow}
+use Rattle.lay_boxgen.specs.Forms.{is_block, is_inline, is_text, is_blank_text, is_in_flow}
 use Rattle.lay_boxgen.specs.declared.facts.Facts.{Facts}
 
 abbrev pub is_block_box : Tree → Bool
@@ -17,7 +17,7 @@ is_block_box t = is_block (facts_of t)
 
 -- what parts no blocks: boxes out of flow, and white space that would be collapsed away
 abbrev pub is_unseen : Facts → Bool
-is_unseen f = not (is_in_flow f.flow) || is_blank f.form
+is_unseen f = not (is_in_flow f.flow) || is_blank_text f.form
 
 abbrev pub is_no_text_box : Tree → Bool
 is_no_text_box t = not (is_text (facts_of t).form)

@@ -63,5 +63,5 @@ pub record AreFlagsOf (P : ℕ → Type 0) (n : ℕ) (flags : List Bool) : Type 
   pub each : (k : ℕ) → k < n → IsTrue (slice_index_or flags k false) ↔ P k
 
 -- for each node whether it is a context
-abbrev pub AreContextFlags : List Node → List Style → List Bool → Type 0
-AreContextFlags nodes styles flags = AreFlagsOf (IsContextAt nodes styles) (length nodes) flags
+abbrev pub AreNodeContextFlags : List Node → List Style → List Bool → Type 0
+AreNodeContextFlags nodes styles flags = AreFlagsOf (IsContextAt nodes styles) (length nodes) flags

@@ -21,16 +21,16 @@ is_child_first k [] = false
 is_child_first k (n ∷ ns) = n.parent == k
 
 -- a tree with nothing inside the boxes of inner contexts that are below its own box
-abbrev pub cut : Tree → Tree
-cut (tree f children) = tree f (all_put nothing children)
+abbrev pub cut_tree : Tree → Tree
+cut_tree (tree f children) = tree f (all_put nothing children)
 
 abbrev pub cut_trees : List NodeTree → List NodeTree
 cut_trees [] = []
-cut_trees (n ∷ ns) = record { parent = n.parent; tree = option_map cut n.tree } ∷ cut_trees ns
+cut_trees (n ∷ ns) = record { parent = n.parent; tree = option_map cut_tree n.tree } ∷ cut_trees ns
 
 -- the tree of a context as its part has it
 abbrev pub cut_own : Tree → Tree
-cut_own t = own_tree (cut t)
+cut_own t = own_tree (cut_tree t)
 
 abbrev pub cut_tree_at : List Node → List Style → ℕ → Option Tree
 cut_tree_at nodes styles k = option_map cut_own (tree_at nodes styles k)

@@ -93,6 +93,6 @@ abbrev pub is_inline_display : Display → Bool
 is_inline_display display.Inline = true
 is_inline_display _ = false
 
-abbrev pub is_none : Display → Bool
-is_none display.None = true
-is_none _ = false
+abbrev pub is_display_none : Display → Bool
+is_display_none display.None = true
+is_display_none _ = false

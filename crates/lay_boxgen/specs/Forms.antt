@@ -88,9 +88,9 @@ is_white (Text Blank) = true
 is_white _ = false
 
 -- white space that would be collapsed away where it stands alone (9.2.2.1)
-abbrev pub is_blank : Form → Bool
-is_blank (Text Blank) = true
-is_blank _ = false
+abbrev pub is_blank_text : Form → Bool
+is_blank_text (Text Blank) = true
+is_blank_text _ = false
 
 -- inline-level boxes (9.2.2), where they are in flow
 abbrev pub is_inline_level : Form → Bool

@@ -41,14 +41,14 @@ abbrev pub InnerBoxesAreContexts : Type 0
 InnerBoxesAreContexts = (nodes : List Node) (styles : List Style) (k : ℕ)
     → GeneratesBox nodes styles k → AllOf (IsInnerContext nodes styles k) (whole nodes styles k)
 
-abbrev pub IsBehind : Option ℕ → Option ℕ → Type 0
-IsBehind (Some k) (Some j) = k < j
-IsBehind _ _ = ⊥
+abbrev pub IsPlaceBehind : Option ℕ → Option ℕ → Type 0
+IsPlaceBehind (Some k) (Some j) = k < j
+IsPlaceBehind _ _ = ⊥
 
 -- a box in the list of a context's boxes that is marked as inner is of a context behind that one
 abbrev pub LeadsOn : Document → List Style → ℕ → BoxNode → Type 0
 LeadsOn d styles id b = b.inner ≡ true
-    → IsContext d styles b.node.0 × IsBehind (place_of id (ids_of d.nodes)) (place_of b.node.0 (ids_of d.nodes))
+    → IsContext d styles b.node.0 × IsPlaceBehind (place_of id (ids_of d.nodes)) (place_of b.node.0 (ids_of d.nodes))
 
 abbrev pub BoxesLeadOn : Type 0
 BoxesLeadOn = (d : Document) (styles : List Style) (id : ℕ) → IsDocument d → IsContext d styles id

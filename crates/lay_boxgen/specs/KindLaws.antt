@@ -8,6 +8,6 @@ use Rattle.lay_boxgen.specs.declared.facts.Form.{Form}
 
 abbrev pub KindsSayForms : Type 0
 KindsSayForms = (text : List ℕ) (inner : Bool) (f : Form)
-    → (kinds.is_block_container (kind_of text f) ≡ forms.is_block_container f)
+    → (kinds.is_block_container_kind (kind_of text f) ≡ forms.is_block_container f)
     × (kinds.is_inline (kind_of text f) ≡ forms.is_inline f)
     × (roles.is_inline_level (roles.role_of_kind inner (kind_of text f)) ≡ forms.is_inline_level f)

@@ -49,12 +49,12 @@ alone (Some t) = also (own_tree t) no_trees
 
 -- what stands in the box with these facts before any rule: the box of its node in an anchor, and else the
 -- boxes of its node's children
-abbrev pub below : List Node → List Style → Facts → Trees
-below nodes styles f = if is_anchor f.form then alone (tree_at nodes styles f.place) else children_in (tree_at nodes styles f.place)
+abbrev pub trees_below : List Node → List Style → Facts → Trees
+trees_below nodes styles f = if is_anchor f.form then alone (tree_at nodes styles f.place) else children_in (tree_at nodes styles f.place)
 
 -- what is generated in the box of an inner context
 abbrev pub inner_boxes : List Node → List Style → Facts → Trees
-inner_boxes nodes styles f = inside f (below nodes styles f)
+inner_boxes nodes styles f = inside f (trees_below nodes styles f)
 
 -- The boxes of a node and all below it are the part of its context, with what is generated in the box of each
 -- inner context inside that. The two laws that follow say that these are the boxes of the inner contexts, so

@@ -14,13 +14,13 @@ use Rattle.lay_box_tree.specs.declared.box_tree.Flow.TheVariants.{InFlow}
 use Rattle.lay_boxgen.specs.declared.facts.Form.{Form}
 use Rattle.lay_boxgen.specs.declared.facts.Form.TheVariants.{Block, InlineBlock, Text, Replaced}
 use Rattle.lay_boxgen.specs.declared.facts.Form.TheVariants.{Wrapper, InlineWrapper, Caption, Cell}
-use Rattle.lay_boxgen.specs.Display.{flow_of, used_display_of, element_form, is_inline_display, is_none}
+use Rattle.lay_boxgen.specs.Display.{flow_of, used_display_of, element_form, is_inline_display, is_display_none}
 use Rattle.lay_boxgen.specs.Forms.{is_in_flow}
 use Rattle.lay_boxgen.specs.WhiteSpace.{text_form}
 
 -- the box of a replaced element of this used display
 abbrev pub replaced_form : Length → Length → Display → Option Form
-replaced_form w h d = if is_none d then None else Some (Replaced w h (is_inline_display d))
+replaced_form w h d = if is_display_none d then None else Some (Replaced w h (is_inline_display d))
 
 -- a text without characters generates no box
 abbrev pub form_of_text : Style → List ℕ → Option Form
@@ -39,9 +39,9 @@ abbrev pub node_flow : Kind → Style → Flow
 node_flow kind.Text s = InFlow
 node_flow _ s = flow_of s
 
-abbrev pub is_visible : Overflow → Bool
-is_visible Visible = true
-is_visible _ = false
+abbrev pub shows_overflow : Overflow → Bool
+shows_overflow Visible = true
+shows_overflow _ = false
 
 -- inline-blocks, table cells, captions, wrappers of tables, block boxes whose `overflow` isn't `visible`, and
 -- replaced elements
@@ -52,7 +52,7 @@ is_context_form Caption overflow = true
 is_context_form Wrapper overflow = true
 is_context_form InlineWrapper overflow = true
 is_context_form (Replaced w h inline) overflow = true
-is_context_form Block overflow = not (is_visible overflow)
+is_context_form Block overflow = not (shows_overflow overflow)
 is_context_form _ overflow = false
 
 -- 9.4.1: "Floats, absolutely positioned elements, block containers (such as inline-blocks, table-cells, and

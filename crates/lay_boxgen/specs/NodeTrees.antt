@@ -44,15 +44,15 @@ box_with None children = None
 box_with (Some f) children = Some (tree f (trees_of children))
 
 -- the node at k with its children, before the others
-abbrev pub with_node : (Tree → Tree) → ℕ → Node → Style → List NodeTree → List NodeTree
-with_node seen k n s after =
+abbrev pub with_node_tree : (Tree → Tree) → ℕ → Node → Style → List NodeTree → List NodeTree
+with_node_tree seen k n s after =
     record { parent = n.parent; tree = box_with (node_box k n s) (children_of seen k after) } ∷ others_than_children k after
 
 -- The trees of these nodes, which stand from the place k on: of each that has no parent among them, in order.
 abbrev pub node_trees : (Tree → Tree) → ℕ → List Node → List Style → List NodeTree
 node_trees seen k [] ss = []
 node_trees seen k (n ∷ ns) [] = []
-node_trees seen k (n ∷ ns) (s ∷ ss) = with_node seen k n s (node_trees seen (k + 1) ns ss)
+node_trees seen k (n ∷ ns) (s ∷ ss) = with_node_tree seen k n s (node_trees seen (k + 1) ns ss)
 
 abbrev pub first_tree : List NodeTree → Option Tree
 first_tree [] = None

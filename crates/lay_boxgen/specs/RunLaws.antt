@@ -11,10 +11,10 @@ IsGap fault [] = Unit {0}
 IsGap fault (t ∷ ts) = (fault (facts_of t) ≡ false) × (is_white_box t ≡ true) × IsGap fault ts
 
 -- consecutive faulty siblings: nothing or only white space stands between one and the next
-pub data IsRun (fault : Facts → Bool) : List Tree → Type 0 where
-  one : (t : Tree) → fault (facts_of t) ≡ true → IsRun fault (t ∷ [])
-  further : (run gap : List Tree) (t : Tree) → IsRun fault run → IsGap fault gap → fault (facts_of t) ≡ true
-      → IsRun fault (run ++ gap ++ t ∷ [])
+pub data IsFaultyRun (fault : Facts → Bool) : List Tree → Type 0 where
+  one : (t : Tree) → fault (facts_of t) ≡ true → IsFaultyRun fault (t ∷ [])
+  further : (run gap : List Tree) (t : Tree) → IsFaultyRun fault run → IsGap fault gap → fault (facts_of t) ≡ true
+      → IsFaultyRun fault (run ++ gap ++ t ∷ [])
 
 -- siblings that end a run before them: no faulty one follows at once or behind white space
 pub data EndsRun (fault : Facts → Bool) : List Tree → Type 0 where
@@ -28,7 +28,7 @@ pub data IsReplaced (fault : Facts → Bool) (close : List Tree → List Tree) :
   none : IsReplaced fault close [] []
   kept : (t : Tree) (ts us : List Tree) → fault (facts_of t) ≡ false → IsReplaced fault close ts us
       → IsReplaced fault close (t ∷ ts) (t ∷ us)
-  replaced : (run ts us : List Tree) → IsRun fault run → EndsRun fault ts → IsReplaced fault close ts us
+  replaced : (run ts us : List Tree) → IsFaultyRun fault run → EndsRun fault ts → IsReplaced fault close ts us
       → IsReplaced fault close (run ++ ts) (close run ++ us)
 
 abbrev pub RunsAreReplaced : Type 0

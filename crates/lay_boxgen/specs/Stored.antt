@@ -22,15 +22,15 @@ abbrev mutual
   all_marks no_trees rest = rest
   all_marks (also t ts) rest = marks t (all_marks ts rest)
 
-abbrev pub begun : Facts → List Trees → List Trees
-begun f (children ∷ (after ∷ more)) = also (tree f children) after ∷ more
-begun f (children ∷ []) = children ∷ []
-begun f [] = []
+abbrev pub box_begun : Facts → List Trees → List Trees
+box_begun f (children ∷ (after ∷ more)) = also (tree f children) after ∷ more
+box_begun f (children ∷ []) = children ∷ []
+box_begun f [] = []
 
-abbrev pub grown : List (Option Facts) → List Trees
-grown [] = no_trees ∷ []
-grown (None ∷ xs) = no_trees ∷ grown xs
-grown (Some f ∷ xs) = begun f (grown xs)
+abbrev pub trees_grown : List (Option Facts) → List Trees
+trees_grown [] = no_trees ∷ []
+trees_grown (None ∷ xs) = no_trees ∷ trees_grown xs
+trees_grown (Some f ∷ xs) = box_begun f (trees_grown xs)
 
 abbrev pub joined : Trees → Trees → Trees
 joined no_trees us = us
@@ -42,13 +42,13 @@ joined-none (also t ts) = ap (also t) (joined-none ts)
 
 mutual
   pub grown-marks : (t : Tree) (rest : List (Option Facts)) (s : Trees) (more : List Trees)
-      → grown rest ≡ s ∷ more → grown (marks t rest) ≡ also t s ∷ more
+      → trees_grown rest ≡ s ∷ more → trees_grown (marks t rest) ≡ also t s ∷ more
   grown-marks (tree f ts) rest s more h =
-      ap (begun f)
+      ap (box_begun f)
       (grown-all_marks ts (None ∷ rest) no_trees (s ∷ more) (ap (λ r. no_trees ∷ r) h) ∙ ap (λ k. k ∷ (s ∷ more)) (joined-none ts))
 
   pub grown-all_marks : (ts : Trees) (rest : List (Option Facts)) (s : Trees) (more : List Trees)
-      → grown rest ≡ s ∷ more → grown (all_marks ts rest) ≡ joined ts s ∷ more
+      → trees_grown rest ≡ s ∷ more → trees_grown (all_marks ts rest) ≡ joined ts s ∷ more
   grown-all_marks no_trees rest s more h = h
   grown-all_marks (also t ts) rest s more h = grown-marks t (all_marks ts rest) (joined ts s) more (grown-all_marks ts rest s more h)
 
@@ -60,7 +60,7 @@ abbrev pub stored : Tree → Facts × List (Option Facts)
 stored (tree f ts) = (f, all_marks ts [])
 
 abbrev pub restored : Facts × List (Option Facts) → Tree
-restored p = tree p.0 (first_grown (grown p.1))
+restored p = tree p.0 (first_grown (trees_grown p.1))
 
 pub restored-stored : (t : Tree) → restored (stored t) ≡ t
 restored-stored (tree f ts) = ap (tree f) (ap first_grown (grown-all_marks ts [] no_trees [] refl) ∙ joined-none ts)

@@ -7,28 +7,28 @@ use Rattle.lay_style.specs.declared.style_words.WhiteSpace.TheVariants.{Normal, 
 use Rattle.lay_boxgen.specs.declared.facts.TextForm.{TextForm}
 use Rattle.lay_boxgen.specs.declared.facts.TextForm.TheVariants.{Seen, White, Blank}
 
-abbrev pub is_linefeed : ℕ → Bool
-is_linefeed b = b == 10
+abbrev pub is_linefeed_byte : ℕ → Bool
+is_linefeed_byte b = b == 10
 
 abbrev pub is_carriage_return : ℕ → Bool
 is_carriage_return b = b == 13
 
 -- space, tab, linefeed and carriage return, as bytes of UTF-8
 abbrev pub is_white_byte : ℕ → Bool
-is_white_byte b = b == 32 || b == 9 || is_linefeed b || is_carriage_return b
+is_white_byte b = b == 32 || b == 9 || is_linefeed_byte b || is_carriage_return b
 
 -- Under `normal` and `nowrap` spaces, tabs and linefeeds collapse, and carriage returns where a linefeed
 -- takes them along; without one a carriage return is an ordinary character. Under `pre-line` a linefeed
 -- stays, and under `pre` and `pre-wrap` all.
-abbrev pub collapses : WhiteSpace → Bool → Bool → Bool
-collapses Normal has_linefeed has_return = has_linefeed || not has_return
-collapses Nowrap has_linefeed has_return = has_linefeed || not has_return
-collapses PreLine has_linefeed has_return = not has_linefeed && not has_return
-collapses Pre has_linefeed has_return = false
-collapses PreWrap has_linefeed has_return = false
+abbrev pub space_collapses : WhiteSpace → Bool → Bool → Bool
+space_collapses Normal has_linefeed has_return = has_linefeed || not has_return
+space_collapses Nowrap has_linefeed has_return = has_linefeed || not has_return
+space_collapses PreLine has_linefeed has_return = not has_linefeed && not has_return
+space_collapses Pre has_linefeed has_return = false
+space_collapses PreWrap has_linefeed has_return = false
 
 abbrev pub white_form : WhiteSpace → List ℕ → TextForm
-white_form mode text = if collapses mode (list_any is_linefeed text) (list_any is_carriage_return text) then Blank else White
+white_form mode text = if space_collapses mode (list_any is_linefeed_byte text) (list_any is_carriage_return text) then Blank else White
 
 abbrev pub text_form : WhiteSpace → List ℕ → TextForm
 text_form mode text = if list_all is_white_byte text then white_form mode text else Seen

@@ -3,7 +3,7 @@
 ghost use Rattle.std.specs.Prelude.{◌≡◌, ◌<◌, IfOk, length};
 ghost use Rattle.lay_doc.specs.Document.{parents_of};
 ghost use Rattle.lay_doc.specs.Tree.{IsTree};
-ghost use Rattle.lay_boxgen.specs.Contexts.{AreContextFlags};
+ghost use Rattle.lay_boxgen.specs.Contexts.{AreNodeContextFlags};
 ghost use Rattle.lay_boxgen.specs.GeneratedBoxes.{AreGenerated, IsGenerated};
 
 use crate::contexts::{box_at, is_marked, keeps};
@@ -17,7 +17,7 @@ use std::alloc::Global;
 /// each node.
 pub fn context_flags(alloc: Global, doc: &Doc, style: &Computed) -> Result<Vec<bool>, NoMemory>
     requires styles { length style.now ≡ length doc.now.nodes }
-    ensures { IfOk result (λ v. AreContextFlags doc.now.nodes style.now v.items) }
+    ensures { IfOk result (λ v. AreNodeContextFlags doc.now.nodes style.now v.items) }
 {
     let nodes = doc.nodes();
     let styles = style.as_slice();

@@ -3,7 +3,7 @@
 ghost use Rattle.std.specs.Prelude.{◌≡◌};
 ghost use Rattle.lay_boxgen.specs.Forms.{is_row_group, is_table, is_row, is_cell, is_caption, is_column, is_column_group};
 ghost use Rattle.lay_boxgen.specs.Forms.{is_proper_table_child, is_internal_table_box, is_tabular_container, is_table_part};
-ghost use Rattle.lay_boxgen.specs.Forms.{is_proper_table_descendant, is_inline, is_text, is_anchor, is_white, is_blank};
+ghost use Rattle.lay_boxgen.specs.Forms.{is_proper_table_descendant, is_inline, is_text, is_anchor, is_white, is_blank_text};
 ghost use Rattle.lay_boxgen.specs.Forms.{is_inline_level, is_block_container, is_in_flow, is_absolute, is_block};
 
 use crate::facts::{Facts, Form, TextForm};
@@ -128,7 +128,7 @@ pub fn is_white(form: Form) -> bool
 
 /// Whether it is white space that would be collapsed away.
 pub fn is_blank(form: Form) -> bool
-    ensures { result ≡ is_blank form }
+    ensures { result ≡ is_blank_text form }
 {
     matches!(form, Form::Text(TextForm::Blank))
 }

@@ -5,7 +5,8 @@ ghost use Rattle.lay_units.specs.Limits.{most_nodes};
 ghost use Rattle.lay_doc.specs.Document.{parents_of};
 ghost use Rattle.lay_boxgen.specs.Boxes.{tree};
 ghost use Rattle.lay_boxgen.specs.CutTrees.{as_leaf, cut_tree_at, is_child_first};
-ghost use Rattle.lay_boxgen.specs.NodeTrees.{anchor_facts, children_of, others_than_children, box_with, with_node, node_trees, first_tree};
+ghost use Rattle.lay_boxgen.specs.NodeTrees.{anchor_facts, children_of, others_than_children, box_with};
+ghost use Rattle.lay_boxgen.specs.NodeTrees.{with_node_tree, node_trees, first_tree};
 ghost use Rattle.lay_boxgen.specs.Parts.{is_closed, own_tree};
 
 use crate::facts::{Facts, Form};
@@ -111,7 +112,7 @@ pub fn put_node(
     style: &Style,
     stack: &mut Vec<NodeTree>,
 ) -> Result<(), NoMemory>
-    ensures { OnOk result (reverse stack.new.items ≡ with_node as_leaf place node.now style.now (reverse stack.old.items)) }
+    ensures { OnOk result (reverse stack.new.items ≡ with_node_tree as_leaf place node.now style.now (reverse stack.old.items)) }
 {
     let children = take_children(alloc, place, stack)?;
     stack.push(NodeTree {

@@ -2,7 +2,7 @@
 
 ghost use Rattle.std.specs.Prelude.{◌≡◌};
 ghost use Rattle.std.specs.List.{list_all, list_any};
-ghost use Rattle.lay_boxgen.specs.WhiteSpace.{is_white_byte, is_linefeed, is_carriage_return, collapses, white_form, text_form};
+ghost use Rattle.lay_boxgen.specs.WhiteSpace.{is_white_byte, is_linefeed_byte, is_carriage_return, space_collapses, white_form, text_form};
 
 use crate::facts::TextForm;
 use lay_style::WhiteSpace;
@@ -17,7 +17,7 @@ pub fn is_white(bytes: &[u8]) -> bool
 }
 
 fn has_linefeed(bytes: &[u8]) -> bool
-    ensures { result ≡ list_any is_linefeed bytes.now }
+    ensures { result ≡ list_any is_linefeed_byte bytes.now }
 {
     bytes.iter().any(|byte| *byte == b'\n')
 }
@@ -30,7 +30,7 @@ fn has_carriage_return(bytes: &[u8]) -> bool
 
 /// Whether white space with or without linefeeds and carriage returns is collapsed away.
 fn collapses(mode: WhiteSpace, has_linefeed: bool, has_return: bool) -> bool
-    ensures { result ≡ collapses mode has_linefeed has_return }
+    ensures { result ≡ space_collapses mode has_linefeed has_return }
 {
     match mode {
         WhiteSpace::Normal | WhiteSpace::Nowrap => has_linefeed || !has_return,

@@ -17,11 +17,11 @@ pub struct CellValue {
 
 impl Model for CellValue {
     ghost use Rattle.lay_cell_work.specs.CellValues.{CellValue as Plain};
-    ghost use Rattle.lay_cell_work.specs.ValueParts.{value_of};
+    ghost use Rattle.lay_cell_work.specs.ValueParts.{root_cell_value};
 
     ghost Value = { Plain };
 
-    ghost view = { λ v. value_of v.values };
+    ghost view = { λ v. root_cell_value v.values };
 }
 
 impl CellValue {

@@ -8,13 +8,13 @@ use Rattle.lay_words.specs.declared.form.Form.{Form}
 use Rattle.lay_words.specs.declared.form.Form.TheVariants as form
 use Rattle.lay_json.specs.declared.styled.check.Check.{Check}
 use Rattle.lay_json.specs.Styled.StyledChecks.{IsStyledCheck}
-use Rattle.lay_cli.specs.Answers.{IsAskedWell, IsRefusal, IsRefused, OfRun, Refuses, Reports}
+use Rattle.lay_cli.specs.Answers.{IsAskedWell, IsInputRefusal, IsRefused, OfRun, Refuses, Reports}
 use Rattle.lay_cli.specs.Checks.{IsCheckRefusal}
 use Rattle.lay_cli.specs.Endings.{Ends, SinkValue}
 use Rattle.lay_cli.specs.declared.status.Status.{Status}
 use Rattle.lay_cli.specs.declared.status.Status.TheVariants.{Ok as ok, Refused as refused, Usage as usage, ReadFault as read_fault, WriteFault as write_fault, NoMemory as no_memory}
 
-not_both : (bytes line : List ℕ) (run : Run) → IsStyledReading bytes (Ok run) → IsRefusal bytes line → ⊥
+not_both : (bytes line : List ℕ) (run : Run) → IsStyledReading bytes (Ok run) → IsInputRefusal bytes line → ⊥
 not_both bytes line run reading refusal =
     let e : Ok run ≡ Err refusal.fault = one_styled_reading_lem bytes (Ok run) (Err refusal.fault) reading refusal.reading in absurd cc
 
@@ -31,7 +31,7 @@ never_refused (form.Hit x y) bytes line well refusal = not_both bytes line well.
 never_refused form.Check bytes line well refusal = not_both_checked bytes line well.check well.spells refusal
 
 -- bytes that are refused have no report
-of_run : (bytes line : List ℕ) (P : Run → Type 0) → OfRun bytes P → IsRefusal bytes line → ⊥
+of_run : (bytes line : List ℕ) (P : Run → Type 0) → OfRun bytes P → IsInputRefusal bytes line → ⊥
 of_run bytes line P r refusal = not_both bytes line r.run r.spells refusal
 
 never_reported : (asked : Form) (bytes line text : List ℕ) (kept : Option State) → Reports asked (Some bytes) kept text → IsRefused asked bytes line → ⊥

@@ -14,7 +14,7 @@ use Rattle.lay_core.specs.Laws.{HasLastTree, LastTree}
 use Rattle.lay_core.specs.State.{State}
 use Rattle.lay_generator.specs.Generated.{generated}
 use Rattle.lay_generator.specs.LastDocuments.{last_document, list_count}
-use Rattle.lay_generator.specs.Laws.{ComesTo, GeneratedNodesStay, GeneratedRunsComeToOne, IsListOf}
+use Rattle.lay_generator.specs.Laws.{ResultsIn, GeneratedNodesStay, GeneratedRunsComeToOne, IsListOf}
 use Rattle.lay_generator.specs.Summary.{summary}
 use Rattle.lay_cli.specs.Answers.{IsDriven, IsSummaryOf}
 use Rattle.lay_cli.specs.Laws.{OneSummary, SummariesComeOfNumbers}
@@ -32,7 +32,7 @@ module _ (come : GeneratedRunsComeToOne) (stay : GeneratedNodesStay) (last : Las
   abbrev run : Run
   run = generated size seed
 
-  comes : ComesTo run (last_document run) s.history
+  comes : ResultsIn run (last_document run) s.history
   comes = come size seed s.history few (subst (λ d. IsLegal d s.history) driven.init driven.core.legal) driven.scripts
 
   began : s.document ≡ doc_after run.doc s.history

@@ -24,7 +24,7 @@ use Rattle.lay_generator.specs.LastDocuments.{list_count}
 use Rattle.lay_generator.specs.Summary.{summary}
 use Rattle.lay_words.specs.declared.form.Form.{Form}
 use Rattle.lay_words.specs.declared.form.Form.TheVariants as form
-use Rattle.lay_words.specs.Grammar.{form_of}
+use Rattle.lay_words.specs.Grammar.{form_of_words}
 use Rattle.lay_frag.specs.declared.frag.Frag.{Frag}
 use Rattle.lay_hit.specs.declared.point.Point.{Point}
 use Rattle.lay_hit.specs.HitLines.{hit_line}
@@ -39,18 +39,18 @@ use Rattle.lay_cli.specs.declared.run_input.Input.TheVariants.{Run as a_run, Ref
 
 -- the words have this form
 abbrev pub HaveForm : List (String Global) → Form → Type 0
-HaveForm words wanted = form_of (map string_bytes words) ≡ Some wanted
+HaveForm words wanted = form_of_words (map string_bytes words) ≡ Some wanted
 
 -- the words have none of the forms
 abbrev pub HaveNoForm : List (String Global) → Type 0
-HaveNoForm words = form_of (map string_bytes words) ≡ None
+HaveNoForm words = form_of_words (map string_bytes words) ≡ None
 
 -- the bytes spell this run, whose document their sheet has styled
 abbrev pub Spells : List ℕ → Run → Type 0
 Spells bytes run = IsStyledReading bytes (Ok run)
 
 -- why bytes are refused, and the line that says so
-pub record IsRefusal (bytes line : List ℕ) : Type 0 where
+pub record IsInputRefusal (bytes line : List ℕ) : Type 0 where
   pub fault : InputFault
   pub named : fault ≢ NoMemory
   pub reading : IsStyledReading bytes (Err fault)
@@ -133,10 +133,10 @@ Reports form.Check left kept text = (kept ≡ None) × IsVerdictReport left text
 
 -- the line says why the bytes are refused; `gen` reads none
 abbrev pub Refuses : Form → Option (List ℕ) → List ℕ → Type 0
-Refuses form.Scratch left line = IfSome left (λ bytes. IsRefusal bytes line)
-Refuses (form.Run workers) left line = IfSome left (λ bytes. IsRefusal bytes line)
+Refuses form.Scratch left line = IfSome left (λ bytes. IsInputRefusal bytes line)
+Refuses (form.Run workers) left line = IfSome left (λ bytes. IsInputRefusal bytes line)
 Refuses (form.Gen size seed workers) left line = ⊥
-Refuses (form.Hit x y) left line = IfSome left (λ bytes. IsRefusal bytes line)
+Refuses (form.Hit x y) left line = IfSome left (λ bytes. IsInputRefusal bytes line)
 Refuses form.Check left line = IfSome left (λ bytes. IsCheckRefusal bytes line)
 
 -- the bytes spell a run, for `check` beside a report; `gen` needs none
@@ -148,9 +148,9 @@ IsAskedWell (form.Hit x y) bytes = (run : Run) × Spells bytes run
 IsAskedWell form.Check bytes = SpellCheck bytes
 
 -- what was read of the bytes: the run that they spell, or why they are refused
-abbrev pub IsInput : List ℕ → Input → Type 0
-IsInput bytes (a_run run) = Spells bytes run
-IsInput bytes (a_refusal line) = IsRefusal bytes line
+abbrev pub IsRunOrRefusal : List ℕ → Input → Type 0
+IsRunOrRefusal bytes (a_run run) = Spells bytes run
+IsRunOrRefusal bytes (a_refusal line) = IsInputRefusal bytes line
 
 -- the line for a fault, which isn't that memory ran out
 abbrev pub IsFaultInput : InputFault → Input → Type 0
@@ -165,16 +165,16 @@ AreRead (form.Gen size seed workers) left now = now ≡ left
 AreRead (form.Hit x y) left now = IsDrained left now
 AreRead form.Check left now = IsDrained left now
 
-abbrev pub IsRun : Input → Type 0
-IsRun (a_run run) = Unit {0}
-IsRun (a_refusal line) = ⊥
+abbrev pub IsInputRun : Input → Type 0
+IsInputRun (a_run run) = Unit {0}
+IsInputRun (a_refusal line) = ⊥
 
 -- the line says why these bytes are refused; `gen` reads none
 abbrev pub IsRefused : Form → List ℕ → List ℕ → Type 0
-IsRefused form.Scratch bytes line = IsRefusal bytes line
-IsRefused (form.Run workers) bytes line = IsRefusal bytes line
+IsRefused form.Scratch bytes line = IsInputRefusal bytes line
+IsRefused (form.Run workers) bytes line = IsInputRefusal bytes line
 IsRefused (form.Gen size seed workers) bytes line = ⊥
-IsRefused (form.Hit x y) bytes line = IsRefusal bytes line
+IsRefused (form.Hit x y) bytes line = IsInputRefusal bytes line
 IsRefused form.Check bytes line = IsCheckRefusal bytes line
 
 -- words of this form read the source

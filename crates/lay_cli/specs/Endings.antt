@@ -12,13 +12,13 @@ pub record SinkValue : Type 0 where
   pub faults : ℕ
 
 -- a text that reports, whatever core was there, or a line that refuses
-abbrev pub IsAnswer : (Option State → List ℕ → Type 0) → (List ℕ → Type 0) → List ℕ → Type 0
-IsAnswer Reports Refuses text = ((core : Option State) × Reports core text) ⊎ Refuses text
+abbrev pub IsRunAnswer : (Option State → List ℕ → Type 0) → (List ℕ → Type 0) → List ℕ → Type 0
+IsRunAnswer Reports Refuses text = ((core : Option State) × Reports core text) ⊎ Refuses text
 
 -- the sink took a front of an answer
 pub record TookFrontOf (Reports : Option State → List ℕ → Type 0) (Refuses : List ℕ → Type 0) (s t : SinkValue) : Type 0 where
   pub text : List ℕ
-  pub answers : IsAnswer Reports Refuses text
+  pub answers : IsRunAnswer Reports Refuses text
   pub front : TookFront s.taken t.taken text
 
 -- the sink took the whole of a text that has this property

@@ -17,7 +17,7 @@ abbrev pub WasFirst : Option (List ℕ) → Option (List ℕ) → List ℕ → T
 WasFirst left now bytes = IfSome left (λ all. (rest : List ℕ) × (now ≡ Some rest) × (all ≡ bytes ++ rest))
 
 -- when each fault comes
-abbrev pub IsCause : ℕ → ℕ → Option (List ℕ) → SourceFault → Type 0
-IsCause old new left TooLong = IfSome left (λ all. 16777216 < length all)
-IsCause old new left Failed = Rose old new
-IsCause old new left NoMemory = Unit {0}
+abbrev pub CausesSourceFault : ℕ → ℕ → Option (List ℕ) → SourceFault → Type 0
+CausesSourceFault old new left TooLong = IfSome left (λ all. 16777216 < length all)
+CausesSourceFault old new left Failed = Rose old new
+CausesSourceFault old new left NoMemory = Unit {0}

@@ -8,17 +8,17 @@ use Rattle.lay_json.specs.declared.fault.InputFault.{InputFault}
 use Rattle.lay_json.specs.declared.fault.InputFault.TheVariants.{TooLong, BadJson, Missing, WrongKind, BadNumber, BadNode, BadDecl}
 use Rattle.lay_json.specs.declared.fault.InputFault.TheVariants.{TooManyEditors, TooManyCommands, BatchTooLong, TooManySelectors}
 use Rattle.lay_json.specs.declared.fault.InputFault.TheVariants.{NoMemory}
-use Rattle.lay_json.specs.Fields.{name_of}
+use Rattle.lay_json.specs.Fields.{field_name}
 use Rattle.lay_report.specs.Report.{fault_number}
 
-abbrev pub place_text : Spot → List ℕ
-place_text Run = codes "run"
-place_text (Node k) = codes "node " ++ decimal k
-place_text (Command editor index) = codes "command " ++ decimal editor ++ codes " " ++ decimal index
+abbrev pub spot_text : Spot → List ℕ
+spot_text Run = codes "run"
+spot_text (Node k) = codes "node " ++ decimal k
+spot_text (Command editor index) = codes "command " ++ decimal editor ++ codes " " ++ decimal index
 
 -- a fault of a field, by its word
 abbrev pub field_text : List ℕ → Field → Spot → List ℕ
-field_text word f place = word ++ name_of f ++ codes " " ++ place_text place
+field_text word f place = word ++ field_name f ++ codes " " ++ spot_text place
 
 -- of a declaration, whether its property is unknown, or its text is none of the property's values
 abbrev pub value_fault : Bool → List ℕ

@@ -1,10 +1,10 @@
 //! The call that the program makes.
 
 ghost use Rattle.std.specs.Prelude.{◌≡◌, ◌≢◌, ◌⊎◌, ℕ, List, codes, None, IfSome};
-ghost use Rattle.lay_outside.specs.Outside.{Rose, Took, TookFront, IsQuiet};
+ghost use Rattle.lay_outside.specs.Outside.{Rose, Took, TookFront, IsFaultless};
 ghost use Rattle.lay_words.specs.declared.form.Form.{Form};
 ghost use Rattle.lay_words.specs.declared.form.Form.TheVariants as form;
-ghost use Rattle.lay_words.specs.Grammar.{IsInRange};
+ghost use Rattle.lay_words.specs.Grammar.{IsFormInRange};
 ghost use Rattle.lay_cli.specs.Answers.{AreRead, HaveForm, HaveNoForm, IsAskedWell, IsReader, IsRefused, Refuses, Reports};
 ghost use Rattle.lay_cli.specs.Endings.{Ends, TookFrontOf, TookWhole};
 ghost use Rattle.lay_cli.specs.Input.{IsReadOut};
@@ -72,14 +72,14 @@ pub fn top<R: Threads + Wait + Sync, S: Source, K: Sink, G: Gate + Sync>(
 
     // Without faults of the streams, bytes that spell a run have its report and others their refusal, but for want of memory;
     // and a generated run has its summary.
-    ensures complete { (asked : Form) → HaveForm words.now asked → IsQuiet (S.faults source.old) (S.faults source.new)
-        → IsQuiet (K.faults sink.old) (K.faults sink.new)
+    ensures complete { (asked : Form) → HaveForm words.now asked → IsFaultless (S.faults source.old) (S.faults source.new)
+        → IsFaultless (K.faults sink.old) (K.faults sink.new)
         → IfSome (S.left source.old) (λ bytes. IsAskedWell asked bytes → (result ≡ Status.Ok) ⊎ (result ≡ Status.NoMemory)) }
     ensures gen_complete { (size seed workers : ℕ) → HaveForm words.now (form.Gen size seed workers)
-        → IsQuiet (K.faults sink.old) (K.faults sink.new)
+        → IsFaultless (K.faults sink.old) (K.faults sink.new)
         → (result ≡ Status.Ok) ⊎ (result ≡ Status.NoMemory) }
-    ensures refuses { (asked : Form) → HaveForm words.now asked → IsQuiet (S.faults source.old) (S.faults source.new)
-        → IsQuiet (K.faults sink.old) (K.faults sink.new)
+    ensures refuses { (asked : Form) → HaveForm words.now asked → IsFaultless (S.faults source.old) (S.faults source.new)
+        → IsFaultless (K.faults sink.old) (K.faults sink.new)
         → IfSome (S.left source.old)
         (λ bytes. (line : List ℕ) → IsRefused asked bytes line → (result ≡ Status.Refused) ⊎ (result ≡ Status.NoMemory)) }
 {
@@ -98,7 +98,7 @@ fn asked<R: Threads + Wait + Sync, S: Source, K: Sink, G: Gate + Sync>(
     sink: &mut K,
     kept: &mut Option<Core>,
 ) -> Status
-    requires range { IsInRange wanted }
+    requires range { IsFormInRange wanted }
     requires kept { kept.old ≡ None }
     ensures ends { Ends (Reports wanted (S.left source.old)) (Refuses wanted (S.left source.old)) result
         (record { taken = K.taken sink.old; faults = K.faults sink.old })

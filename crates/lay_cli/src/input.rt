@@ -1,7 +1,7 @@
 //! Reading a source to its end.
 
 ghost use Rattle.std.specs.Prelude.{◌≡◌, ◌<◌, ◌≤◌, ◌++◌, length, IfOk, OnOk, IfErr};
-ghost use Rattle.lay_cli.specs.Input.{WasAll, IsCause};
+ghost use Rattle.lay_cli.specs.Input.{WasAll, CausesSourceFault};
 ghost use Rattle.lay_outside.specs.Outside.{IsDrained};
 
 use lay_outside::Source;
@@ -26,7 +26,7 @@ pub(crate) fn read_all<S: Source>(alloc: Global, source: &mut S) -> Result<Vec<u
     ensures all { IfOk result (λ v. WasAll (S.left source.old) v.items) }
     ensures drained { OnOk result (IsDrained (S.left source.old) (S.left source.new)) }
     ensures within { IfOk result (λ v. length v.items ≤ 16777216) }
-    ensures cause { IfErr result (IsCause (S.faults source.old) (S.faults source.new) (S.left source.old)) }
+    ensures cause { IfErr result (CausesSourceFault (S.faults source.old) (S.faults source.new) (S.left source.old)) }
 {
     let mut bytes = Vec::new(alloc);
     let mut buffer = [0u8; 4096];

@@ -2,7 +2,7 @@
 
 ghost use Rattle.std.specs.Prelude.{◌≡◌, ◌++◌, IfOk, OnOk, codes, string_bytes};
 ghost use Rattle.std.specs.Fmt.{decimal};
-ghost use Rattle.lay_cli.specs.Refusals.{place_text, field_text, value_fault, fault_text, fault_line};
+ghost use Rattle.lay_cli.specs.Refusals.{spot_text, field_text, value_fault, fault_text, fault_line};
 ghost use Rattle.lay_report.specs.Report.{fault_number};
 
 use lay_doc::EditFault;
@@ -60,7 +60,7 @@ fn push_field(text: &mut String, word: &str, field: Field, place: Spot) -> Resul
 }
 
 fn push_place(text: &mut String, place: Spot) -> Result<(), NoMemory>
-    ensures { OnOk result (string_bytes text.new ≡ string_bytes text.old ++ place_text place) }
+    ensures { OnOk result (string_bytes text.new ≡ string_bytes text.old ++ spot_text place) }
 {
     match place {
         Spot::Run => push_word(text, "run"),

@@ -2,7 +2,7 @@
 
 ghost use Rattle.std.specs.Prelude.{◌≡◌, IfOk, IfErr, IfSome, OnOk};
 ghost use Rattle.lay_outside.specs.Outside.{Rose, IsDrained};
-ghost use Rattle.lay_cli.specs.Answers.{IsFaultInput, IsInput, IsRun};
+ghost use Rattle.lay_cli.specs.Answers.{IsFaultInput, IsRunOrRefusal, IsInputRun};
 ghost use Rattle.lay_cli.specs.Input.{IsReadOut};
 
 use crate::input::{SourceFault, read_all};
@@ -45,8 +45,8 @@ impl From<NoMemory> for Lack {
 
 /// What the bytes that a source has left spell.
 pub(crate) fn run_input<S: Source>(alloc: Global, source: &mut S) -> Result<Input, Lack>
-    ensures input { IfOk result (λ input. IfSome (S.left source.old) (λ bytes. IsInput bytes input)) }
-    ensures drained { IfOk result (λ input. IsRun input → IsDrained (S.left source.old) (S.left source.new)) }
+    ensures input { IfOk result (λ input. IfSome (S.left source.old) (λ bytes. IsRunOrRefusal bytes input)) }
+    ensures drained { IfOk result (λ input. IsInputRun input → IsDrained (S.left source.old) (S.left source.new)) }
     ensures read_out { OnOk result (IsReadOut (S.left source.old) (S.left source.new)) }
     ensures failed { IfErr result (λ e. e ≡ Lack.Failed → Rose (S.faults source.old) (S.faults source.new)) }
 {
@@ -60,7 +60,7 @@ pub(crate) fn run_input<S: Source>(alloc: Global, source: &mut S) -> Result<Inpu
 
 /// What these bytes spell.
 fn input_in(alloc: Global, bytes: &[u8]) -> Result<Input, NoMemory>
-    ensures { IfOk result (IsInput bytes.now) }
+    ensures { IfOk result (IsRunOrRefusal bytes.now) }
 {
     match read_styled(alloc, bytes) {
         Ok(run) => Ok(Input::Run(run)),

@@ -39,7 +39,7 @@ use Rattle.lay_context_sizes.specs.declared.setting.Setting.TheVariants.{Absolut
 use Rattle.lay_abspos.specs.OwnOffsets.{IsOwnOffset, IsOwnOffsetBy, StandInput}
 use Rattle.lay_abspos.specs.declared.own_place.OwnPlace.{OwnPlace}
 use Rattle.lay_abspos.specs.declared.own_place.OwnPlace.TheVariants as own_place
-use Rattle.lay_context.specs.AbsoluteOnPage.{IsAxisAcross, IsSolved, PageLayout, StandsIn, StandsInContainingBlock, anchor_on_page, block_on_page, content_on_page, rect_on_page, setting_on_page}
+use Rattle.lay_context.specs.AbsoluteOnPage.{IsAxisAcross, IsSolved, PageLayout, StandsInSetting, StandsInContainingBlock, anchor_on_page, block_on_page, content_on_page, rect_on_page, setting_on_page}
 use Rattle.lay_context.specs.declared.task.Phase.TheVariants.{Size, Place}
 use Rattle.lay_context.specs.declared.value.Value.TheVariants as value
 use Rattle.lay_context.specs.DocumentLayout.{widths_in}
@@ -211,7 +211,7 @@ module _ (medium : Medium) (p : PageLayout) (solved : IsSolved medium p) (i : �
       subst (λ (o : OwnPlace). IsOwnOffsetBy o at (placement_in p.workings.places i).own (placed_in p.workings.places i).offset) e stands
 
   -- so it stands in that setting, counted from where its offset is counted
-  stands_from : (o : Corner) → corner_at p.corners i ≡ beside o (placed_in p.workings.places i).offset → StandsIn p i (setting_from o setting)
+  stands_from : (o : Corner) → corner_at p.corners i ≡ beside o (placed_in p.workings.places i).offset → StandsInSetting p i (setting_from o setting)
   stands_from o at =
       let wide = across in
       let out : AbsOut = wide.out in
@@ -242,7 +242,7 @@ module _ (medium : Medium) (p : PageLayout) (are : AreFormattingContexts p.conte
       record {
         holder = None;
         is_holder = refl;
-        stands = subst (λ (t : AbsoluteSetting). StandsIn p 0 t) (sym s) (stands_from medium p solved 0 within absolute o at);
+        stands = subst (λ (t : AbsoluteSetting). StandsInSetting p 0 t) (sym s) (stands_from medium p solved 0 within absolute o at);
       }
     where
       beside_none : (c : Corner) → beside no_corner c ≡ c
@@ -266,7 +266,7 @@ module _ (medium : Medium) (p : PageLayout) (are : AreFormattingContexts p.conte
       record {
         holder = block.holder;
         is_holder = block.is;
-        stands = subst (λ (t : AbsoluteSetting). StandsIn p (suc i) t) (sym s) (stands_from medium p solved (suc i) within absolute o at);
+        stands = subst (λ (t : AbsoluteSetting). StandsInSetting p (suc i) t) (sym s) (stands_from medium p solved (suc i) within absolute o at);
       }
 
 pub absolute_boxes_stand_in_containing_blocks_lem : AbsoluteBoxesStandInContainingBlocks

@@ -16,7 +16,7 @@ use Rattle.lay_context.specs.declared.task.Task.{Task}
 use Rattle.lay_context.specs.declared.input.Input.{Input}
 use Rattle.lay_context_sizes.specs.ContextSizes.{not_sized}
 use Rattle.lay_context.specs.Laws.{OneSolution}
-use Rattle.lay_context.specs.Local.{IsLocal, IsTaskDone, input_of, value_of}
+use Rattle.lay_context.specs.Local.{IsLocal, IsTaskDone, input_of, value_of_task}
 use Rattle.lay_context.specs.Workings.{Workings}
 use Rattle.lay_context.specs.Medium.{Medium}
 use Rattle.lay_context.specs.Needs.{turn_of}
@@ -44,19 +44,19 @@ module _ (one : OneAnswer) (medium : Medium) (contexts : List FormattingContext)
   AllDone w = (task : Task) → task.context < length contexts → IsTaskDone medium contexts w task
 
   one_value : (v w : Workings) (task : Task) → task.context < length contexts → IsTaskDone medium contexts v task → IsTaskDone medium contexts w task
-      → input_of medium contexts v task ≡ input_of medium contexts w task → value_of v task ≡ value_of w task
+      → input_of medium contexts v task ≡ input_of medium contexts w task → value_of_task v task ≡ value_of_task w task
   one_value v w task lt a b same =
-      one_local_lem one (input_of medium contexts v task) (value_of v task) (value_of w task) a (subst (λ (i : Input). IsLocal i (value_of w task)) (sym same) b)
+      one_local_lem one (input_of medium contexts v task) (value_of_task v task) (value_of_task w task) a (subst (λ (i : Input). IsLocal i (value_of_task w task)) (sym same) b)
 
   -- values agree turn by turn, since what a task needs had its turn before
-  agree : (levels : List ℕ) → HasLevels contexts levels → (v w : Workings) → AllDone v → AllDone w → (m : ℕ) (task : Task) → task.context < length contexts → turn_of levels task < m → value_of v task ≡ value_of w task
+  agree : (levels : List ℕ) → HasLevels contexts levels → (v w : Workings) → AllDone v → AllDone w → (m : ℕ) (task : Task) → task.context < length contexts → turn_of levels task < m → value_of_task v task ≡ value_of_task w task
   agree levels has v w a b zero task there lt = absurd (omega (arith, lt))
   agree levels has v w a b (suc m) task there lt =
       one_value v w task there (a task there) (b task there) (input_again medium contexts v w task are there (λ needed needs.
       (let had = needs_come_first_lem contexts levels task needed are has there needs in
       agree levels has v w a b m needed had.within (omega (arith, had.earlier, lt)))))
 
-  agree_at : (levels : List ℕ) → HasLevels contexts levels → (v w : Workings) → AllDone v → AllDone w → (task : Task) → task.context < length contexts → value_of v task ≡ value_of w task
+  agree_at : (levels : List ℕ) → HasLevels contexts levels → (v w : Workings) → AllDone v → AllDone w → (task : Task) → task.context < length contexts → value_of_task v task ≡ value_of_task w task
   agree_at levels has v w a b task there = agree levels has v w a b (turn_of levels task + 1) task there (omega arith)
 
   -- two trees of the same formatting contexts are equal

@@ -6,7 +6,7 @@ use Rattle.lay_flow_boxes.specs.PlaceInputs.{PlaceInput}
 use Rattle.lay_placement.specs.ContextPlacements.{IsPlacement}
 use Rattle.lay_context.proofs.Cited.{length_standings, one_own_place_lem}
 use Rattle.lay_table.specs.TableInputs.{TableInput}
-use Rattle.lay_table.specs.TablePlacements.{IsTablePlacement, standings_to as table_standings_to}
+use Rattle.lay_table.specs.TablePlacements.{IsTablePlacement, table_standings_to}
 use Rattle.lay_table.specs.TableStandings.{TablePlaces, standing_of}
 use Rattle.lay_table_sizes.specs.TableSizesValue.{TableSizesValue}
 use Rattle.lay_context.specs.declared.value.Value.TheVariants as value

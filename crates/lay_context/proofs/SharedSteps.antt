@@ -10,7 +10,7 @@ use Rattle.lay_flow_boxes.specs.declared.asked_contents.Asked.TheVariants.{Texts
 use Rattle.lay_context.proofs.Cited.{asked_any, asked_contents}
 use Rattle.lay_contexts.specs.FormattingContexts.{FormattingContext, boxes_in}
 use Rattle.lay_context.specs.Measured.{is_measured}
-use Rattle.lay_context.specs.SharedContents.{AreShared, HaveContents, TextsAreKept, asked_in, contents_in}
+use Rattle.lay_context.specs.SharedContents.{AreContentsShared, HaveContents, TextsAreKept, asked_in, contents_in}
 
 read_before : (contents : List KeptSegments) (kept : KeptSegments) (k : ℕ) → k < length contents → contents_in (contents ++ kept ∷ []) k ≡ contents_in contents k
 read_before contents kept k lt = grind (arith, elements)
@@ -46,7 +46,7 @@ module _ (face : FaceValue) (contexts : List FormattingContext) where
       (subst (λ (a : Asked). AreAskedContents a face (boxes_in contexts i) kept) asked are).all k holds
 
   -- what is shared is right, and has all texts that are measured
-  pub have_shared : (contents : List KeptSegments) → AreShared face contexts contents → HaveContents face contexts contents
+  pub have_shared : (contents : List KeptSegments) → AreContentsShared face contexts contents → HaveContents face contexts contents
   have_shared contents are = record {
     count = are.count;
     each = λ i lt. asked_contents (asked_in contexts i) (boxes_in contexts i) face (contents_in contents i) (are.each i lt);

@@ -23,7 +23,7 @@ use Rattle.lay_context_sizes.specs.ContextSizes.{SizedContext}
 use Rattle.lay_context.specs.Alike.{AreAlikeFor, AreAlikeToMeasure, AreAlikeToPlace, AreAlikeToSize}
 use Rattle.lay_context.specs.DocumentLayout.{flow_numbers, inner_boxes, inner_pieces, inner_widths, inner_widths_in, own_box_in, painted_of, pieces_in, widths_in}
 use Rattle.lay_context.specs.Laws.{InputsComeOfNeeds}
-use Rattle.lay_context.specs.Local.{input_of, measure_as, place_as, value_by, value_of}
+use Rattle.lay_context.specs.Local.{input_of, measure_as, place_as, value_by, value_of_task}
 use Rattle.lay_context.specs.Workings.{Workings}
 use Rattle.lay_context.specs.Measured.{is_measured}
 use Rattle.lay_context.specs.Medium.{Medium}
@@ -223,5 +223,5 @@ like_itself a i Place = record { boxes = refl; inner = refl; anonymous = λ j in
 
 -- so other values of what it doesn't need change nothing of what a task is given
 pub input_again : (medium : Medium) (contexts : List FormattingContext) (v w : Workings) (task : Task) → AreFormattingContexts contexts → task.context < length contexts
-    → ((needed : Task) → Needs contexts task needed → value_of v needed ≡ value_of w needed) → input_of medium contexts v task ≡ input_of medium contexts w task
+    → ((needed : Task) → Needs contexts task needed → value_of_task v needed ≡ value_of_task w needed) → input_of medium contexts v task ≡ input_of medium contexts w task
 input_again medium contexts v w task are within same = inputs_come_of_needs_lem medium contexts contexts v w task are are within within (like_itself contexts task.context task.phase) same

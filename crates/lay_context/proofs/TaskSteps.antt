@@ -15,7 +15,7 @@ use Rattle.lay_context.specs.declared.value.Value.{Value}
 use Rattle.lay_context.specs.declared.value.Value.TheVariants as value
 use Rattle.lay_context_sizes.specs.ContextSizes.{SizedContext}
 use Rattle.lay_context.specs.DocumentLayout.{widths_in}
-use Rattle.lay_context.specs.Local.{HasCounts, IsLocal, IsTaskDone, flow_input, input_of, measure_input, size_input, stand_input, table_input, value_by, value_of, with_value}
+use Rattle.lay_context.specs.Local.{HasCounts, IsLocal, IsTaskDone, flow_input, input_of, measure_input, size_input, stand_input, table_input, value_by, value_of_task, with_value}
 use Rattle.lay_context.specs.Workings.{Workings}
 use Rattle.lay_context.specs.Measured.{is_measured}
 use Rattle.lay_context.specs.Medium.{Medium}
@@ -92,7 +92,7 @@ module _ (medium : Medium) (contexts : List FormattingContext) (w : Workings) wh
   counts_with i (value.Size z) counts = record { widths = counts.widths; sizes = sizes_length w.sizes i z ∙ counts.sizes; places = counts.places }
   counts_with i (value.Place p) counts = record { widths = counts.widths; sizes = counts.sizes; places = places_length w.places i p ∙ counts.places }
 
-  other_task : (t u : Task) (v : Value) → IsLocal (input_of medium contexts w t) v → (t ≡ u → ⊥) → value_of (with_value w t.context v) u ≡ value_of w u
+  other_task : (t u : Task) (v : Value) → IsLocal (input_of medium contexts w t) v → (t ≡ u → ⊥) → value_of_task (with_value w t.context v) u ≡ value_of_task w u
   other_task t u v local differ = other t.phase t.context v local u.phase u.context (λ same e. differ (rw (same, e) refl))
 
 module _ (medium : Medium) (contexts : List FormattingContext) (levels : List ℕ) (are : AreFormattingContexts contexts) (has : HasLevels contexts levels) (below : GridsAreOfBoxes) where
@@ -129,7 +129,7 @@ module _ (medium : Medium) (contexts : List FormattingContext) (levels : List �
     after = with_value w task.context v
 
     -- a task with another turn has the value that it had
-    value_stays : (s : Task) → turn_of levels s < turn_of levels task → value_of after s ≡ value_of w s
+    value_stays : (s : Task) → turn_of levels s < turn_of levels task → value_of_task after s ≡ value_of_task w s
     value_stays s lt = other_task medium contexts w task s v local (λ same. (let e = ap (turn_of levels) same in omega (arith, e, lt)))
 
     -- and what a task is given that has its turn by then

@@ -94,7 +94,7 @@ IsAxisAcross false s own widths width out = IsUsedAxis (own_axis_across s own wi
 
 -- The border box of the formatting context with the number i stands so on the page beside its containing block: `left` and
 -- `margin-left` from its left edge, and `top` and `margin-top`, which are `left` and `margin_left` down, from its upper one.
-pub record StandsIn (p : PageLayout) (i : ℕ) (s : AbsoluteSetting) : Type 0 where
+pub record StandsInSetting (p : PageLayout) (i : ℕ) (s : AbsoluteSetting) : Type 0 where
   pub across : AbsOut
   pub down : AbsOut
   pub is_across
@@ -109,4 +109,4 @@ pub record StandsIn (p : PageLayout) (i : ℕ) (s : AbsoluteSetting) : Type 0 wh
 pub record StandsInContainingBlock (viewport : ContainingBlock) (p : PageLayout) (i : ℕ) : Type 0 where
   pub holder : Option Holder
   pub is_holder : IsHolderOf p.contexts i holder
-  pub stands : StandsIn p i (setting_on_page (block_on_page viewport p holder) (anchor_on_page p i))
+  pub stands : StandsInSetting p i (setting_on_page (block_on_page viewport p holder) (anchor_on_page p i))

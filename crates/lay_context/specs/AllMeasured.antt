@@ -8,7 +8,7 @@ use Rattle.lay_context.specs.declared.input.Input.TheVariants as input
 use Rattle.lay_context.specs.declared.task.Phase.{Phase}
 use Rattle.lay_context.specs.declared.task.Phase.TheVariants as phase
 use Rattle.lay_context.specs.declared.task.Task.{Task}
-use Rattle.lay_context.specs.Local.{HasCounts, IsLocal, measure_input, place_input, size_input, value_of}
+use Rattle.lay_context.specs.Local.{HasCounts, IsLocal, measure_input, place_input, size_input, value_of_task}
 use Rattle.lay_context.specs.Medium.{Medium}
 use Rattle.lay_context.specs.Solves.{IsAssembled}
 use Rattle.lay_context.specs.Workings.{Workings}
@@ -27,5 +27,5 @@ pub record SolvesMeasured (medium : Medium) (contexts : List FormattingContext) 
   pub workings : Workings
   pub counts : HasCounts contexts workings
   pub done : (task : Task) → task.context < length contexts
-      → IsLocal (measured_input medium contexts workings task) (value_of workings task)
+      → IsLocal (measured_input medium contexts workings task) (value_of_task workings task)
   pub assembled : IsAssembled contexts workings tree

@@ -14,7 +14,7 @@ use Rattle.lay_context.specs.AllMeasured.{SolvesMeasured}
 use Rattle.lay_context.specs.declared.input.Input.{Input}
 use Rattle.lay_context.specs.declared.task.Task.{Task}
 use Rattle.lay_context.specs.declared.value.Value.{Value}
-use Rattle.lay_context.specs.Local.{IsLocal, input_of, value_of}
+use Rattle.lay_context.specs.Local.{IsLocal, input_of, value_of_task}
 use Rattle.lay_context.specs.Workings.{Workings}
 use Rattle.lay_context.specs.Measured.{ShrinksOutward, is_measured}
 use Rattle.lay_context.specs.Medium.{Medium}
@@ -31,7 +31,7 @@ OneLocal = (i : Input) (v w : Value) → IsLocal i v → IsLocal i w → v ≡ w
 abbrev pub InputsComeOfNeeds : Type 0
 InputsComeOfNeeds = (medium : Medium) (a b : List FormattingContext) (v w : Workings) (task : Task)
     → AreFormattingContexts a → AreFormattingContexts b → task.context < length a → task.context < length b → AreAlikeFor a b task
-    → ((needed : Task) → Needs a task needed → value_of v needed ≡ value_of w needed)
+    → ((needed : Task) → Needs a task needed → value_of_task v needed ≡ value_of_task w needed)
     → input_of medium a v task ≡ input_of medium b w task
 
 -- one is measured just where its own box or one around it may shrink to fit

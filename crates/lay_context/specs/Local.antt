@@ -117,8 +117,8 @@ value_by w phase.Size i = value.Size (sizes_in w.sizes i)
 value_by w phase.Place i = value.Place (placed_in w.places i)
 
 -- the value of a task among these
-abbrev pub value_of : Workings → Task → Value
-value_of w task = value_by w task.phase task.context
+abbrev pub value_of_task : Workings → Task → Value
+value_of_task w task = value_by w task.phase task.context
 
 -- these values with another one for a formatting context
 abbrev pub with_value : Workings → ℕ → Value → Workings
@@ -128,4 +128,4 @@ with_value w i (value.Place answer) = record { widths = w.widths; sizes = w.size
 
 -- the value of this task is right beside what the others give it
 abbrev pub IsTaskDone : Medium → List FormattingContext → Workings → Task → Type 0
-IsTaskDone medium contexts w task = IsLocal (input_of medium contexts w task) (value_of w task)
+IsTaskDone medium contexts w task = IsLocal (input_of medium contexts w task) (value_of_task w task)

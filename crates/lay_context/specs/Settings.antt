@@ -52,9 +52,9 @@ abbrev pub sizes_in : List SizedContext → ℕ → SizedContext
 sizes_in sizes i = slice_index_or sizes i not_sized
 
 -- what the formatting context with this number is given as a cell
-abbrev pub cell_of : List FormattingContext → List SizedContext → ℕ → Option CellSize
-cell_of contexts sizes zero = None
-cell_of contexts sizes (suc i) =
+abbrev pub given_cell_size : List FormattingContext → List SizedContext → ℕ → Option CellSize
+given_cell_size contexts sizes zero = None
+given_cell_size contexts sizes (suc i) =
     let c = formatting_context_at contexts (suc i) in
     cell_given (sizes_in sizes c.outer).table c.outer_box
 

@@ -25,7 +25,7 @@ abbrev pub asked_in : List FormattingContext → ℕ → Asked
 asked_in contexts i = if is_any_asked texts (boxes_in contexts i) then (if is_measured contexts i then texts else anchors) else nothing
 
 -- it is the content of the lines that have such boxes, in this face, and no other
-pub record AreShared (face : FaceValue) (contexts : List FormattingContext) (contents : List KeptSegments) : Type 0 where
+pub record AreContentsShared (face : FaceValue) (contexts : List FormattingContext) (contents : List KeptSegments) : Type 0 where
   pub count : length contents ≡ length contexts
   pub each : (i : ℕ) → i < length contexts → AreAskedContents (asked_in contexts i) face (boxes_in contexts i) (contents_in contents i)
 

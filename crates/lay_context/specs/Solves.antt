@@ -31,7 +31,7 @@ use Rattle.lay_context.specs.Workings.{Workings}
 use Rattle.lay_context.specs.Medium.{Medium}
 use Rattle.lay_context.specs.PageCorners.{HasPageCorners, standing_of}
 use Rattle.lay_context.specs.PlacedContexts.{placement_in}
-use Rattle.lay_context.specs.Settings.{cell_of}
+use Rattle.lay_context.specs.Settings.{given_cell_size}
 
 -- A cell is as wide as its columns, also where these are narrower than its borders and paddings (17.5.2.1). Others are as wide as
 -- they laid themselves out.
@@ -45,7 +45,7 @@ abbrev pub page_rect : List FormattingContext → Workings → List Corner → �
 page_rect contexts w corners i = record {
   x = (corner_at corners i).x;
   y = (corner_at corners i).y;
-  w = page_width (cell_of contexts w.sizes i) (placement_in w.places i).own;
+  w = page_width (given_cell_size contexts w.sizes i) (placement_in w.places i).own;
   h = (standing_of contexts w.places i).height;
 }
 
@@ -59,16 +59,16 @@ page_context contexts w corners i = record {
 }
 
 -- an anonymous formatting context is none of a tree, since the one around paints it
-abbrev pub listed : (is_anonymous : Bool) → PageContext → List PageContext
-listed true c = []
-listed false c = c ∷ []
+abbrev pub listed_unless_anonymous : (is_anonymous : Bool) → PageContext → List PageContext
+listed_unless_anonymous true c = []
+listed_unless_anonymous false c = c ∷ []
 
 -- the contexts of the first n
 abbrev pub page_contexts : List FormattingContext → Workings → List Corner → (n : ℕ) → List PageContext
 page_contexts contexts w corners zero = []
 page_contexts contexts w corners (suc n) =
     page_contexts contexts w corners n
-    ++ listed (formatting_context_at contexts n).anonymous (page_context contexts w corners n)
+    ++ listed_unless_anonymous (formatting_context_at contexts n).anonymous (page_context contexts w corners n)
 
 -- the tree is put together of these values, each where it stands on the page
 pub record IsAssembled (contexts : List FormattingContext) (w : Workings) (tree : List PageContext) : Type 0 where

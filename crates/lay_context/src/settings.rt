@@ -8,7 +8,7 @@ ghost use Rattle.lay_positioned.specs.Settings.{absolute_setting};
 ghost use Rattle.lay_abspos.specs.AbsoluteSettings.{SettingFits};
 ghost use Rattle.lay_context_sizes.specs.Inputs.{OwnSettingFits};
 ghost use Rattle.lay_abspos.specs.StandInputs.{OwnPlaceFits};
-ghost use Rattle.lay_context.specs.Settings.{caption_block, cell_given, cell_of, flow_setting, laid};
+ghost use Rattle.lay_context.specs.Settings.{caption_block, cell_given, given_cell_size, flow_setting, laid};
 ghost use Rattle.lay_context.specs.Settings.{own_place_of, setting_as, setting_in, setting_in_table, setting_of};
 
 use crate::known_context::{KnownContext, ReadyToSize};
@@ -88,7 +88,7 @@ fn flow_setting<V: Values>(medium: &Medium, ready: &ReadyToSize<'_, V>) -> Setti
 
 /// What a formatting context is given as a cell.
 pub(crate) fn cell_of<V: Values>(at: &KnownContext<'_, V>) -> Option<CellSize>
-    ensures { result ≡ cell_of at.now.contexts.now (V.workings at.now.known.now).sizes at.now.number }
+    ensures { result ≡ given_cell_size at.now.contexts.now (V.workings at.now.known.now).sizes at.now.number }
 {
     let context = at.formatting_context();
     if at.number > 0 {

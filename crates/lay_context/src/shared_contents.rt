@@ -1,7 +1,7 @@
 //! The content of lines that the tasks of a layout share.
 
 ghost use Rattle.std.specs.Prelude.{◌≡◌, ◌<◌, length, IfOk};
-ghost use Rattle.lay_context.specs.SharedContents.{AreShared, HaveContents, asked_in};
+ghost use Rattle.lay_context.specs.SharedContents.{AreContentsShared, HaveContents, asked_in};
 
 use crate::computing::asked_by_placement;
 use crate::measured::is_measured;
@@ -19,7 +19,7 @@ pub(crate) fn shared_contents(
     medium: &Medium,
     contexts: &FormattingContexts,
 ) -> Result<Vec<InlineContents>, NoMemory>
-    ensures shared { IfOk result (λ v. AreShared medium.now.face contexts.now v.items) }
+    ensures shared { IfOk result (λ v. AreContentsShared medium.now.face contexts.now v.items) }
     ensures have { IfOk result (λ v. HaveContents medium.now.face contexts.now v.items) }
 {
     let face = medium.face()?;

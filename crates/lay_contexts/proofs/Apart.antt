@@ -10,7 +10,7 @@ use Rattle.lay_doc.specs.Tree.{IsTree}
 use Rattle.lay_box_tree.specs.BoxColumns.{box_ids, box_inner}
 use Rattle.lay_boxgen.specs.Boxes.{Tree, Trees, tree, no_trees, also, trees_of, facts_of, remade, in_box}
 use Rattle.lay_boxgen.specs.Contexts.{box_at, is_marked}
-use Rattle.lay_boxgen.specs.CutTrees.{as_leaf, cut_own, cut_tree_at, generated_cut, cut}
+use Rattle.lay_boxgen.specs.CutTrees.{as_leaf, cut_own, cut_tree_at, generated_cut, cut_tree}
 use Rattle.lay_boxgen.specs.Forms.{is_absolute, is_inline}
 use Rattle.lay_boxgen.specs.InnerBoxes.{AllBoxes, AllIn, AllOf}
 use Rattle.lay_boxgen.specs.Irrelevant.{relevant}
@@ -187,7 +187,7 @@ module _ (nodes : List Node) (styles : List Style) where
           every-generated (Below a) (opened a) (remade (in_box relevant) (tree (as_own f) (trees_of cs)))
           (every-remade (Below a) (opened a) (in_box relevant) (every-in_box (Below a) (opened a) relevant all-relevant) (tree (as_own f) (trees_of cs)) (opened a (as_own f) refl, h))
 
-      own-cut : (o : Option Tree) → option_map own_tree (option_map cut o) ≡ option_map cut_own o
+      own-cut : (o : Option Tree) → option_map own_tree (option_map cut_tree o) ≡ option_map cut_own o
       own-cut None = refl
       own-cut (Some t) = refl
 

@@ -6,7 +6,7 @@ use Rattle.lay_contexts.specs.Contexts.{Context, boxes_in}
 use Rattle.lay_contexts.specs.FormattingContexts.{FormattingContext, formatting_context_at}
 use Rattle.lay_contexts.specs.FormattingContextList.{AreFormattingContextsOf, AreHomesOf, first_number, formatting_context_of, number_of, roots_before}
 use Rattle.lay_contexts.specs.Homes.{is_root}
-use Rattle.lay_contexts.specs.Listed.{AreListedTo, IsListed}
+use Rattle.lay_contexts.specs.Listed.{AreListedTo, IsRootListed}
 use Rattle.lay_contexts.proofs.RootNumbers.{number_lt, roots_lt, roots_no, roots_yes}
 
 kept : (all : List FormattingContext) (c : FormattingContext) (m : ℕ) → m < length all → formatting_context_at (all ++ c ∷ []) m ≡ formatting_context_at all m
@@ -34,7 +34,7 @@ module _ (contexts : List Context) (homes : List (List ℕ)) where
         kept all c (number_of contexts j r) (omega (arith, low, so_far.count)) ∙ so_far.before j r less lt at);
     here = λ r less at. elim (cases_lt r n) [
       | inl low ↦ (let a = roots_lt (boxes_in contexts i) r n at low in kept all c (number_of contexts i r) (omega (arith, a, so_far.count)) ∙ so_far.here r low at)
-      | inr high ↦ (let q : n ≡ r = omega (arith, less, high) in subst (IsListed contexts homes (all ++ c ∷ []) i) q (added all c (number_of contexts i n) (sym so_far.count) ∙ is))
+      | inr high ↦ (let q : n ≡ r = omega (arith, less, high) in subst (IsRootListed contexts homes (all ++ c ∷ []) i) q (added all c (number_of contexts i n) (sym so_far.count) ∙ is))
     ];
   }
 
@@ -61,7 +61,7 @@ module _ (contexts : List Context) (homes : List (List ℕ)) where
       | inr high ↦ (let q : j ≡ i = omega (arith, less, high) in
           let there : r < n = subst (λ (k : ℕ). r < k) (sym e) (subst (λ (k : ℕ). r < length (boxes_in contexts k)) q lt) in
           let root : is_root (boxes_in contexts i) r ≡ true = subst (λ (k : ℕ). is_root (boxes_in contexts k) r ≡ true) q at in
-          subst (λ (k : ℕ). IsListed contexts homes all k r) (sym q) (so_far.here r there root))
+          subst (λ (k : ℕ). IsRootListed contexts homes all k r) (sym q) (so_far.here r there root))
     ];
     here = λ r less root. absurd (omega (arith, less));
   }

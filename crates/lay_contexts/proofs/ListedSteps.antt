@@ -13,7 +13,7 @@ use Rattle.lay_contexts.specs.DocumentContexts.{AreDocumentContexts, root_spot, 
 use Rattle.lay_contexts.specs.declared.context_spot.ContextSpot.{ContextSpot}
 use Rattle.lay_contexts.proofs.OneStand.{marked-true, within}
 use Rattle.lay_contexts.specs.ContextList.{boxes_of_spots}
-use Rattle.lay_contexts.specs.ListedContexts.{AreContextPlaces, AreSpots, AreStanding, IsListed, IsSpot, Stands, boxes_of_places, standing_at}
+use Rattle.lay_contexts.specs.ListedContexts.{AreContextPlaces, AreSpots, AreStanding, IsContextListed, IsSpot, ContextStands, boxes_of_places, listed_standing_at}
 use Rattle.lay_contexts.specs.declared.standing.Standing.{Standing}
 
 pub not_true : (b : Bool) → b ≡ false → IsTrue b → ⊥
@@ -35,9 +35,9 @@ module _ (nodes : List Node) (styles : List Style) where
     pub are : (i : ℕ) → i < length places → IsContextAt nodes styles (slice_index places i)
     pub below : (i : ℕ) → i < length places → slice_index places i < n
     pub rising : (i j : ℕ) → i < j → j < length places → slice_index places i < slice_index places j
-    pub all : (k : ℕ) → k < n → IsContextAt nodes styles k → IsListed places k
+    pub all : (k : ℕ) → k < n → IsContextAt nodes styles k → IsContextListed places k
 
-  longer : (places : List ℕ) (n k : ℕ) → IsListed places k → IsListed (places ++ n ∷ []) k
+  longer : (places : List ℕ) (n k : ℕ) → IsContextListed places k → IsContextListed (places ++ n ∷ []) k
   longer places n k l = record {
     number = l.number;
     within = (let c = length-append places (n ∷ []) in omega (arith, c, l.within));
@@ -86,17 +86,17 @@ module _ (nodes : List Node) (styles : List Style) where
     all = λ k is. so_far.all k (let lt = within nodes styles k (marked-true (is_marked (box_at nodes styles k)) is.establishes) in omega (arith, lt, e)) is;
   }
 
-standing_same : (xs : List (Option Standing)) (i j : ℕ) (x : Option Standing) → i ≢ j → standing_at (slice_set xs i x) j ≡ standing_at xs j
+standing_same : (xs : List (Option Standing)) (i j : ℕ) (x : Option Standing) → i ≢ j → listed_standing_at (slice_set xs i x) j ≡ listed_standing_at xs j
 standing_same xs i j x other = grind (arith, elements, other)
 
-standing_here : (xs : List (Option Standing)) (i : ℕ) (x : Option Standing) → i < length xs → standing_at (slice_set xs i x) i ≡ x
+standing_here : (xs : List (Option Standing)) (i : ℕ) (x : Option Standing) → i < length xs → listed_standing_at (slice_set xs i x) i ≡ x
 standing_here xs i x lt = grind (arith, elements, lt)
 
 stands_length : (xs : List (Option Standing)) (i : ℕ) (x : Option Standing) → length (slice_set xs i x) ≡ length xs
 stands_length xs i x = grind (arith, elements)
 
 -- with one more context found
-pub one_found : (nodes : List Node) (styles : List Style) (places : List ℕ) (stands : List (Option Standing)) (j : ℕ) (s : Standing) → AreStanding nodes styles places stands → j < length places → Stands nodes styles places j s
+pub one_found : (nodes : List Node) (styles : List Style) (places : List ℕ) (stands : List (Option Standing)) (j : ℕ) (s : Standing) → AreStanding nodes styles places stands → j < length places → ContextStands nodes styles places j s
     → AreStanding nodes styles places (slice_set stands j (Some s))
 one_found nodes styles places stands j s so_far lt is = record {
   count = stands_length stands j (Some s) ∙ so_far.count;
@@ -135,9 +135,9 @@ spot_last ss s k e = grind (arith, elements)
 
 pub record SpotsTo (places : List ℕ) (stands : List (Option Standing)) (spots : List ContextSpot) (n : ℕ) : Type 0 where
   pub count : length spots ≡ n
-  pub each : (i : ℕ) → i < n → IsSpot i (slice_index places i) (standing_at stands i) (spot_at spots i)
+  pub each : (i : ℕ) → i < n → IsSpot i (slice_index places i) (listed_standing_at stands i) (spot_at spots i)
 
-pub one_spot : (places : List ℕ) (stands : List (Option Standing)) (spots : List ContextSpot) (n : ℕ) (s : ContextSpot) → SpotsTo places stands spots n → IsSpot n (slice_index places n) (standing_at stands n) s
+pub one_spot : (places : List ℕ) (stands : List (Option Standing)) (spots : List ContextSpot) (n : ℕ) (s : ContextSpot) → SpotsTo places stands spots n → IsSpot n (slice_index places n) (listed_standing_at stands n) s
     → SpotsTo places stands (spots ++ s ∷ []) (n + 1)
 one_spot places stands spots n s so_far is = record {
   count = (let c = length-append spots (s ∷ []) in omega (arith, c, so_far.count));
@@ -155,15 +155,15 @@ module _ (nodes : List Node) (styles : List Style) (places : List ℕ) (stands :
   place_by (suc i) place o s is = is.0
 
   pub spot_place : (i : ℕ) → i < length places → (spot_at spots i).place ≡ slice_index places i
-  spot_place i lt = place_by i (slice_index places i) (standing_at stands i) (spot_at spots i) (are.each i lt)
+  spot_place i lt = place_by i (slice_index places i) (listed_standing_at stands i) (spot_at spots i) (are.each i lt)
 
-  stands_by : (i : ℕ) (o : Option Standing) (s : ContextSpot) → 0 < i → IfSome o (Stands nodes styles places i) → IsSpot i (slice_index places i) o s
+  stands_by : (i : ℕ) (o : Option Standing) (s : ContextSpot) → 0 < i → IfSome o (ContextStands nodes styles places i) → IsSpot i (slice_index places i) o s
       → (s.around < length places) × StandsIn nodes styles (slice_index places i) (slice_index places s.around) s.at
   stands_by zero o s some known is = absurd (omega (arith, some))
   stands_by (suc i) o s some known is = rw is.1 at known
 
   stand : (i : ℕ) → 0 < i → i < length places → ((spot_at spots i).around < length places) × StandsIn nodes styles (slice_index places i) (slice_index places (spot_at spots i).around) (spot_at spots i).at
-  stand i some lt = stands_by i (standing_at stands i) (spot_at spots i) some (standing.each i lt) (are.each i lt)
+  stand i some lt = stands_by i (listed_standing_at stands i) (spot_at spots i) some (standing.each i lt) (are.each i lt)
 
   root_by : (ss : List ContextSpot) → (0 < length ss → spot_at ss 0 ≡ root_spot) → spot_at ss 0 ≡ root_spot
   root_by [] h = refl

@@ -5,7 +5,7 @@ use Rattle.std.proofs.lemmas.Bool.{or_from, or_parts}
 use Rattle.lay_box_tree.specs.declared.box_tree.Flow.TheVariants as flow
 use Rattle.lay_boxgen.specs.Boxes.{Tree, Trees, tree, no_trees, also, trees_of, facts_of, remade, all_remade, in_box}
 use Rattle.lay_boxgen.specs.BrokenInlines.{broken, is_block_box, is_no_text_box, is_unseen, part_over, parts_from}
-use Rattle.lay_boxgen.specs.Forms.{is_blank, is_block, is_block_container, is_in_flow, is_inline, is_inline_level, is_text, is_white}
+use Rattle.lay_boxgen.specs.Forms.{is_blank_text, is_block, is_block_container, is_in_flow, is_inline, is_inline_level, is_text, is_white}
 use Rattle.lay_boxgen.specs.Generation.{generated}
 use Rattle.lay_boxgen.specs.InlineRuns.{block_round, is_no_block, is_seen_box, run_wrapped}
 use Rattle.lay_boxgen.specs.MissingChildren.{child_wrapped}
@@ -102,7 +102,7 @@ mutual
   all_broken (also t ts) = each_append HoldsNoBlock (remade broken t) (all_remade broken ts) (one_broken t) (all_broken ts)
 
 -- Wrapping.
-blank_text : (f : Form) → is_blank f ≡ true → is_text f ≡ true
+blank_text : (f : Form) → is_blank_text f ≡ true → is_text f ≡ true
 blank_text (form.Text t) e = refl
 blank_text form.Block e = absurd cc
 blank_text form.InlineBlock e = absurd cc
@@ -135,7 +135,7 @@ unseen_left (t ∷ ts) e =
     by : (b : Bool) → is_no_text_box t ≡ b → is_seen_box t ≡ false → any is_in_line (filter is_no_text_box ts) ≡ false → any is_in_line (if b then t ∷ filter is_no_text_box ts else filter is_no_text_box ts) ≡ false
     by true n seen rest =
         let f : Facts = facts_of t in
-        or_from (is_in_line f) _ (out_by (is_in_flow f.flow) (is_blank f.form) (is_text f.form) (is_inline_level f.form) (blank_text f.form) seen n) rest
+        or_from (is_in_line f) _ (out_by (is_in_flow f.flow) (is_blank_text f.form) (is_text f.form) (is_inline_level f.form) (blank_text f.form) seen n) rest
     by false n seen rest = rest
 
 round_out : (f : Facts) (run : List Tree) → any is_in_line (block_round f run) ≡ false

@@ -6,23 +6,23 @@ use Rattle.lay_boxgen.specs.Irrelevant.{is_irrelevant, kept_from, kept_gap}
 use Rattle.lay_boxgen.specs.Runs.{is_white_box}
 use Rattle.lay_boxgen.specs.declared.facts.Facts.{Facts}
 use Rattle.lay_boxgen.specs.declared.facts.Form.{Form}
-use Rattle.lay_contexts.specs.WhiteSpaceLaws.{WhiteSpaceGoesByItself, child_kept, children_kept, first_seen, last_seen, or_else}
+use Rattle.lay_contexts.specs.WhiteSpaceLaws.{WhiteSpaceGoesByItself, child_kept, children_kept, first_seen, last_seen, or_else_facts}
 
 abbrev AllWhite : List Tree → Type 0
 AllWhite [] = Unit {0}
 AllWhite (t ∷ ts) = (is_white_box t ≡ true) × AllWhite ts
 
-else-none : (o : Option Facts) → or_else o None ≡ o
+else-none : (o : Option Facts) → or_else_facts o None ≡ o
 else-none None = refl
 else-none (Some f) = refl
 
 white-last : (xs : List Tree) (t : Tree) → is_white_box t ≡ true → last_seen (xs ++ t ∷ []) ≡ last_seen xs
 white-last [] t h = simp h refl
-white-last (x ∷ xs) t h = ap (λ o. or_else o (if is_white_box x then None else Some (facts_of x))) (white-last xs t h)
+white-last (x ∷ xs) t h = ap (λ o. or_else_facts o (if is_white_box x then None else Some (facts_of x))) (white-last xs t h)
 
 seen-last : (xs : List Tree) (t : Tree) → is_white_box t ≡ false → last_seen (xs ++ t ∷ []) ≡ Some (facts_of t)
 seen-last [] t h = simp h refl
-seen-last (x ∷ xs) t h = ap (λ o. or_else o (if is_white_box x then None else Some (facts_of x))) (seen-last xs t h)
+seen-last (x ∷ xs) t h = ap (λ o. or_else_facts o (if is_white_box x then None else Some (facts_of x))) (seen-last xs t h)
 
 white-first : (gap rest : List Tree) → AllWhite gap → first_seen (gap ++ rest) ≡ first_seen rest
 white-first [] rest h = refl

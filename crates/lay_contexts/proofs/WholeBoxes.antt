@@ -4,17 +4,17 @@ use Rattle.std.proofs.lemmas.Bool.{cases_lt}
 use Rattle.std.proofs.lemmas.List.{ext_get_or}
 use Rattle.lay_box_tree.specs.declared.box_tree.BoxNode.{BoxNode}
 use Rattle.lay_box_tree.specs.ContextBoxes.{AreContextBoxes}
-use Rattle.lay_contexts.specs.FormattingBoxes.{as_member, as_own, at_home_before, boxes_of_root, is_at_home, place_inside, placed, rank}
+use Rattle.lay_contexts.specs.FormattingBoxes.{as_member, as_own, at_home_before, boxes_of_root, is_at_home, place_inside, placed_box, rank}
 use Rattle.lay_box_tree.specs.BoxColumns.{box_at, no_box}
 use Rattle.lay_contexts.specs.Homes.{AreHomes, is_root}
 use Rattle.lay_contexts.proofs.AtHome.{count_yes, is_home, more_no, place_there}
 use Rattle.lay_contexts.proofs.NearestRoots.{home_before, home_is_root}
 use Rattle.lay_contexts.proofs.RootBoxes.{inner_of, length_is, member_at, parent_of, parent_within, place_other, rank_is}
 
-same_placed : (b : BoxNode) → placed b b.parent b.inner ≡ b
+same_placed : (b : BoxNode) → placed_box b b.parent b.inner ≡ b
 same_placed b = refl
 
-placed_as : (b : BoxNode) (p : ℕ) (inner : Bool) → p ≡ b.parent → inner ≡ b.inner → placed b p inner ≡ b
+placed_as : (b : BoxNode) (p : ℕ) (inner : Bool) → p ≡ b.parent → inner ≡ b.inner → placed_box b p inner ≡ b
 placed_as b p inner e f = rw (e, f) (same_placed b)
 
 or_none : (a b : Bool) → b ≡ false → (a || b) ≡ a

@@ -26,17 +26,17 @@ rank homes (suc k) = 1 + length (at_home_before homes (slice_index homes (suc k)
 abbrev pub place_inside : List BoxNode → List ℕ → ℕ → ℕ
 place_inside boxes homes p = if is_root boxes p then 0 else rank homes p
 
-abbrev pub placed : BoxNode → ℕ → Bool → BoxNode
-placed b parent inner = record b { parent = parent; inner = inner }
+abbrev pub placed_box : BoxNode → ℕ → Bool → BoxNode
+placed_box b parent inner = record b { parent = parent; inner = inner }
 
 -- a root in its own list
 abbrev pub as_own : BoxNode → BoxNode
-as_own b = placed b 0 false
+as_own b = placed_box b 0 false
 
 -- the box at k in the list of its home
 abbrev pub as_member : List BoxNode → List ℕ → ℕ → BoxNode
 as_member boxes homes k =
-    placed (box_at boxes k) (place_inside boxes homes (box_at boxes k).parent) ((box_at boxes k).inner || is_root boxes k)
+    placed_box (box_at boxes k) (place_inside boxes homes (box_at boxes k).parent) ((box_at boxes k).inner || is_root boxes k)
 
 abbrev pub boxes_of_root : List BoxNode → List ℕ → ℕ → List BoxNode
 boxes_of_root boxes homes r = as_own (box_at boxes r) ∷ map (as_member boxes homes) (at_home_before homes r (length boxes))

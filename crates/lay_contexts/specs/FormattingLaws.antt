@@ -71,12 +71,12 @@ ElementsAreContexts = (contexts : List Context) (all : List FormattingContext) �
     → map (λ f. box_at f.boxes 0) (of_elements all) ≡ map (λ c. box_at c.boxes 0) contexts
 
 -- no anonymous table or cell is in the context i
-abbrev pub IsWhole : List Context → ℕ → Type 0
-IsWhole contexts i = (k : ℕ) → 0 < k → k < length (boxes_in contexts i) → is_root (boxes_in contexts i) k ≡ true → ⊥
+abbrev pub HasNoInnerRoots : List Context → ℕ → Type 0
+HasNoInnerRoots contexts i = (k : ℕ) → 0 < k → k < length (boxes_in contexts i) → is_root (boxes_in contexts i) k ≡ true → ⊥
 
 -- In a context without anonymous tables and cells the formatting context has the same boxes.
 abbrev pub WholeContextsKeepBoxes : Type 0
 WholeContextsKeepBoxes = (contexts : List Context) (all : List FormattingContext) (i : ℕ)
     → AreContexts contexts → AreFormattingContextsOf contexts all
-    → i < length contexts → IsWhole contexts i
+    → i < length contexts → HasNoInnerRoots contexts i
     → boxes_of all (number_of contexts i 0) ≡ boxes_in contexts i

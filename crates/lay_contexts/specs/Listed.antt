@@ -6,12 +6,12 @@ use Rattle.lay_contexts.specs.FormattingContextList.{formatting_context_of, numb
 use Rattle.lay_contexts.specs.Homes.{is_root}
 
 -- that of a root is in the list, in its place
-abbrev pub IsListed : List Context → List (List ℕ) → List FormattingContext → (i r : ℕ) → Type 0
-IsListed contexts homes all i r = formatting_context_at all (number_of contexts i r) ≡ formatting_context_of contexts homes i r
+abbrev pub IsRootListed : List Context → List (List ℕ) → List FormattingContext → (i r : ℕ) → Type 0
+IsRootListed contexts homes all i r = formatting_context_at all (number_of contexts i r) ≡ formatting_context_of contexts homes i r
 
 -- those of all contexts before i are, and of the roots before n in the context i
 pub record AreListedTo (contexts : List Context) (homes : List (List ℕ)) (all : List FormattingContext) (i n : ℕ) : Type 0 where
   pub count : length all ≡ number_of contexts i n
   pub before : (j r : ℕ) → j < i → r < length (boxes_in contexts j) → is_root (boxes_in contexts j) r ≡ true
-      → IsListed contexts homes all j r
-  pub here : (r : ℕ) → r < n → is_root (boxes_in contexts i) r ≡ true → IsListed contexts homes all i r
+      → IsRootListed contexts homes all j r
+  pub here : (r : ℕ) → r < n → is_root (boxes_in contexts i) r ≡ true → IsRootListed contexts homes all i r

@@ -13,13 +13,13 @@ abbrev pub first_seen : List Tree → Option Facts
 first_seen [] = None
 first_seen (t ∷ ts) = if is_white_box t then first_seen ts else Some (facts_of t)
 
-abbrev pub or_else : Option Facts → Option Facts → Option Facts
-or_else None o = o
-or_else (Some f) o = Some f
+abbrev pub or_else_facts : Option Facts → Option Facts → Option Facts
+or_else_facts None o = o
+or_else_facts (Some f) o = Some f
 
 abbrev pub last_seen : List Tree → Option Facts
 last_seen [] = None
-last_seen (t ∷ ts) = or_else (last_seen ts) (if is_white_box t then None else Some (facts_of t))
+last_seen (t ∷ ts) = or_else_facts (last_seen ts) (if is_white_box t then None else Some (facts_of t))
 
 -- a child between these siblings before it and those behind it, if it stays
 abbrev pub child_kept : Form → List Tree → Tree → List Tree → List Tree

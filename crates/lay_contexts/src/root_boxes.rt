@@ -2,7 +2,7 @@
 
 ghost use Rattle.std.specs.Prelude.{ℕ, ◌≡◌, ◌<◌, ◌≤◌, true, IfOk, length};
 ghost use Rattle.lay_box_tree.specs.ContextBoxes.{AreContextBoxes};
-ghost use Rattle.lay_contexts.specs.FormattingBoxes.{as_member, boxes_of_root, place_inside, placed};
+ghost use Rattle.lay_contexts.specs.FormattingBoxes.{as_member, boxes_of_root, place_inside, placed_box};
 ghost use Rattle.lay_box_tree.specs.BoxColumns.{box_at};
 ghost use Rattle.lay_contexts.specs.Homes.{is_root};
 ghost use Rattle.lay_contexts.specs.Partings.{IsParting};
@@ -90,7 +90,7 @@ fn place_inside(boxes: &[BoxNode], parting: &Parting, p: usize) -> usize
 
 /// A box with another parent.
 fn placed(alloc: Global, node: &BoxNode, parent: u32, inner: bool) -> Result<BoxNode, NoMemory>
-    ensures { IfOk result (λ b. b ≡ placed node.now parent inner) }
+    ensures { IfOk result (λ b. b ≡ placed_box node.now parent inner) }
 {
     Ok(BoxNode {
         node: node.node,

@@ -6,7 +6,7 @@ use Rattle.lay_cells.specs.declared.answers.Claimed.{Claimed}
 use Rattle.lay_shape.specs.declared.cell_key.CellKey.{CellKey}
 use Rattle.lay_cell_work.specs.CellInputs.{CellInput}
 use Rattle.lay_document_cells.specs.Laws.{BatchesWork, ClaimsWork, NextClaimsWork, OutcomesWork}
-use Rattle.lay_document_cells.specs.Settling.{GivesUp, Settles, SettlesFirst, StopsAt as CellsStopAt, computed, granted, next as next_settled, none as none_settled, reused, taken, unclaimed}
+use Rattle.lay_document_cells.specs.Settling.{GivesUp, Settles, SettlesFirst, CellsStopAt, computed, granted, next as next_settled, none as none_settled, reused, taken, unclaimed}
 use Rattle.lay_document_cells.specs.State.{State as DocumentCells}
 use Rattle.lay_document_cells.specs.Steps.{ClaimsTo, Step, Works, claim, finish, give_back, none, step}
 use Rattle.lay_core.specs.CellLaws.{BatchesAreWork, ClaimsAreWork, FinishesAreWork, GiveBacksAreWork, LatestIsWork, NextClaimsAreWork, OutcomesAreWork, PublishingIsWork, RefreshingIsWork, SettlingIsWork, StoppingIsWork, SyncIsWork}

@@ -5,9 +5,9 @@ use Rattle.lay_cells.specs.declared.answers.Finished.{Finished}
 use Rattle.lay_cells.specs.declared.answers.Released.{Released}
 use Rattle.lay_shape.specs.declared.cell_key.CellKey.{CellKey}
 use Rattle.lay_cell_work.specs.CellInputs.{CellInput}
-use Rattle.lay_document_cells.specs.Settling.{GivesUp, Settles, SettlesFirst, SettlesTo, StopsAt, computed, granted, next, none, reused, taken, unclaimed}
+use Rattle.lay_document_cells.specs.Settling.{GivesUp, Settles, SettlesFirst, CellsSettleTo, CellsStopAt, computed, granted, next, none, reused, taken, unclaimed}
 use Rattle.lay_document_cells.specs.State.{State as DocumentCells}
-use Rattle.lay_document_cells.specs.Steps.{ClaimsTo, FinishesTo, GivesBackTo, Step, Works, claim, finish, give_back, none as no_step, step}
+use Rattle.lay_document_cells.specs.Steps.{ClaimsTo, CellsFinishTo, CellsGiveBackTo, Step, Works, claim, finish, give_back, none as no_step, step}
 use Rattle.lay_cell_work.specs.ClaimLists.Outcomes.{Work}
 
 pub record IsWork (s t : DocumentCells) : Type 0 where
@@ -36,14 +36,14 @@ claim_work s key input a t does = record {
   laid = let e = ap (λ x. x.laid) does.state in omega (arith, e);
 }
 
-pub finish_work : (s : DocumentCells) (d : Work) (a : Finished) (t : DocumentCells) → FinishesTo s d a t → IsWork s t
+pub finish_work : (s : DocumentCells) (d : Work) (a : Finished) (t : DocumentCells) → CellsFinishTo s d a t → IsWork s t
 finish_work s d a t does = record {
   document = ap (λ x. x.document) does.state;
   face = ap (λ x. x.face) does.state;
   laid = let e = ap (λ x. x.laid) does.state in omega (arith, e);
 }
 
-pub back_work : (s : DocumentCells) (key : CellKey) (number : ℕ) (a : Released) (t : DocumentCells) → GivesBackTo s key number a t → IsWork s t
+pub back_work : (s : DocumentCells) (key : CellKey) (number : ℕ) (a : Released) (t : DocumentCells) → CellsGiveBackTo s key number a t → IsWork s t
 back_work s key number a t does = record {
   document = ap (λ x. x.document) does.state;
   face = ap (λ x. x.face) does.state;
@@ -60,7 +60,7 @@ settles_work : (s t : DocumentCells) → Settles s t → IsWork s t
 settles_work s t none = no_work s s refl
 settles_work s t (next mid t-1 before first) = then_work s mid t (settles_work s mid before) (first_work mid t first)
 
-pub settle_work : (s t : DocumentCells) → SettlesTo s t → IsWork s t
+pub settle_work : (s t : DocumentCells) → CellsSettleTo s t → IsWork s t
 settle_work s t does = settles_work s t does.settles
 
 gives_up_work : (s t : DocumentCells) → GivesUp s t → IsWork s t
@@ -69,7 +69,7 @@ gives_up_work s t (taken key input number t-1 does) = claim_work s key input _ t
 gives_up_work s t (granted key input number mid t-1 does back) =
     then_work s mid t (claim_work s key input _ mid does.claims) (back_work mid key number _ t back)
 
-pub stop_work : (s t : DocumentCells) → StopsAt s t → IsWork s t
+pub stop_work : (s t : DocumentCells) → CellsStopAt s t → IsWork s t
 stop_work s t does = then_work s does.before t (settles_work s does.before does.settles) (gives_up_work does.before t does.gives_up)
 
 -- any work

@@ -3,12 +3,12 @@ use Rattle.std.proofs.Common.{◌≡◌, ℕ, ap, ◌∙◌, subst, arith, inl, 
 use Rattle.lay_cells.specs.declared.answers.Finished.{Finished}
 use Rattle.lay_cells.specs.declared.answers.Released.{Released}
 use Rattle.lay_shape.specs.declared.cell_key.CellKey.{CellKey}
-use Rattle.lay_document_cells.specs.Batches.{ClaimsSome as CellsClaimSome}
-use Rattle.lay_document_cells.specs.Claims.{AnswersClaim as CellsAnswerClaim, AnswersNext as CellsAnswerNext, DrawsFew as CellsDrawFew}
-use Rattle.lay_document_cells.specs.Outcomes.{FinishesAll as CellsFinishAll}
-use Rattle.lay_document_cells.specs.Settling.{SettlesTo as CellsSettleTo, StopsAt as CellsStopAt}
+use Rattle.lay_document_cells.specs.Batches.{CellsClaimSome}
+use Rattle.lay_document_cells.specs.Claims.{CellsAnswerClaim, CellsAnswerNext, CellsDrawFew}
+use Rattle.lay_document_cells.specs.Outcomes.{CellsFinishAll}
+use Rattle.lay_document_cells.specs.Settling.{CellsSettleTo, CellsStopAt}
 use Rattle.lay_document_cells.specs.State.{IsOfDocument, State as DocumentCells}
-use Rattle.lay_document_cells.specs.Steps.{FinishesTo as CellsFinishTo, GivesBackTo as CellsGiveBackTo}
+use Rattle.lay_document_cells.specs.Steps.{CellsFinishTo, CellsGiveBackTo}
 use Rattle.lay_cell_work.specs.ClaimLists.Outcomes.{Work}
 use Rattle.lay_core.specs.CellLaws.{BatchesAreUnseen, ClaimsAreUnseen, FinishesAreUnseen, GiveBacksAreUnseen, KeepsHistory, NextClaimsAreUnseen, OutcomesAreUnseen, SettlingIsUnseen, StoppingIsUnseen}
 use Rattle.lay_core.specs.Claims.{DrawsFew}

@@ -20,7 +20,7 @@ use Rattle.lay_document_cells.specs.State.{IsOfDocument, State as DocumentCells}
 use Rattle.lay_core.specs.Changes.{ChangesTo}
 use Rattle.lay_core.specs.State.{AreSolved, HasNumbers, IsCore, IsCounted, IsKept, State, document_cells, with_cells}
 use Rattle.lay_core.specs.Publishing.{with_tree}
-use Rattle.lay_core.specs.Steps.{EditsTo, IsRead, called}
+use Rattle.lay_core.specs.Steps.{EditsTo, IsReadEntry, called}
 use Rattle.lay_core.proofs.CellWork.{IsWork, no_work}
 
 version_at : (trees : List PublishedTreeValue) (k : ℕ) (d : PublishedTreeValue) → slice_index_or (versions_of trees) k d.version ≡ (slice_index_or trees k d).version
@@ -122,7 +122,7 @@ accepted_small s n room is =
     let a = accepted_few s.history in let f = is.is_core.few_calls in let c = is.count_is in omega (arith, a, f, c)
 
 -- a call that is to be shown a version
-pub read_keeps : (s : State) (e : Entry) (n room : ℕ) → IsKept s n room → 0 < s.calls_left → IsRead e → MayFollow s.init s.history e → IsKept (called s e) n room
+pub read_keeps : (s : State) (e : Entry) (n room : ℕ) → IsKept s n room → 0 < s.calls_left → IsReadEntry e → MayFollow s.init s.history e → IsKept (called s e) n room
 read_keeps s (Edit editor index edits r) n room is some read follows = absurd read
 read_keeps s (Publish v) n room is some read follows = absurd read
 read_keeps s (Latest editor index r) n room is some read follows =

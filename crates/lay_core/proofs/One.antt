@@ -22,23 +22,23 @@ use Rattle.lay_document_cells.specs.State.{IsOfDocument}
 use Rattle.lay_core.specs.State.{IsCore, State, document_cells, is_clean}
 use Rattle.lay_core.specs.Publishing.{Publishes, PublishesUnless, is_last, with_tree}
 use Rattle.lay_core.specs.Steps.{EditsDocument, ShowsLatest, ShowsPresent, ShowsVersion, called, due_of, is_due}
-use Rattle.lay_core.specs.Laws.{OneEdit, OneLatest, OnePublishing, OneRefreshing, OneSeenEdit, OneSettling, OneSync, seen}
+use Rattle.lay_core.specs.Laws.{OneReplyToEdit, OneLatest, OnePublishing, OneRefreshing, OneSeenEdit, OneSettling, OneSync, without_cells}
 use Rattle.lay_core.specs.declared.answers.Publish.TheVariants.{Published, Unsettled, NoMemory as no_publishing}
 
 pub one_settling : OneSettling
-one_settling s z t u same a b = ap seen a.state ∙ (same ∙ sym (ap seen b.state))
+one_settling s z t u same a b = ap without_cells a.state ∙ (same ∙ sym (ap without_cells b.state))
 
 -- to publish the layout of one document
-trees_are : OneSolution → (m n t u : State) → IsDocument m.document → seen m ≡ seen n → (p : PublishesUnless false m t) (q : PublishesUnless false n u) → p.tree ≡ q.tree
+trees_are : OneSolution → (m n t u : State) → IsDocument m.document → without_cells m ≡ without_cells n → (p : PublishesUnless false m t) (q : PublishesUnless false n u) → p.tree ≡ q.tree
 trees_are one m n t u valid same p q =
     one m.document m.face p.tree q.tree valid p.solves (subst (λ (x : State). Solves x.document x.face q.tree) (sym same) q.solves)
 
-seen_by : OneSolution → (b : Bool) (m n t u : State) → IsDocument m.document → seen m ≡ seen n → PublishesUnless b m t → PublishesUnless b n u → seen t ≡ seen u
-seen_by one true m n t u valid same p q = ap seen p ∙ (same ∙ sym (ap seen q))
+seen_by : OneSolution → (b : Bool) (m n t u : State) → IsDocument m.document → without_cells m ≡ without_cells n → PublishesUnless b m t → PublishesUnless b n u → without_cells t ≡ without_cells u
+seen_by one true m n t u valid same p q = ap without_cells p ∙ (same ∙ sym (ap without_cells q))
 seen_by one false m n t u valid same p q =
-    ap seen p.state ∙ (ap (with_tree (seen m)) (trees_are one m n t u valid same p q) ∙ (ap (λ x. with_tree x q.tree) same ∙ sym (ap seen q.state)))
+    ap without_cells p.state ∙ (ap (with_tree (without_cells m)) (trees_are one m n t u valid same p q) ∙ (ap (λ x. with_tree x q.tree) same ∙ sym (ap without_cells q.state)))
 
-published_seen : OneSolution → (m n t u : State) → IsDocument m.document → seen m ≡ seen n → Publishes m t → Publishes n u → seen t ≡ seen u
+published_seen : OneSolution → (m n t u : State) → IsDocument m.document → without_cells m ≡ without_cells n → Publishes m t → Publishes n u → without_cells t ≡ without_cells u
 published_seen one m n t u valid same p q =
     seen_by one (is_last m) m n t u valid same p (subst (λ b. PublishesUnless b n u) (sym (ap is_last same)) q)
 
@@ -81,7 +81,7 @@ edit_by one s t u edits is later e same a b =
         (subst (λ d. IsOfDocument d) (sym same) is.sound)
         (subst (λ d. IsDocument d) (ap (λ x. x.document) a.state) later.sound.cells.is_document) a.cells b.cells
 
-pub one_edit : OneCellsEdit → OneEdit
+pub one_edit : OneCellsEdit → OneReplyToEdit
 one_edit one s t u editor index edits (Accepted v) (Accepted w) is later q r a b =
     let same : v ≡ w = a.1 ∙ sym b.1 in (
       ap (λ n. Accepted n) same,
@@ -101,16 +101,16 @@ one_edit one s t u editor index edits (Shown v) y is later q r a b = absurd a
 one_edit one s t u editor index edits NoMemory y is later q r a b = absurd (q refl)
 
 -- what is seen of it
-faults_same : (s z : State) (edits : List Change) → seen s ≡ seen z → first s.document edits ≡ first z.document edits
+faults_same : (s z : State) (edits : List Change) → without_cells s ≡ without_cells z → first s.document edits ≡ first z.document edits
 faults_same s z edits same = ap (λ (x : State). first x.document edits) same
 
 pub one_seen_edit : OneSeenEdit
 one_seen_edit s z t u editor index edits (Accepted v) (Accepted w) same q r a b =
     let versions : v ≡ w = a.1 ∙ (ap (λ (x : State). accepted x.history + 1) same ∙ sym b.1) in (
       ap (λ n. Accepted n) versions,
-      ap seen a.2.state
+      ap without_cells a.2.state
           ∙ (ap (λ (x : State). record (called x (Edit editor index edits (Accepted v))) { document = after_all x.document edits }) same
-          ∙ (ap (λ n. record (called (seen z) (Edit editor index edits (Accepted n))) { document = after_all z.document edits }) versions ∙ sym (ap seen b.2.state))),
+          ∙ (ap (λ n. record (called (without_cells z) (Edit editor index edits (Accepted n))) { document = after_all z.document edits }) versions ∙ sym (ap without_cells b.2.state))),
     )
 one_seen_edit s z t u editor index edits (Accepted v) (Refused place g) same q r a b =
     absurd (none-some (place, g) (sym a.0 ∙ (faults_same s z edits same ∙ b.0)))
@@ -121,16 +121,16 @@ one_seen_edit s z t u editor index edits (Refused place f) (Accepted w) same q r
 one_seen_edit s z t u editor index edits (Refused place f) (Refused place' g) same q r a b =
     let faults = same_Some (place, f) (place', g) (sym a.0 ∙ (faults_same s z edits same ∙ b.0)) in (
       ap (λ (x : ℕ × EditFault). Refused x.0 x.1) faults,
-      ap seen a.1 ∙ (ap (λ x. called x (Edit editor index edits (Refused place f))) same
-          ∙ (ap (λ (x : ℕ × EditFault). called (seen z) (Edit editor index edits (Refused x.0 x.1))) faults ∙ sym (ap seen b.1))),
+      ap without_cells a.1 ∙ (ap (λ x. called x (Edit editor index edits (Refused place f))) same
+          ∙ (ap (λ (x : ℕ × EditFault). called (without_cells z) (Edit editor index edits (Refused x.0 x.1))) faults ∙ sym (ap without_cells b.1))),
     )
 one_seen_edit s z t u editor index edits (Refused place f) (Shown w) same q r a b = absurd b
 one_seen_edit s z t u editor index edits (Refused place f) NoMemory same q r a b = absurd (r refl)
 one_seen_edit s z t u editor index edits (Shown v) y same q r a b = absurd a
 one_seen_edit s z t u editor index edits NoMemory y same q r a b = absurd (q refl)
 
-present_by : OneRefreshing → (s z t u : State) (q r : Reply) → IsDocument s.document → seen s ≡ seen z → (q ≡ NoMemory → ⊥) → (r ≡ NoMemory → ⊥)
-    → ShowsPresent s q t → ShowsPresent z r u → (q ≡ r) × (seen t ≡ seen u)
+present_by : OneRefreshing → (s z t u : State) (q r : Reply) → IsDocument s.document → without_cells s ≡ without_cells z → (q ≡ NoMemory → ⊥) → (r ≡ NoMemory → ⊥)
+    → ShowsPresent s q t → ShowsPresent z r u → (q ≡ r) × (without_cells t ≡ without_cells u)
 present_by one s z t u (Shown v) (Shown w) valid same q r a b =
     (ap (λ n. Shown n) (a.0 ∙ (ap (λ (x : State). accepted x.history) same ∙ sym b.0)), one s z t u valid same a.1 b.1)
 present_by one s z t u (Shown v) (Accepted w) valid same q r a b = absurd b
@@ -149,15 +149,15 @@ version_by o (Accepted v) y a b = absurd a
 version_by o (Refused place f) y a b = absurd a
 version_by o NoMemory y a b = absurd a
 
-latest_by : OneRefreshing → (due : Bool) (s z t u : State) (q r : Reply) → IsDocument s.document → seen s ≡ seen z → (q ≡ NoMemory → ⊥) → (r ≡ NoMemory → ⊥)
-    → ShowsLatest due s q t → ShowsLatest due z r u → (q ≡ r) × (seen t ≡ seen u)
+latest_by : OneRefreshing → (due : Bool) (s z t u : State) (q r : Reply) → IsDocument s.document → without_cells s ≡ without_cells z → (q ≡ NoMemory → ⊥) → (r ≡ NoMemory → ⊥)
+    → ShowsLatest due s q t → ShowsLatest due z r u → (q ≡ r) × (without_cells t ≡ without_cells u)
 latest_by one true s z t u x y valid same q r a b = present_by one s z t u x y valid same q r a b
 latest_by one false s z t u x y valid same q r a b = (
   version_by (last_published s.history) x y a.0 (subst (λ (k : State). ShowsVersion (last_published k.history) y) (sym same) b.0),
-  ap seen a.1 ∙ (same ∙ sym (ap seen b.1)),
+  ap without_cells a.1 ∙ (same ∙ sym (ap without_cells b.1)),
 )
 
-due_same : (s z : State) → seen s ≡ seen z → is_clean s ≡ is_clean z → is_due s ≡ is_due z
+due_same : (s z : State) → without_cells s ≡ without_cells z → is_clean s ≡ is_clean z → is_due s ≡ is_due z
 due_same s z same clean =
     ap (λ (x : State). due_of (last_published x.history) (is_clean s) (accepted x.history)) same
     ∙ ap (λ c. due_of (last_published z.history) c (accepted z.history)) clean
@@ -167,14 +167,14 @@ one_latest one s z t u editor index x y valid same clean q r a b =
     let shows = latest_by one (is_due s) s z a.before b.before x y valid same q r a.shows
     (subst (λ due. ShowsLatest due z y b.before) (sym (due_same s z same clean)) b.shows) in (
       shows.0,
-      ap seen a.state ∙ (ap (λ m. called m (Latest editor index x)) shows.1
-          ∙ (ap (λ k. called (seen b.before) (Latest editor index k)) shows.0 ∙ sym (ap seen b.state))),
+      ap without_cells a.state ∙ (ap (λ m. called m (Latest editor index x)) shows.1
+          ∙ (ap (λ k. called (without_cells b.before) (Latest editor index k)) shows.0 ∙ sym (ap without_cells b.state))),
     )
 
 pub one_sync : OneRefreshing → OneSync
 one_sync one s z t u editor index x y valid same q r a b =
     let shows = present_by one s z a.before b.before x y valid same q r a.shows b.shows in (
       shows.0,
-      ap seen a.state ∙ (ap (λ m. called m (Sync editor index x)) shows.1
-          ∙ (ap (λ k. called (seen b.before) (Sync editor index k)) shows.0 ∙ sym (ap seen b.state))),
+      ap without_cells a.state ∙ (ap (λ m. called m (Sync editor index x)) shows.1
+          ∙ (ap (λ k. called (without_cells b.before) (Sync editor index k)) shows.0 ∙ sym (ap without_cells b.state))),
     )

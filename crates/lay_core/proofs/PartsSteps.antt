@@ -6,7 +6,7 @@ use Rattle.lay_history.specs.declared.edits.history.Entry.TheVariants.{Latest, S
 use Rattle.lay_cells.specs.Reads.{AllClean}
 use Rattle.lay_history.specs.Histories.{accepted, last_or, last_published}
 use Rattle.lay_history.specs.Trees.{PublishedTreeValue, versions_of}
-use Rattle.lay_document_cells.specs.Settling.{SettlesTo as CellsSettleTo, StopsAt as CellsStopAt, none}
+use Rattle.lay_document_cells.specs.Settling.{CellsSettleTo, CellsStopAt, none}
 use Rattle.lay_document_cells.specs.State.{IsOfDocument, State as DocumentCells}
 use Rattle.lay_core.specs.Parts.{parts}
 use Rattle.lay_core.specs.Publishing.{IsBehind, Publishes, PublishesTo, RefreshesTo, is_version}

@@ -72,30 +72,30 @@ pub record KeepsHistory (s t : State) : Type 0 where
   pub calls_left : t.calls_left ≡ s.calls_left
 
 -- what is done so to a core is seen by no editor
-abbrev pub IsUnseen : (State → State → Type 0) → Type 0
-IsUnseen Does = (s t : State) → Does s t → KeepsHistory s t
+abbrev pub IsUnnoticed : (State → State → Type 0) → Type 0
+IsUnnoticed Does = (s t : State) → Does s t → KeepsHistory s t
 
 abbrev pub SettlingIsUnseen : Type 0
-SettlingIsUnseen = IsUnseen SettlesTo
+SettlingIsUnseen = IsUnnoticed SettlesTo
 
 abbrev pub StoppingIsUnseen : Type 0
-StoppingIsUnseen = IsUnseen StopsAt
+StoppingIsUnseen = IsUnnoticed StopsAt
 
 abbrev pub ClaimsAreUnseen : Type 0
-ClaimsAreUnseen = (key : CellKey) (answer : Answer) → IsUnseen (λ s t. AnswersClaim s key answer t)
+ClaimsAreUnseen = (key : CellKey) (answer : Answer) → IsUnnoticed (λ s t. AnswersClaim s key answer t)
 
 abbrev pub NextClaimsAreUnseen : Type 0
-NextClaimsAreUnseen = (next : Next) → IsUnseen (λ s t. AnswersNext s next t)
+NextClaimsAreUnseen = (next : Next) → IsUnnoticed (λ s t. AnswersNext s next t)
 
 abbrev pub FinishesAreUnseen : Type 0
-FinishesAreUnseen = (done : Work) (answer : Finished) → IsUnseen (λ s t. FinishesTo s done answer t)
+FinishesAreUnseen = (done : Work) (answer : Finished) → IsUnnoticed (λ s t. FinishesTo s done answer t)
 
 abbrev pub GiveBacksAreUnseen : Type 0
-GiveBacksAreUnseen = (key : CellKey) (number : ℕ) (answer : Released) → IsUnseen (λ s t. GivesBackTo s key number answer t)
+GiveBacksAreUnseen = (key : CellKey) (number : ℕ) (answer : Released) → IsUnnoticed (λ s t. GivesBackTo s key number answer t)
 
 abbrev pub BatchesAreUnseen : Type 0
 BatchesAreUnseen =
-    (limit : ℕ) (claims : List Claim) (answer : Result (Option IdleKind) NoMemory) → IsUnseen (λ s t. ClaimsSome s limit claims answer t)
+    (limit : ℕ) (claims : List Claim) (answer : Result (Option IdleKind) NoMemory) → IsUnnoticed (λ s t. ClaimsSome s limit claims answer t)
 
 abbrev pub OutcomesAreUnseen : Type 0
-OutcomesAreUnseen = (outcomes : List Outcome) (tally : Tally) → IsUnseen (λ s t. FinishesAll s outcomes tally t)
+OutcomesAreUnseen = (outcomes : List Outcome) (tally : Tally) → IsUnnoticed (λ s t. FinishesAll s outcomes tally t)

@@ -4,7 +4,7 @@ use Rattle.lay_doc.specs.declared.edit.Edit.{Edit as Change}
 use Rattle.lay_history.specs.Edits.EditLists.{fault_at, first}
 use Rattle.lay_history.specs.declared.edits.command.Reply.{Reply}
 use Rattle.lay_history.specs.declared.edits.command.Reply.TheVariants.{Accepted, Refused, Shown, NoMemory}
-use Rattle.lay_document_cells.specs.Edits.{EditsTo as CellsEditTo}
+use Rattle.lay_document_cells.specs.Edits.{CellsEditTo}
 use Rattle.lay_document_cells.specs.State.{State as DocumentCells}
 
 abbrev pub ChangesTo : List Change → Reply → DocumentCells × ℕ → DocumentCells × ℕ → Type 0

@@ -6,10 +6,10 @@ use Rattle.lay_cells.specs.declared.answers.Released.{Released}
 use Rattle.lay_shape.specs.declared.cell_key.CellKey.{CellKey}
 use Rattle.lay_cell_work.specs.Claims.{Claim}
 use Rattle.lay_cell_work.specs.declared.claim_lists.outcome.Outcome.{Outcome}
-use Rattle.lay_document_cells.specs.Batches.{ClaimsSome as CellsClaimSome}
-use Rattle.lay_document_cells.specs.Claims.{AnswersClaim as CellsAnswerClaim, AnswersNext as CellsAnswerNext}
-use Rattle.lay_document_cells.specs.Outcomes.{FinishesAll as CellsFinishAll, Tally}
-use Rattle.lay_document_cells.specs.Steps.{FinishesTo as CellsFinishTo, GivesBackTo as CellsGiveBackTo}
+use Rattle.lay_document_cells.specs.Batches.{CellsClaimSome}
+use Rattle.lay_document_cells.specs.Claims.{CellsAnswerClaim, CellsAnswerNext}
+use Rattle.lay_document_cells.specs.Outcomes.{CellsFinishAll, Tally}
+use Rattle.lay_document_cells.specs.Steps.{CellsFinishTo, CellsGiveBackTo}
 use Rattle.lay_cell_work.specs.ClaimLists.Outcomes.{Work}
 use Rattle.lay_document_cells.specs.declared.answers.Answer.{Answer}
 use Rattle.lay_document_cells.specs.declared.answers.Next.{Next}

@@ -19,12 +19,12 @@ use Rattle.lay_core.specs.declared.answers.Publish.{Publish}
 use Rattle.lay_core.specs.declared.answers.Publish.TheVariants.{NoMemory as no_publishing}
 
 -- without the cells and the number of grants
-abbrev pub seen : State → State
-seen s = record s { cells = record { rows = []; draws = 0 }; laid = 0 }
+abbrev pub without_cells : State → State
+without_cells s = record s { cells = record { rows = []; draws = 0 }; laid = 0 }
 
 -- document, history and trees are the same, and what else editors see
 abbrev pub AreSeenAlike : State → State → Type 0
-AreSeenAlike s z = seen s ≡ seen z
+AreSeenAlike s z = without_cells s ≡ without_cells z
 
 -- where cells are settled, nothing is seen of it
 abbrev pub OneSettling : Type 0
@@ -39,8 +39,8 @@ OnePublishing = (s t u : State) (p q : Publish) → IsDocument s.document → (p
     → PublishesTo s p t → PublishesTo s q u → (p ≡ q) × (t ≡ u)
 
 -- an edit has one reply and leaves one state, also of cells
-abbrev pub OneEdit : Type 0
-OneEdit = (s t u : State) (editor index : ℕ) (edits : List Change) (q r : Reply) → IsCore s → IsCore t
+abbrev pub OneReplyToEdit : Type 0
+OneReplyToEdit = (s t u : State) (editor index : ℕ) (edits : List Change) (q r : Reply) → IsCore s → IsCore t
     → (q ≡ NoMemory → ⊥) → (r ≡ NoMemory → ⊥)
     → EditsTo s editor index edits q t → EditsTo s editor index edits r u → (q ≡ r) × (t ≡ u)
 

@@ -10,7 +10,7 @@ use Rattle.lay_history.specs.declared.edits.history.Entry.{Entry}
 use Rattle.lay_history.specs.declared.edits.history.Entry.TheVariants.{Edit, Publish, Latest, Sync}
 use Rattle.lay_face.specs.FaceValue.{FaceValue}
 use Rattle.lay_history.specs.Histories.{accepted, last_published}
-use Rattle.lay_document_cells.specs.Edits.{EditsTo as CellsEditTo}
+use Rattle.lay_document_cells.specs.Edits.{CellsEditTo}
 use Rattle.lay_document_cells.specs.State.{IsNew}
 use Rattle.lay_core.specs.State.{State, document_cells, is_clean}
 use Rattle.lay_core.specs.Publishing.{RefreshesTo, is_version}
@@ -82,8 +82,8 @@ pub record SyncTo (s : State) (editor index : ℕ) (reply : Reply) (t : State) :
   pub state : t ≡ called before (Sync editor index reply)
 
 -- the entry of a command that is to be shown a version
-abbrev pub IsRead : Entry → Type 0
-IsRead (Edit editor index edits reply) = ⊥
-IsRead (Publish version) = ⊥
-IsRead (Latest editor index reply) = ⊤
-IsRead (Sync editor index reply) = ⊤
+abbrev pub IsReadEntry : Entry → Type 0
+IsReadEntry (Edit editor index edits reply) = ⊥
+IsReadEntry (Publish version) = ⊥
+IsReadEntry (Latest editor index reply) = ⊤
+IsReadEntry (Sync editor index reply) = ⊤

@@ -1,6 +1,6 @@
 -- Work on the cells of a core: the document, the history and the trees stay as they are.
 use Rattle.std.specs.Prelude.{◌≡◌, ◌⊎◌}
-use Rattle.lay_document_cells.specs.Settling.{SettlesTo as CellsSettleTo, StopsAt as CellsStopAt}
+use Rattle.lay_document_cells.specs.Settling.{CellsSettleTo, CellsStopAt}
 use Rattle.lay_document_cells.specs.State.{State as DocumentCells}
 use Rattle.lay_document_cells.specs.Steps.{Works}
 use Rattle.lay_core.specs.State.{State, document_cells}

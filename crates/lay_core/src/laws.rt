@@ -5,7 +5,7 @@ ghost use Rattle.lay_core.specs.CellLaws.{BatchesAreUnseen, BatchesAreWork, Clai
 ghost use Rattle.lay_core.specs.CellLaws.{FinishesAreWork, GiveBacksAreUnseen, GiveBacksAreWork, LatestIsWork, NextClaimsAreUnseen};
 ghost use Rattle.lay_core.specs.CellLaws.{NextClaimsAreWork, OutcomesAreUnseen, OutcomesAreWork, PublishingIsWork, RefreshingIsWork};
 ghost use Rattle.lay_core.specs.CellLaws.{SettlingIsUnseen, SettlingIsWork, StoppingIsUnseen, StoppingIsWork, SyncIsWork};
-ghost use Rattle.lay_core.specs.Laws.{LastTree, OneEdit, OneLatest, OnePublishing, OneRefreshing};
+ghost use Rattle.lay_core.specs.Laws.{LastTree, OneReplyToEdit, OneLatest, OnePublishing, OneRefreshing};
 ghost use Rattle.lay_core.specs.Laws.{OneSeenEdit, OneSettling, OneSync, ShownTrees};
 
 use lay_cell_work::Layout;
@@ -35,7 +35,7 @@ pub fn one_publishing()
 
 /// An edit has one reply, and leaves one state.
 pub fn one_edit()
-    ensures { OneEdit }
+    ensures { OneReplyToEdit }
 {
     one_cells_edit();
 }

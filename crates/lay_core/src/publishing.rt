@@ -1,7 +1,7 @@
 //! How the cells are settled and a version is published.
 
 ghost use Rattle.std.specs.Prelude.{◌≡◌, ◌≢◌, ◌<◌, ◌≤◌, ◌^◌, ◌+◌, ◌⊎◌, None, Some, OnErr, OnOk, false, length, vec_capacity};
-ghost use Rattle.lay_document_cells.specs.Settling.{SettlesTo as CellsSettleTo, StopsAt as CellsStopAt};
+ghost use Rattle.lay_document_cells.specs.Settling.{CellsSettleTo, CellsStopAt};
 ghost use Rattle.lay_cells.specs.Reads.{AllClean};
 ghost use Rattle.lay_history.specs.Histories.{accepted, last_or};
 ghost use Rattle.lay_history.specs.Trees.{HasTrees, versions_of};

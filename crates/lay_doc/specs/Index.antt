@@ -21,12 +21,12 @@ abbrev pub place_in : IdIndex → ℕ → Option ℕ
 place_in index id = option_map (λ n. slice_index index.places.items n) (number_in index id)
 
 -- each number that an id has is one of those that have a place
-abbrev pub HasPlaces : IdIndex → Type 0
-HasPlaces index = (id : ℕ) → IfSome (number_in index id) (λ n. n < length index.places.items)
+abbrev pub NumbersHavePlaces : IdIndex → Type 0
+NumbersHavePlaces index = (id : ℕ) → IfSome (number_in index id) (λ n. n < length index.places.items)
 
 -- the index finds just the places of these ids
 pub record IsIndexOf (index : IdIndex) (ids : List ℕ) : Type 0 where
-  pub places : HasPlaces index
+  pub places : NumbersHavePlaces index
   pub found : (id : ℕ) → place_in index id ≡ place_of id ids
   pub count : length index.places.items ≡ length ids
   pub within : (n : ℕ) → n < length index.places.items → slice_index index.places.items n < length ids

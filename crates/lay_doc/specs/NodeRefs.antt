@@ -12,5 +12,5 @@ abbrev pub parent_id : List Node → ℕ → NodeId
 parent_id nodes k = record { 0 = if k == 0 then 0 else slice_index (ids_of nodes) (slice_index (parents_of nodes) k) }
 
 -- the node at a place, where the place is below the number of nodes
-abbrev pub node_at : List Node → ℕ → Option NodeRefValue
-node_at nodes k = option_map (λ n. record { node = n; parent = parent_id nodes k }) (slice_get nodes k)
+abbrev pub node_ref_at : List Node → ℕ → Option NodeRefValue
+node_ref_at nodes k = option_map (λ n. record { node = n; parent = parent_id nodes k }) (slice_get nodes k)

@@ -6,7 +6,7 @@ ghost use Rattle.lay_units.specs.Limits.{longest_text, most_depth, most_nodes, m
 ghost use Rattle.lay_style.specs.Places.{place_of};
 ghost use Rattle.lay_doc.specs.Document.{IsDocument, ids_of, parents_of, depths_of, text_size};
 ghost use Rattle.lay_doc.specs.Document.{is_element_at, is_text_at, inserted, becomes, root_document};
-ghost use Rattle.lay_doc.specs.NodeRefs.{node_at, parent_id};
+ghost use Rattle.lay_doc.specs.NodeRefs.{node_ref_at, parent_id};
 ghost use Rattle.lay_doc.specs.Tree.{IsSlot, children_before, child_count, end_of};
 ghost use Rattle.lay_doc.specs.Changes.{style_fault, text_fault, text_fault_at, with_style};
 ghost use Rattle.lay_doc.specs.Changes.{without_style, with_text, changed_at, after_change};
@@ -134,7 +134,7 @@ impl Doc {
 
     /// The node at a place; None where the place isn't below the number of nodes.
     pub fn node(&self, place: usize) -> Option<NodeRef<'_>>
-        ensures { result ≡ node_at self.now.nodes place }
+        ensures { result ≡ node_ref_at self.now.nodes place }
     {
         let node = self.nodes.get(place)?;
         let parent = parent_id(&self.nodes, place);

@@ -6,7 +6,7 @@ ghost use Rattle.std.specs.BTreeMap.{get};
 ghost use Rattle.std.specs.Ordering.{nat_cmp};
 ghost use Rattle.lay_units.specs.Limits.{most_nodes};
 ghost use Rattle.lay_doc.specs.Tree.{shifted};
-ghost use Rattle.lay_doc.specs.Index.{is_up_to, number_in, place_in, HasPlaces, IsIndexOf};
+ghost use Rattle.lay_doc.specs.Index.{is_up_to, number_in, place_in, NumbersHavePlaces, IsIndexOf};
 ghost use Rattle.lay_doc.specs.Document.{ids_of};
 ghost use Rattle.std.specs.List.{remove_range};
 
@@ -66,7 +66,7 @@ impl IdIndex {
 
     /// The place of the node with this id.
     pub fn find(&self, id: u32) -> Option<usize>
-        requires { HasPlaces self.now }
+        requires { NumbersHavePlaces self.now }
         ensures { result ≡ place_in self.now id }
     {
         let number = self.number(id)?;

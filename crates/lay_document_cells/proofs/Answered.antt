@@ -30,7 +30,7 @@ use Rattle.lay_cell_work.specs.CellLaws.SoundCells.{CellRow, CellState, input_no
 use Rattle.lay_kept_cells.specs.Steps.CellSteps.{NewCellsAreSound, no_cells}
 use Rattle.lay_kept_cells.specs.Steps.ReadyCells.{AssembledTreesSolve}
 use Rattle.lay_shape.specs.Touched.ContextFlags.{ContextLists}
-use Rattle.lay_kept_cells.specs.Table.TableCells.{AreCellsOn, IsGivenNow as IsGivenThere, workings_in}
+use Rattle.lay_kept_cells.specs.Table.TableCells.{AreCellsOn, IsGivenBy as IsGivenThere, workings_in}
 use Rattle.lay_document_cells.specs.Kept.{IsKept, TableValue}
 use Rattle.lay_document_cells.specs.Laws.{CleanCellsAreCounted}
 use Rattle.lay_document_cells.specs.Settling.{FinishesWork, GivesBackWork}

@@ -7,12 +7,12 @@ use Rattle.lay_cells.specs.declared.answers.Released.{Released}
 use Rattle.lay_shape.specs.declared.cell_key.CellKey.{CellKey}
 use Rattle.lay_cell_work.specs.Claims.{Claim}
 use Rattle.lay_cell_work.specs.declared.claim_lists.outcome.Outcome.{Outcome}
-use Rattle.lay_document_cells.specs.Batches.{ClaimsSome, Grants, GrantsNone, IsBatchAnswer, IsNoGrant, fewer, full, more, none, start}
-use Rattle.lay_document_cells.specs.Claims.{AnswersNext}
-use Rattle.lay_document_cells.specs.Outcomes.{FinishesAll, HandsIn, HandsInEach, Reply, Tally, counted, is_back, is_cleaned, is_gone, is_stored, is_superseded, no_answers, tally_of, tally_sum}
+use Rattle.lay_document_cells.specs.Batches.{CellsClaimSome, Grants, GrantsNone, IsBatchAnswer, IsNoGrant, fewer, full, more, none, start}
+use Rattle.lay_document_cells.specs.Claims.{CellsAnswerNext}
+use Rattle.lay_document_cells.specs.Outcomes.{CellsFinishAll, HandsIn, HandsInEach, Reply, Tally, tallied, is_back, is_cleaned, is_gone, is_stored, is_superseded, no_answers, tally_of, tally_sum}
 use Rattle.lay_document_cells.specs.Outcomes.{more as one_more, start as no_outcomes}
 use Rattle.lay_document_cells.specs.State.{State}
-use Rattle.lay_document_cells.specs.Steps.{FinishesTo, GivesBackTo}
+use Rattle.lay_document_cells.specs.Steps.{CellsFinishTo, CellsGiveBackTo}
 use Rattle.lay_cell_work.specs.ClaimLists.Outcomes.{Work}
 use Rattle.lay_cell_work.specs.CellLaws.SoundCells.{CellState}
 use Rattle.lay_document_cells.specs.declared.answers.Next.{Next}
@@ -26,7 +26,7 @@ no_grant (next.Busy number) other = tt
 no_grant next.Spent other = tt
 no_grant next.NoMemory other = tt
 
-pub grants_none : (s t : State) (a : Next) → AnswersNext s a t → ((c : Claim) → a ≡ next.Granted c → ⊥) → GrantsNone s a t
+pub grants_none : (s t : State) (a : Next) → CellsAnswerNext s a t → ((c : Claim) → a ≡ next.Granted c → ⊥) → GrantsNone s a t
 grants_none s t a answers other = record { answers = answers; none = no_grant a other }
 
 pub push_length : {X : Type 0} (xs : List X) (x : X) (n : ℕ) → length xs ≡ n → length (xs ++ x ∷ []) ≡ n + 1
@@ -39,14 +39,14 @@ no_steps s claims m e (more before c mid m-1 g a) = absurd (let l = push_length 
 
 pub claims_end : (s m t : State) (limit : ℕ) (claims : List Claim) (a : Next) (r : Result (Option IdleKind) NoMemory) → length claims < limit
     → Grants s claims m → GrantsNone m a t → (length claims ≡ 0 → IsBatchAnswer a r) → (0 < length claims → r ≡ Ok None)
-    → ClaimsSome s limit claims r t
+    → CellsClaimSome s limit claims r t
 claims_end s m t limit [] a r lt g end none_is some_is =
     none a r t (subst (λ x. GrantsNone x a t) (no_steps s [] m refl g).1 end) (none_is refl)
 claims_end s m t limit (c ∷ claims) a r lt g end none_is some_is =
-    subst (λ x. ClaimsSome s limit (c ∷ claims) x t) (sym (some_is (omega arith)))
+    subst (λ x. CellsClaimSome s limit (c ∷ claims) x t) (sym (some_is (omega arith)))
     (fewer (c ∷ claims) a m t g (omega arith) lt end)
 
-pub claims_full : (s t : State) (limit n : ℕ) (claims : List Claim) → Grants s claims t → length claims ≡ n → n ≡ limit → ClaimsSome s limit claims (Ok None) t
+pub claims_full : (s t : State) (limit n : ℕ) (claims : List Claim) → Grants s claims t → length claims ≡ n → n ≡ limit → CellsClaimSome s limit claims (Ok None) t
 claims_full s t limit n claims g count is = full claims t g (count ∙ is)
 
 pub all_yielded : {X : Type 0} (xs rest all : List X) → xs ++ rest ≡ all → length rest ≡ 0 → xs ≡ all
@@ -62,9 +62,9 @@ same_tally t u a b c d e =
     ∙ ap (λ n. record { cleaned = u.cleaned; stored = u.stored; superseded = u.superseded; gone = n; back = t.back }) d
     ∙ ap (λ n. record { cleaned = u.cleaned; stored = u.stored; superseded = u.superseded; gone = u.gone; back = n }) e
 
-pub tally_more : (replies : List Reply) (reply : Reply) → counted (tally_of replies) reply ≡ tally_of (replies ++ reply ∷ [])
+pub tally_more : (replies : List Reply) (reply : Reply) → tallied (tally_of replies) reply ≡ tally_of (replies ++ reply ∷ [])
 tally_more replies reply =
-    same_tally (counted (tally_of replies) reply) (tally_of (replies ++ reply ∷ [])) (more_of is_cleaned) (more_of is_stored) (more_of is_superseded)
+    same_tally (tallied (tally_of replies) reply) (tally_of (replies ++ reply ∷ [])) (more_of is_cleaned) (more_of is_stored) (more_of is_superseded)
     (more_of is_gone) (more_of is_back)
   where
     more_of : (p : Reply → Bool) → count_by p replies + cond (p reply) 1 0 ≡ count_by p (replies ++ reply ∷ [])
@@ -72,7 +72,7 @@ tally_more replies reply =
 
 -- what is handed in so far, with its counts
 pub record IsHanded (s : State) (outcomes : List Outcome) (tally : Tally) (t : State) : Type 0 where
-  pub finishes : FinishesAll s outcomes tally t
+  pub finishes : CellsFinishAll s outcomes tally t
   pub sum : tally_sum tally ≡ length outcomes
   pub draws : t.cells.draws ≡ s.cells.draws
 
@@ -84,25 +84,25 @@ handed_none s tally e = record {
 }
 
 pub handed_more : (s m t : State) (outcomes : List Outcome) (tally after : Tally) (o : Outcome) (reply : Reply) → IsHanded s outcomes tally m
-    → HandsIn m o reply t → after ≡ counted tally reply → tally_sum after ≡ tally_sum tally + 1 → t.cells.draws ≡ m.cells.draws
+    → HandsIn m o reply t → after ≡ tallied tally reply → tally_sum after ≡ tally_sum tally + 1 → t.cells.draws ≡ m.cells.draws
     → IsHanded s (outcomes ++ o ∷ []) after t
 handed_more s m t outcomes tally after o reply h hands counts sum draws = record {
   finishes = record {
     replies = h.finishes.replies ++ reply ∷ [];
     each = one_more outcomes h.finishes.replies o reply m t h.finishes.each hands;
-    counts = counts ∙ ap (λ (x : Tally). counted x reply) h.finishes.counts ∙ tally_more h.finishes.replies reply;
+    counts = counts ∙ ap (λ (x : Tally). tallied x reply) h.finishes.counts ∙ tally_more h.finishes.replies reply;
   };
   sum = let a = h.sum in let l = length-append outcomes (o ∷ []) in omega (arith, a, l, sum);
   draws = draws ∙ h.draws;
 }
 
-pub finish_draws : (s : State) (d : Work) (a : Finished) (t : State) → FinishesTo s d a t → t.cells.draws ≡ s.cells.draws
+pub finish_draws : (s : State) (d : Work) (a : Finished) (t : State) → CellsFinishTo s d a t → t.cells.draws ≡ s.cells.draws
 finish_draws s d a t does = ap (λ (x : State). x.cells.draws) does.state ∙ elim does.finishes [
   | inl gone ↦ ap (λ (x : CellState). x.draws) gone.2
   | inr done ↦ ap (λ (x : CellState). x.draws) done.5
 ]
 
-pub back_draws : (s : State) (key : CellKey) (number : ℕ) (a : Released) (t : State) → GivesBackTo s key number a t → t.cells.draws ≡ s.cells.draws
+pub back_draws : (s : State) (key : CellKey) (number : ℕ) (a : Released) (t : State) → CellsGiveBackTo s key number a t → t.cells.draws ≡ s.cells.draws
 back_draws s key number a t does = ap (λ (x : State). x.cells.draws) does.state ∙ elim does.gives_back [
   | inl gone ↦ ap (λ (x : CellState). x.draws) gone.2
   | inr back ↦ ap (λ (x : CellState). x.draws) back.5

@@ -11,8 +11,8 @@ use Rattle.lay_cell_work.specs.CellInputs.{CellInput}
 use Rattle.lay_cell_work.specs.Claims.{Claim}
 use Rattle.lay_cell_work.specs.declared.claim_lists.outcome.Outcome.{Outcome}
 use Rattle.lay_cell_work.specs.declared.claim_lists.outcome.Outcome.TheVariants as outcome
-use Rattle.lay_document_cells.specs.Batches.{ClaimsSome, Grants, fewer, full, more, none as no_grants, start}
-use Rattle.lay_document_cells.specs.Claims.{AnswersClaim, AnswersNext, ClaimsFor, DrawsFew, IsOpenToClaims, Passes, none as none_passed, reused, taken}
+use Rattle.lay_document_cells.specs.Batches.{CellsClaimSome, Grants, fewer, full, more, none as no_grants, start}
+use Rattle.lay_document_cells.specs.Claims.{CellsAnswerClaim, CellsAnswerNext, ClaimsFor, CellsDrawFew, IsOpenToClaims, Passes, none as none_passed, reused, taken}
 use Rattle.lay_document_cells.specs.Laws.{BatchesWork, ClaimsWork, NextClaimsWork, OutcomesWork}
 use Rattle.lay_document_cells.specs.Outcomes.{HandsIn, HandsInEach, Reply, finished, more as one_more, released, start as no_outcomes}
 use Rattle.lay_document_cells.specs.State.{State}
@@ -90,17 +90,17 @@ one_draw (Taken n) draws = omega arith
 one_draw Reused draws = omega arith
 one_draw (Granted n) draws = omega arith
 
-same_draws : (s t : State) → t ≡ s → DrawsFew s t
+same_draws : (s t : State) → t ≡ s → CellsDrawFew s t
 same_draws s t same = inl (ap (λ (x : State). x.cells.draws) same)
 
-claimed_draws : (s : State) (key : CellKey) (input : CellInput) (a : Claimed) (t : State) → IsOpenToClaims s → ClaimsTo s key input a t → DrawsFew s t
+claimed_draws : (s : State) (key : CellKey) (input : CellInput) (a : Claimed) (t : State) → IsOpenToClaims s → ClaimsTo s key input a t → CellsDrawFew s t
 claimed_draws s key input a t few does =
     let cells = ap (λ (x : State). x.cells.draws) does.state in
     let drawn = ap (λ (x : CellState). x.draws) does.claims.5 in
     let one = one_draw a s.cells.draws in
     inr (few, omega (arith, cells, drawn, one))
 
-pub answer_draws : (s t : State) (key : CellKey) (a : Answer) → AnswersClaim s key a t → DrawsFew s t
+pub answer_draws : (s t : State) (key : CellKey) (a : Answer) → CellsAnswerClaim s key a t → CellsDrawFew s t
 answer_draws s t key answer.Gone does = same_draws s t does.1
 answer_draws s t key answer.Clean does = same_draws s t does.1
 answer_draws s t key (answer.Waiting need) does = same_draws s t does.1
@@ -112,6 +112,6 @@ answer_draws s t key (answer.Granted c) does = claimed_draws s key _ _ t does.0 
 
 -- the answer at a place is that of the key there
 pub answer_of : (s t : State) (place : ℕ) (key : CellKey) (a : Answer) (r : CellRow) → IsAt s.cells.rows key place r
-    → AtPlace s.cells.rows place (λ q. AnswersClaim s q.key a t) → AnswersClaim s key a t
+    → AtPlace s.cells.rows place (λ q. CellsAnswerClaim s q.key a t) → CellsAnswerClaim s key a t
 answer_of s t place key a r at h =
-    subst (λ k. AnswersClaim s k a t) (ap (λ (z : CellRow). z.key) (one_at s.cells.rows place h.0 r h.1 at.0) ∙ at.1) h.2
+    subst (λ k. CellsAnswerClaim s k a t) (ap (λ (z : CellRow). z.key) (one_at s.cells.rows place h.0 r h.1 at.0) ∙ at.1) h.2

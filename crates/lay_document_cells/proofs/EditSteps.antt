@@ -14,7 +14,7 @@ use Rattle.lay_cell_work.specs.CellLaws.DocumentCells.{AreDocumentCells}
 use Rattle.lay_cell_work.specs.CellLaws.SoundCells.{CellState}
 use Rattle.lay_kept_cells.specs.ListSteps.EditedLists.{ListsKeepCells}
 use Rattle.lay_shape.specs.Touched.Laws.{TouchedContextsAreListed}
-use Rattle.lay_document_cells.specs.Edits.{EditsTo, FollowsLists}
+use Rattle.lay_document_cells.specs.Edits.{CellsEditTo, FollowsLists}
 use Rattle.lay_document_cells.specs.Kept.{IsKept, TableValue}
 use Rattle.lay_document_cells.specs.State.{AreStyledLists, State}
 use Rattle.lay_document_cells.proofs.KeptSteps.{state_of}
@@ -53,9 +53,9 @@ module _ (d : Document) (face : FaceValue) (cells : CellState) (laid : ℕ) (med
         drawn = omega (arith, draws, kept.drawn);
       }
 
-  pub edited_to : (s : State) → state_of d face cells laid ≡ s → EditsTo s edits (state_of e face t laid)
+  pub edited_to : (s : State) → state_of d face cells laid ≡ s → CellsEditTo s edits (state_of e face t laid)
   edited_to s same =
-      subst (λ (x : State). EditsTo x edits (state_of e face t laid)) same record {
+      subst (λ (x : State). CellsEditTo x edits (state_of e face t laid)) same record {
         before = table.lists;
         before_are = (table.styles, kept.lists_are);
         later = later.lists;

@@ -29,7 +29,7 @@ use Rattle.lay_kept_cells.specs.Steps.CellSteps.{ClaimsKeepCells, FinishesKeepCe
 use Rattle.lay_shape.specs.Touched.ContextFlags.{ContextLists}
 use Rattle.lay_document_cells.specs.Kept.{IsKept, TableValue}
 use Rattle.lay_document_cells.specs.State.{AreListsOf, State}
-use Rattle.lay_document_cells.specs.Steps.{ClaimsTo, FinishesTo, GivesBackTo, IsGivenNow}
+use Rattle.lay_document_cells.specs.Steps.{ClaimsTo, CellsFinishTo, CellsGiveBackTo, IsGivenNow}
 use Rattle.lay_cell_work.specs.ClaimLists.Outcomes.{Work}
 use Rattle.lay_document_cells.proofs.OneEdits.{one_lists}
 
@@ -127,11 +127,11 @@ module _ (d : Document) (face : FaceValue) (cells : CellState) (laid : ℕ) wher
         }
 
   pub finished_to : (s : State) → state_of d face cells laid ≡ s → (done : Work) (a : Finished) (t : CellState) → FinishesIn cells done a t
-      → IsCellLocal done.input done.value → FinishesTo s done a (state_of d face t laid)
+      → IsCellLocal done.input done.value → CellsFinishTo s done a (state_of d face t laid)
   finished_to s is done a t h right =
-      subst (λ (x : State). FinishesTo x done a (state_of d face t laid)) is record { right = right; cells = t; finishes = h; state = refl }
+      subst (λ (x : State). CellsFinishTo x done a (state_of d face t laid)) is record { right = right; cells = t; finishes = h; state = refl }
 
   pub given_back_to : (s : State) → state_of d face cells laid ≡ s → (key : CellKey) (number : ℕ) (a : Released) (t : CellState) → GivesBackIn cells key number a t
-      → GivesBackTo s key number a (state_of d face t laid)
+      → CellsGiveBackTo s key number a (state_of d face t laid)
   given_back_to s is key number a t h =
-      subst (λ (x : State). GivesBackTo x key number a (state_of d face t laid)) is record { cells = t; gives_back = h; state = refl }
+      subst (λ (x : State). CellsGiveBackTo x key number a (state_of d face t laid)) is record { cells = t; gives_back = h; state = refl }

@@ -9,7 +9,7 @@ use Rattle.lay_contexts.specs.Contexts.{AreContexts, Context, boxes_in}
 use Rattle.lay_contexts.specs.FormattingContexts.{FormattingContext, formatting_context_at}
 use Rattle.lay_contexts.specs.FormattingContextList.{AreFormattingContextsOf, first_number, formatting_context_of, number_of, roots_before}
 use Rattle.lay_contexts.specs.Homes.{is_root}
-use Rattle.lay_context.specs.Solves.{IsAssembled, listed, page_context, page_contexts}
+use Rattle.lay_context.specs.Solves.{IsAssembled, listed_unless_anonymous, page_context, page_contexts}
 use Rattle.lay_context.specs.Workings.{Workings}
 use Rattle.lay_document_cells.specs.TreeLengths.{TreesListContexts}
 
@@ -28,12 +28,12 @@ some_from (suc k) lt = refl
 
 module _ (contexts : List Context) (all : List FormattingContext) (are : AreFormattingContextsOf contexts all) (w : Workings) (corners : List Corner) where
   one_more : (n : ℕ) (b : Bool) → (formatting_context_at all n).anonymous ≡ b
-      → length (page_contexts all w corners (n + 1)) ≡ length (page_contexts all w corners n) + length (listed b (page_context all w corners n))
+      → length (page_contexts all w corners (n + 1)) ≡ length (page_contexts all w corners n) + length (listed_unless_anonymous b (page_context all w corners n))
   one_more n b is =
-      subst (λ (m : ℕ). length (page_contexts all w corners m) ≡ length (page_contexts all w corners n) + length (listed b (page_context all w corners n)))
+      subst (λ (m : ℕ). length (page_contexts all w corners m) ≡ length (page_contexts all w corners n) + length (listed_unless_anonymous b (page_context all w corners n)))
       (next n)
-      (length-append (page_contexts all w corners n) (listed (formatting_context_at all n).anonymous (page_context all w corners n))
-      ∙ ap (λ (x : Bool). length (page_contexts all w corners n) + length (listed x (page_context all w corners n))) is)
+      (length-append (page_contexts all w corners n) (listed_unless_anonymous (formatting_context_at all n).anonymous (page_context all w corners n))
+      ∙ ap (λ (x : Bool). length (page_contexts all w corners n) + length (listed_unless_anonymous x (page_context all w corners n))) is)
     where
       next : (m : ℕ) → suc m ≡ m + 1
       next m = omega arith

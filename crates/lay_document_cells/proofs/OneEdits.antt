@@ -19,7 +19,7 @@ use Rattle.lay_cell_work.specs.CellValues.{CellValue}
 use Rattle.lay_cell_work.specs.CellLaws.SoundCells.{CellRow, CellState}
 use Rattle.lay_shape.specs.Touched.ContextFlags.{ContextLists}
 use Rattle.lay_shape.specs.Touched.Laws.{OneListOfTouchedKeys}
-use Rattle.lay_document_cells.specs.Edits.{EditsTo, FollowsLists}
+use Rattle.lay_document_cells.specs.Edits.{CellsEditTo, FollowsLists}
 use Rattle.lay_document_cells.specs.Laws.{OneEdit}
 use Rattle.lay_document_cells.specs.State.{AreListsOf, IsOfDocument, State}
 

@@ -19,7 +19,7 @@ use Rattle.lay_cell_work.specs.CellLaws.SoundCells.{CellRow, CellState}
 use Rattle.lay_document_cells.specs.Claims.{HasDirtyCell, IsReady, none, reused, taken}
 use Rattle.lay_document_cells.specs.State.{State}
 use Rattle.lay_document_cells.specs.Steps.{ClaimsTo}
-use Rattle.lay_document_cells.specs.Walks.{ChangesAt, IsClaimedAt, IsNotReadyAt, PassesAt}
+use Rattle.lay_document_cells.specs.Walks.{ChangesCellAt, IsClaimedAt, IsNotReadyAt, PassesAt}
 use Rattle.lay_document_cells.specs.declared.walking.Passed.TheVariants as passed
 
 set_other : {X : Type 0} (xs : List X) (i : ℕ) (x : X) (j : ℕ) → (j ≡ i → ⊥) → slice_get (slice_set xs i x) j ≡ slice_get xs j
@@ -56,7 +56,7 @@ module _ (rows : List CellRow) (shape : IsShape (map entry_of rows)) (place : �
       let first = h.4 in
       not_both rows shape k (ready.1 k (first.0, ap (λ (z : CellRow). slice_get z.needs first.0) (sym same) ∙ first.1)) first.2
 
-unchanged : (s : State) (place : ℕ) → ChangesAt s place s
+unchanged : (s : State) (place : ℕ) → ChangesCellAt s place s
 unchanged s place = record { entries = refl; others = λ j apart. refl; draws = omega arith }
 
 -- a claim of the cell at the place
@@ -77,7 +77,7 @@ module _ (keep : ClaimsKeepRows CellKey CellInput CellValue) (s : State) (shape 
     others : (j : ℕ) → (j ≡ place → ⊥) → slice_get t.cells.rows j ≡ slice_get s.cells.rows j
     others j apart = ap (λ xs. slice_get xs j) written ∙ set_other s.cells.rows place c.claims.2 j apart
 
-    changed : ChangesAt s place t
+    changed : ChangesCellAt s place t
     changed = record {
       entries = ap (λ (x : CellState). map entry_of x.rows) is_cells ∙ (keep s.cells c.cells r.key input a c.claims).0.entries;
       others = others;

@@ -21,9 +21,9 @@ use Rattle.lay_cell_work.specs.CellInputs.{CellInput}
 use Rattle.lay_cell_work.specs.CellLocal.{IsCellLocal}
 use Rattle.lay_cell_work.specs.CellValues.{CellValue}
 use Rattle.lay_cell_work.specs.CellLaws.SoundCells.{CellRow, CellState}
-use Rattle.lay_document_cells.specs.Settling.{AreCleanBefore, FinishesWork, GivesBackWork, GivesUpAt, Settles, SettlesAt, SettlesFirst, SettlesTo, StopsAt, computed, granted, next, none, reused, taken, unclaimed}
+use Rattle.lay_document_cells.specs.Settling.{AreCleanBefore, FinishesWork, GivesBackWork, GivesUpAt, Settles, SettlesAt, SettlesFirst, CellsSettleTo, CellsStopAt, computed, granted, next, none, reused, taken, unclaimed}
 use Rattle.lay_document_cells.specs.State.{State}
-use Rattle.lay_document_cells.specs.Steps.{ClaimsTo, FinishesTo, GivesBackTo}
+use Rattle.lay_document_cells.specs.Steps.{ClaimsTo, CellsFinishTo, CellsGiveBackTo}
 use Rattle.lay_cell_work.specs.ClaimLists.Outcomes.{Work}
 
 pub all_before : (rows : List CellRow) (n : ℕ) → n ≡ length rows → AreCleanBefore rows n → AllClean rows
@@ -114,7 +114,7 @@ module _ (s : State) (sound : IsSound IsCellLocal s.cells) (place : ℕ) (r : Ce
         let few = claimed_draws mid input a c in
         record {
           settles = inr (computed r.key input f.value a number mid t record { first = is_first c.ready; claims = c } is
-              (subst (λ x. FinishesTo mid done x t) h.0 f.finishes));
+              (subst (λ x. CellsFinishTo mid done x t) h.0 f.finishes));
           clean = clean_next t f.finishes.cells.rows h.1 e;
           count = ap length e ∙ h.1.same;
           draws = omega (arith, d, same, few);
@@ -136,7 +136,7 @@ module _ (s : State) (sound : IsSound IsCellLocal s.cells) (place : ℕ) (r : Ce
         let same = (backs mid.cells g.gives_back.cells r.key number g.answer g.gives_back.gives_back).1 in
         let few = claimed_draws mid input (Granted number) c in
         record {
-          gives_up = granted r.key input number mid t record { first = is_first c.ready; claims = c } (subst (λ x. GivesBackTo mid r.key number x t) is g.gives_back);
+          gives_up = granted r.key input number mid t record { first = is_first c.ready; claims = c } (subst (λ x. CellsGiveBackTo mid r.key number x t) is g.gives_back);
           draws = omega (arith, d, same, few);
         }
 
@@ -153,18 +153,18 @@ pub not_ready : (s : State) → IsSound IsCellLocal s.cells → (place : ℕ) �
 not_ready s sound place before l other h =
     ⊎_elim (λ ready. absurd (other ready)) (λ clean. clean_already s place h.0 h.1 before clean) (seen s.cells sound place h.0 h.1 before l h.2)
 
-pub settled_already : (s : State) → AreCleanFrom s.cells.rows 0 → SettlesTo s s
+pub settled_already : (s : State) → AreCleanFrom s.cells.rows 0 → CellsSettleTo s s
 settled_already s clean = record { settles = none; clean = λ r there. clean there.0 (omega arith) r there.1 }
 
 -- all cells are settled
-pub settled_all : (s t : State) (n : ℕ) → Settles s t → AreCleanBefore t.cells.rows n → length t.cells.rows ≤ n → SettlesTo s t
+pub settled_all : (s t : State) (n : ℕ) → Settles s t → AreCleanBefore t.cells.rows n → length t.cells.rows ≤ n → CellsSettleTo s t
 settled_all s t n settles clean le = record {
   settles = settles;
   clean = λ r there. clean there.0 r (let lt = slice_get_within t.cells.rows there.0 r there.1 in omega (arith, lt, le)) there.1;
 }
 
 -- memory ran out at a cell
-pub stopped_at : (s mid t : State) → Settles s mid → GivesUpAt mid t → StopsAt s t
+pub stopped_at : (s mid t : State) → Settles s mid → GivesUpAt mid t → CellsStopAt s t
 stopped_at s mid t settles h = record { before = mid; settles = settles; gives_up = h.gives_up }
 
 pub clean_to_first : (rows : List CellRow) (first : ℕ) → IsFirstDirtyFrom rows 0 first → AreCleanBefore rows first

@@ -11,10 +11,10 @@ use Rattle.lay_document_cells.proofs.Cited.{map_at, map_got, one_at}
 use Rattle.lay_shape.specs.declared.cell_key.CellKey.{CellKey}
 use Rattle.lay_cell_work.specs.Claims.{Claim}
 use Rattle.lay_cell_work.specs.CellLaws.SoundCells.{CellRow}
-use Rattle.lay_document_cells.specs.Claims.{AnswersNext, ArePassed, DrawsFew, HasDirtyCell, IsBusy, IsOpenToClaims, IsReady, Passes, none, reused, taken}
+use Rattle.lay_document_cells.specs.Claims.{CellsAnswerNext, AreClaimed, CellsDrawFew, HasDirtyCell, IsBusy, IsOpenToClaims, IsReady, Passes, none, reused, taken}
 use Rattle.lay_document_cells.specs.Settling.{AreCleanBefore}
 use Rattle.lay_document_cells.specs.State.{State}
-use Rattle.lay_document_cells.specs.Walks.{ChangesAt, DrawsFrom, GrantsAt, HasClaimBefore, HasClaimFrom, IsClaimedAt, IsLeastAfter, IsLesser, IsNotReadyAt, IsWalked, PassesAt}
+use Rattle.lay_document_cells.specs.Walks.{ChangesCellAt, DrawsFrom, GrantsAt, HasClaimBefore, HasClaimFrom, IsClaimedAt, IsLeastAfter, IsLesser, IsNotReadyAt, IsWalked, PassesAt}
 use Rattle.lay_document_cells.specs.declared.walking.Passed.{Passed}
 use Rattle.lay_document_cells.specs.declared.walking.Passed.TheVariants as passed
 use Rattle.lay_document_cells.specs.declared.answers.Next.TheVariants as next
@@ -44,7 +44,7 @@ walked_first rows first h =
 
 -- the cell at the place is passed
 module _ (s t : State) (shape : IsShape (map entry_of s.cells.rows)) (place : ℕ) (least : Option ℕ) (w : IsWalked s.cells.rows place least)
-    (c : ChangesAt s place t) where
+    (c : ChangesCellAt s place t) where
   before : (j : ℕ) → j < place → slice_get t.cells.rows j ≡ slice_get s.cells.rows j
   before j lt = c.others j (λ e. omega (arith, e, lt))
 
@@ -139,7 +139,7 @@ module _ (s t : State) (shape : IsShape (map entry_of s.cells.rows)) (place : �
     walked_on (passed.Claimed number) m h lesser = walked_claimed number m h.1 lesser
     walked_on (passed.Granted claim) m h lesser = walked_claimed claim.number m h.1 lesser
 
-pub changes_of : (s : State) (place : ℕ) (p : Passed) (t : State) → PassesAt s place p t → ChangesAt s place t
+pub changes_of : (s : State) (place : ℕ) (p : Passed) (t : State) → PassesAt s place p t → ChangesCellAt s place t
 changes_of s place passed.Nothing t h = h.0.changes
 changes_of s place (passed.Claimed number) t h = h.0.changes
 changes_of s place (passed.Granted claim) t h = h.0.changes
@@ -194,7 +194,7 @@ module _ (rows : List CellRow) (shape : IsShape (map entry_of rows)) (place : �
 -- the answers
 module _ (s m : State) (few : IsOpenToClaims s) (passes : Passes s m) where
   pub answers_granted : (place : ℕ) (least : Option ℕ) → IsWalked m.cells.rows place least → (claim : Claim) (t : State) → GrantsAt m place claim t
-      → AnswersNext s (next.Granted claim) t
+      → CellsAnswerNext s (next.Granted claim) t
   answers_granted place least w claim t g = (
     few,
     record {
@@ -209,14 +209,14 @@ module _ (s m : State) (few : IsOpenToClaims s) (passes : Passes s m) where
   )
 
   pub answers_none : (n : ℕ) (least : Option ℕ) → IsShape (map entry_of m.cells.rows) → length m.cells.rows ≤ n → IsWalked m.cells.rows n least
-      → least ≡ None → AnswersNext s next.Settled m
+      → least ≡ None → CellsAnswerNext s next.Settled m
   answers_none n least shape all w e = (
     inr (few, passes),
     walked_all m.cells.rows shape n all (subst (IsWalked m.cells.rows n) e w),
   )
 
   pub answers_busy : (n : ℕ) (least : Option ℕ) → IsShape (map entry_of m.cells.rows) → length m.cells.rows ≤ n → IsWalked m.cells.rows n least
-      → (number : ℕ) → least ≡ Some number → AnswersNext s (next.Busy number) m
+      → (number : ℕ) → least ≡ Some number → CellsAnswerNext s (next.Busy number) m
   answers_busy n least shape all w number e = (
     few,
     passes,
@@ -239,5 +239,5 @@ draws_on s m t to place further a b =
     b)
     a
 
-pub draws_few : (s t : State) (from to : ℕ) → to ≤ 2 ^ 18 → DrawsFrom s from to t → DrawsFew s t
+pub draws_few : (s t : State) (from to : ℕ) → to ≤ 2 ^ 18 → DrawsFrom s from to t → CellsDrawFew s t
 draws_few s t from to le h = ⊎_elim (λ e. inl e) (λ few. inr (few.0, let x = few.1 in omega (arith, x, le))) h

@@ -12,9 +12,9 @@ use Rattle.lay_cell_work.specs.CellInputs.{CellInput}
 use Rattle.lay_cell_work.specs.CellValues.{CellValue}
 use Rattle.lay_cell_work.specs.CellLaws.SoundCells.{CellRow, CellState}
 use Rattle.lay_document_cells.specs.Laws.{KeepsCells, SettlingGivesNothingBack, SettlingWorks, StoppingWorks, WorkKeepsCells}
-use Rattle.lay_document_cells.specs.Settling.{ClaimsFirst, GivesUp, Settles, SettlesFirst, StopsAt, computed, granted, next, none as no_cell, reused, taken, unclaimed}
+use Rattle.lay_document_cells.specs.Settling.{ClaimsFirst, GivesUp, Settles, SettlesFirst, CellsStopAt, computed, granted, next, none as no_cell, reused, taken, unclaimed}
 use Rattle.lay_document_cells.specs.State.{State}
-use Rattle.lay_document_cells.specs.Steps.{ClaimsTo, FinishesTo, GivesBackTo, Step, Works, claim, finish, give_back, none, step}
+use Rattle.lay_document_cells.specs.Steps.{ClaimsTo, CellsFinishTo, CellsGiveBackTo, Step, Works, claim, finish, give_back, none, step}
 use Rattle.lay_cell_work.specs.ClaimLists.Outcomes.{Work}
 
 nothing_changes : (s : CellState) → KeepsRows s s
@@ -40,7 +40,7 @@ module _ (claims : ClaimsKeepRows CellKey CellInput CellValue) (finishes : Finis
         granted = omega (arith, count);
       }
 
-  finished : (s t : State) (d : Work) (a : Finished) → FinishesTo s d a t → KeepsCells s t
+  finished : (s t : State) (d : Work) (a : Finished) → CellsFinishTo s d a t → KeepsCells s t
   finished s t d a f =
       let count = finishes_count s.cells f.cells d a f.finishes in
       subst (KeepsCells s) (sym f.state) record {
@@ -51,7 +51,7 @@ module _ (claims : ClaimsKeepRows CellKey CellInput CellValue) (finishes : Finis
         granted = omega (arith, count);
       }
 
-  given_back : (s t : State) (key : CellKey) (number : ℕ) (a : Released) → GivesBackTo s key number a t → KeepsCells s t
+  given_back : (s t : State) (key : CellKey) (number : ℕ) (a : Released) → CellsGiveBackTo s key number a t → KeepsCells s t
   given_back s t key number a g =
       let count = backs_count s.cells g.cells key number a g.gives_back in
       subst (KeepsCells s) (sym g.state) record {

@@ -36,23 +36,23 @@ pub record ClaimsFor (s : State) (key : CellKey) (answer : Claimed) (t : State) 
   pub claims : ClaimsTo s key input answer t
 
 -- a claim of a key
-abbrev pub AnswersClaim : State → CellKey → Answer → State → Type 0
-AnswersClaim s key answer.Gone t = IsGone s.cells.rows key × (t ≡ s)
-AnswersClaim s key answer.Clean t = IsClean s.cells.rows key × (t ≡ s)
-AnswersClaim s key (answer.Waiting need) t = Looks s.cells.rows key (look.Waiting need) × (t ≡ s)
-AnswersClaim s key answer.Spent t = Looks s.cells.rows key look.Ready × IsSpent s × (t ≡ s)
-AnswersClaim s key answer.NoMemory t = Looks s.cells.rows key look.Ready × IsOpenToClaims s × (t ≡ s)
-AnswersClaim s key (answer.Taken number) t = IsOpenToClaims s × ClaimsFor s key (claimed.Taken number) t
-AnswersClaim s key answer.Reused t = IsOpenToClaims s × ClaimsFor s key claimed.Reused t
-AnswersClaim s key (answer.Granted claim) t = IsOpenToClaims s × GrantsClaim s key claim t
+abbrev pub CellsAnswerClaim : State → CellKey → Answer → State → Type 0
+CellsAnswerClaim s key answer.Gone t = IsGone s.cells.rows key × (t ≡ s)
+CellsAnswerClaim s key answer.Clean t = IsClean s.cells.rows key × (t ≡ s)
+CellsAnswerClaim s key (answer.Waiting need) t = Looks s.cells.rows key (look.Waiting need) × (t ≡ s)
+CellsAnswerClaim s key answer.Spent t = Looks s.cells.rows key look.Ready × IsSpent s × (t ≡ s)
+CellsAnswerClaim s key answer.NoMemory t = Looks s.cells.rows key look.Ready × IsOpenToClaims s × (t ≡ s)
+CellsAnswerClaim s key (answer.Taken number) t = IsOpenToClaims s × ClaimsFor s key (claimed.Taken number) t
+CellsAnswerClaim s key answer.Reused t = IsOpenToClaims s × ClaimsFor s key claimed.Reused t
+CellsAnswerClaim s key (answer.Granted claim) t = IsOpenToClaims s × GrantsClaim s key claim t
 
 -- the row is dirty, and all that its cell depends on is clean
 abbrev pub IsReady : List CellRow → CellRow → Type 0
 IsReady rows r = (r.dirty ≡ true) × AreClean rows r.needs
 
 -- each cell before the place that is ready is claimed already, for what it is given now
-abbrev pub ArePassed : List CellRow → ℕ → Type 0
-ArePassed rows place = (j : ℕ) (r : CellRow) → j < place → slice_get rows j ≡ Some r → IsReady rows r → (number : ℕ) × IsClaimed r number
+abbrev pub AreClaimed : List CellRow → ℕ → Type 0
+AreClaimed rows place = (j : ℕ) (r : CellRow) → j < place → slice_get rows j ≡ Some r → IsReady rows r → (number : ℕ) × IsClaimed r number
 
 -- the same of all, and there is one that is ready; this is the least number of their claims
 pub record IsBusy (rows : List CellRow) (number : ℕ) : Type 0 where
@@ -76,17 +76,17 @@ pub record GrantsFirst (s : State) (claim : Claim) (t : State) : Type 0 where
   pub place : ℕ
   pub row : CellRow
   pub at : IsAt before.cells.rows claim.key place row
-  pub passed : ArePassed before.cells.rows place
+  pub passed : AreClaimed before.cells.rows place
   pub grants : GrantsClaim before claim.key claim t
 
 -- a claim of the next cell that there is to claim: the cells are gone through in order
-abbrev pub AnswersNext : State → Next → State → Type 0
-AnswersNext s next.Settled t = ((t ≡ s) ⊎ (IsOpenToClaims s × Passes s t)) × AllClean t.cells.rows
-AnswersNext s next.Spent t = HasDirtyCell s.cells.rows × IsSpent s × (t ≡ s)
-AnswersNext s (next.Busy number) t = IsOpenToClaims s × Passes s t × IsBusy t.cells.rows number
-AnswersNext s (next.Granted claim) t = IsOpenToClaims s × GrantsFirst s claim t
-AnswersNext s next.NoMemory t = IsOpenToClaims s × Passes s t × HasDirtyCell t.cells.rows
+abbrev pub CellsAnswerNext : State → Next → State → Type 0
+CellsAnswerNext s next.Settled t = ((t ≡ s) ⊎ (IsOpenToClaims s × Passes s t)) × AllClean t.cells.rows
+CellsAnswerNext s next.Spent t = HasDirtyCell s.cells.rows × IsSpent s × (t ≡ s)
+CellsAnswerNext s (next.Busy number) t = IsOpenToClaims s × Passes s t × IsBusy t.cells.rows number
+CellsAnswerNext s (next.Granted claim) t = IsOpenToClaims s × GrantsFirst s claim t
+CellsAnswerNext s next.NoMemory t = IsOpenToClaims s × Passes s t × HasDirtyCell t.cells.rows
 
 -- numbers are drawn where few enough are, and not more of them than there may be cells
-abbrev pub DrawsFew : State → State → Type 0
-DrawsFew s t = (t.cells.draws ≡ s.cells.draws) ⊎ ((s.cells.draws < 2 ^ 63) × (t.cells.draws ≤ s.cells.draws + 2 ^ 18))
+abbrev pub CellsDrawFew : State → State → Type 0
+CellsDrawFew s t = (t.cells.draws ≡ s.cells.draws) ⊎ ((s.cells.draws < 2 ^ 63) × (t.cells.draws ≤ s.cells.draws + 2 ^ 18))

@@ -23,7 +23,7 @@ pub record FollowsLists (before later : ContextLists) (s t : CellState) : Type 0
   pub draws : t.draws ≡ shaped.draws
 
 -- the list of edits of a document is applied
-pub record EditsTo (s : State) (edits : List Edit) (t : State) : Type 0 where
+pub record CellsEditTo (s : State) (edits : List Edit) (t : State) : Type 0 where
   pub before : ContextLists
   pub before_are : AreListsOf s.document before
   pub later : ContextLists

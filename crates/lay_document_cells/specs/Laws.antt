@@ -10,11 +10,11 @@ use Rattle.lay_cells.specs.Progress.Progress.{GivesNoneBack, KeepsRows}
 use Rattle.lay_shape.specs.declared.cell_key.CellKey.{CellKey}
 use Rattle.lay_cell_work.specs.Claims.{Claim}
 use Rattle.lay_cell_work.specs.declared.claim_lists.outcome.Outcome.{Outcome}
-use Rattle.lay_document_cells.specs.Batches.{ClaimsSome}
-use Rattle.lay_document_cells.specs.Claims.{AnswersClaim, AnswersNext}
-use Rattle.lay_document_cells.specs.Edits.{EditsTo}
-use Rattle.lay_document_cells.specs.Outcomes.{FinishesAll, Tally}
-use Rattle.lay_document_cells.specs.Settling.{Settles, SettlesTo, StopsAt}
+use Rattle.lay_document_cells.specs.Batches.{CellsClaimSome}
+use Rattle.lay_document_cells.specs.Claims.{CellsAnswerClaim, CellsAnswerNext}
+use Rattle.lay_document_cells.specs.Edits.{CellsEditTo}
+use Rattle.lay_document_cells.specs.Outcomes.{CellsFinishAll, Tally}
+use Rattle.lay_document_cells.specs.Settling.{Settles, CellsSettleTo, CellsStopAt}
 use Rattle.lay_document_cells.specs.State.{IsOfDocument, State}
 use Rattle.lay_document_cells.specs.Steps.{Works}
 use Rattle.lay_document_cells.specs.declared.answers.Answer.{Answer}
@@ -37,21 +37,21 @@ abbrev pub SettlingWorks : Type 0
 SettlingWorks = (s t : State) → Settles s t → Works s t
 
 abbrev pub StoppingWorks : Type 0
-StoppingWorks = (s t : State) → StopsAt s t → Works s t
+StoppingWorks = (s t : State) → CellsStopAt s t → Works s t
 
 -- so are claims, one by one and by the batch, and what comes of them
 abbrev pub ClaimsWork : Type 0
-ClaimsWork = (s t : State) (key : CellKey) (answer : Answer) → AnswersClaim s key answer t → Works s t
+ClaimsWork = (s t : State) (key : CellKey) (answer : Answer) → CellsAnswerClaim s key answer t → Works s t
 
 abbrev pub NextClaimsWork : Type 0
-NextClaimsWork = (s t : State) (answer : Next) → AnswersNext s answer t → Works s t
+NextClaimsWork = (s t : State) (answer : Next) → CellsAnswerNext s answer t → Works s t
 
 abbrev pub BatchesWork : Type 0
 BatchesWork = (s t : State) (limit : ℕ) (claims : List Claim) (answer : Result (Option IdleKind) NoMemory)
-    → ClaimsSome s limit claims answer t → Works s t
+    → CellsClaimSome s limit claims answer t → Works s t
 
 abbrev pub OutcomesWork : Type 0
-OutcomesWork = (s t : State) (outcomes : List Outcome) (tally : Tally) → FinishesAll s outcomes tally t → Works s t
+OutcomesWork = (s t : State) (outcomes : List Outcome) (tally : Tally) → CellsFinishAll s outcomes tally t → Works s t
 
 -- it gives no claim back, unless it stops
 abbrev pub SettlingGivesNothingBack : Type 0
@@ -60,7 +60,7 @@ SettlingGivesNothingBack = (s t : State) → Settles s t → GivesNoneBack s.cel
 -- a list of edits leaves one state
 abbrev pub OneEdit : Type 0
 OneEdit = (s t u : State) (edits : List Edit) → IsOfDocument s → IsDocument (after_all s.document edits)
-    → EditsTo s edits t → EditsTo s edits u → t ≡ u
+    → CellsEditTo s edits t → CellsEditTo s edits u → t ≡ u
 
 -- where all cells are clean, three grants were counted for each context
 abbrev pub CleanCellsAreCounted : Type 0

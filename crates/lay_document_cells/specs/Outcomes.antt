@@ -7,7 +7,7 @@ use Rattle.lay_cells.specs.declared.answers.Released.TheVariants as release
 use Rattle.lay_cell_work.specs.declared.claim_lists.outcome.Outcome.{Outcome}
 use Rattle.lay_cell_work.specs.declared.claim_lists.outcome.Outcome.TheVariants as outcome
 use Rattle.lay_document_cells.specs.State.{State}
-use Rattle.lay_document_cells.specs.Steps.{FinishesTo, GivesBackTo}
+use Rattle.lay_document_cells.specs.Steps.{CellsFinishTo, CellsGiveBackTo}
 
 -- what an outcome is answered: work that is finished, or a claim that comes back
 pub data Reply : Type 0 where
@@ -16,10 +16,10 @@ pub data Reply : Type 0 where
 
 -- an outcome is handed in, and answered so
 abbrev pub HandsIn : State → Outcome → Reply → State → Type 0
-HandsIn s (outcome.Done d) (finished answer) t = FinishesTo s d answer t
+HandsIn s (outcome.Done d) (finished answer) t = CellsFinishTo s d answer t
 HandsIn s (outcome.Done d) (released answer) t = ⊥
 HandsIn s (outcome.NoMemory claim) (finished answer) t = ⊥
-HandsIn s (outcome.NoMemory claim) (released answer) t = GivesBackTo s claim.key claim.number answer t
+HandsIn s (outcome.NoMemory claim) (released answer) t = CellsGiveBackTo s claim.key claim.number answer t
 
 -- so are outcomes one after another
 pub data HandsInEach (s : State) : List Outcome → List Reply → State → Type 0 where
@@ -85,7 +85,7 @@ tally_of replies =
     }
 
 -- each outcome is handed in, in order, and each count is the number of the replies that it is of
-pub record FinishesAll (s : State) (outcomes : List Outcome) (tally : Tally) (t : State) : Type 0 where
+pub record CellsFinishAll (s : State) (outcomes : List Outcome) (tally : Tally) (t : State) : Type 0 where
   pub replies : List Reply
   pub each : HandsInEach s outcomes replies t
   pub counts : tally ≡ tally_of replies
@@ -97,8 +97,8 @@ tally_sum t = t.cleaned + t.stored + t.superseded + t.gone + t.back
 abbrev pub no_answers : Tally
 no_answers = record { cleaned = 0; stored = 0; superseded = 0; gone = 0; back = 0 }
 
-abbrev pub counted : Tally → Reply → Tally
-counted t reply =
+abbrev pub tallied : Tally → Reply → Tally
+tallied t reply =
     record {
       cleaned = t.cleaned + cond (is_cleaned reply) 1 0;
       stored = t.stored + cond (is_stored reply) 1 0;

@@ -14,7 +14,7 @@ use Rattle.lay_cell_work.specs.CellInputs.{CellInput}
 use Rattle.lay_cell_work.specs.CellValues.{CellValue}
 use Rattle.lay_cell_work.specs.CellLaws.SoundCells.{CellRow}
 use Rattle.lay_document_cells.specs.State.{State}
-use Rattle.lay_document_cells.specs.Steps.{ClaimsTo, FinishesTo, GivesBackTo}
+use Rattle.lay_document_cells.specs.Steps.{ClaimsTo, CellsFinishTo, CellsGiveBackTo}
 
 -- a claim of the first dirty cell
 pub record ClaimsFirst (s : State) (key : CellKey) (input : CellInput) (answer : Claimed) (t : State) : Type 0 where
@@ -27,7 +27,7 @@ pub data SettlesFirst (s : State) : State → Type 0 where
   reused : (key : CellKey) (input : CellInput) (t : State) → ClaimsFirst s key input Reused t → SettlesFirst s t
   computed : (key : CellKey) (input : CellInput) (value : CellValue) (answer : Claimed) (number : ℕ) (mid t : State)
       → ClaimsFirst s key input answer mid → claim_number answer ≡ Some number
-      → FinishesTo mid (record { key = key; number = number; input = input; value = value }) Cleaned t → SettlesFirst s t
+      → CellsFinishTo mid (record { key = key; number = number; input = input; value = value }) Cleaned t → SettlesFirst s t
 
 -- so are cells one after another
 pub data Settles (s : State) : State → Type 0 where
@@ -35,7 +35,7 @@ pub data Settles (s : State) : State → Type 0 where
   next : (mid t : State) → Settles s mid → SettlesFirst mid t → Settles s t
 
 -- and then each cell is clean
-pub record SettlesTo (s t : State) : Type 0 where
+pub record CellsSettleTo (s t : State) : Type 0 where
   pub settles : Settles s t
   pub clean : AllClean t.cells.rows
 
@@ -45,10 +45,10 @@ pub data GivesUp (s : State) : State → Type 0 where
   unclaimed : GivesUp s s
   taken : (key : CellKey) (input : CellInput) (number : ℕ) (t : State) → ClaimsFirst s key input (Taken number) t → GivesUp s t
   granted : (key : CellKey) (input : CellInput) (number : ℕ) (mid t : State) → ClaimsFirst s key input (Granted number) mid
-      → GivesBackTo mid key number Released t → GivesUp s t
+      → CellsGiveBackTo mid key number Released t → GivesUp s t
 
 -- what was finished until then stays clean
-pub record StopsAt (s t : State) : Type 0 where
+pub record CellsStopAt (s t : State) : Type 0 where
   pub before : State
   pub settles : Settles s before
   pub gives_up : GivesUp before t
@@ -73,9 +73,9 @@ pub record GivesUpAt (s t : State) : Type 0 where
 pub record FinishesWork (s : State) (key : CellKey) (number : ℕ) (input : CellInput) (t : State) : Type 0 where
   pub value : CellValue
   pub answer : Finished
-  pub finishes : FinishesTo s (record { key = key; number = number; input = input; value = value }) answer t
+  pub finishes : CellsFinishTo s (record { key = key; number = number; input = input; value = value }) answer t
 
 -- the claim of this number is given back, whatever comes of it
 pub record GivesBackWork (s : State) (key : CellKey) (number : ℕ) (t : State) : Type 0 where
   pub answer : Answer
-  pub gives_back : GivesBackTo s key number answer t
+  pub gives_back : CellsGiveBackTo s key number answer t

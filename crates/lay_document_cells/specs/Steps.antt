@@ -38,22 +38,22 @@ pub record ClaimsTo (s : State) (key : CellKey) (input : CellInput) (answer : Cl
   pub state : t ≡ record s { cells = cells; laid = s.laid + grants answer }
 
 -- finished work, whose value is right beside its input
-pub record FinishesTo (s : State) (d : Work) (answer : Finished) (t : State) : Type 0 where
+pub record CellsFinishTo (s : State) (d : Work) (answer : Finished) (t : State) : Type 0 where
   pub right : IsCellLocal d.input d.value
   pub cells : CellState
   pub finishes : FinishesIn s.cells d answer cells
   pub state : t ≡ record s { cells = cells }
 
 -- a claim of the key that comes back without a value
-pub record GivesBackTo (s : State) (key : CellKey) (number : ℕ) (answer : Released) (t : State) : Type 0 where
+pub record CellsGiveBackTo (s : State) (key : CellKey) (number : ℕ) (answer : Released) (t : State) : Type 0 where
   pub cells : CellState
   pub gives_back : GivesBackIn s.cells key number answer cells
   pub state : t ≡ record s { cells = cells }
 
 pub data Step (s : State) : State → Type 0 where
   claim : (key : CellKey) (input : CellInput) (answer : Claimed) (t : State) → ClaimsTo s key input answer t → Step s t
-  finish : (d : Work) (answer : Finished) (t : State) → FinishesTo s d answer t → Step s t
-  give_back : (key : CellKey) (number : ℕ) (answer : Released) (t : State) → GivesBackTo s key number answer t → Step s t
+  finish : (d : Work) (answer : Finished) (t : State) → CellsFinishTo s d answer t → Step s t
+  give_back : (key : CellKey) (number : ℕ) (answer : Released) (t : State) → CellsGiveBackTo s key number answer t → Step s t
 
 -- steps one after another, or none
 pub data Works (s : State) : State → Type 0 where

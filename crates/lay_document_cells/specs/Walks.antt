@@ -43,19 +43,19 @@ pub record IsLesser (least : Option ℕ) (number : ℕ) (lesser : Option ℕ) : 
   pub one : (value ≡ number) ⊎ (least ≡ Some value)
 
 -- no cell but that at the place is changed
-pub record ChangesAt (s : State) (place : ℕ) (t : State) : Type 0 where
+pub record ChangesCellAt (s : State) (place : ℕ) (t : State) : Type 0 where
   pub entries : map entry_of t.cells.rows ≡ map entry_of s.cells.rows
   pub others : (j : ℕ) → j ≢ place → slice_get t.cells.rows j ≡ slice_get s.cells.rows j
   pub draws : t.cells.draws ≤ s.cells.draws + 1
 
 -- so that no claim is granted
 pub record PassesBy (s : State) (place : ℕ) (t : State) : Type 0 where
-  pub changes : ChangesAt s place t
+  pub changes : ChangesCellAt s place t
   pub passes : Passes s t
 
 -- the claim of the cell at the place is granted
 pub record GrantsAt (s : State) (place : ℕ) (claim : Claim) (t : State) : Type 0 where
-  pub changes : ChangesAt s place t
+  pub changes : ChangesCellAt s place t
   pub row : CellRow
   pub at : IsAt s.cells.rows claim.key place row
   pub grants : GrantsClaim s claim.key claim t

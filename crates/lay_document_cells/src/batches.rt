@@ -1,9 +1,9 @@
 //! Claims by the batch, and what comes of them.
 
 ghost use Rattle.std.specs.Prelude.{◌≡◌, ◌≤◌, ◌<◌, [], length, Ok, None};
-ghost use Rattle.lay_document_cells.specs.Batches.{ClaimsSome, IsBatchAnswer};
-ghost use Rattle.lay_document_cells.specs.Claims.{DrawsFew};
-ghost use Rattle.lay_document_cells.specs.Outcomes.{FinishesAll, tally_sum};
+ghost use Rattle.lay_document_cells.specs.Batches.{CellsClaimSome, IsBatchAnswer};
+ghost use Rattle.lay_document_cells.specs.Claims.{CellsDrawFew};
+ghost use Rattle.lay_document_cells.specs.Outcomes.{CellsFinishAll, tally_sum};
 
 use crate::answers::Next;
 use crate::document_cells::DocumentCells;
@@ -43,9 +43,9 @@ impl DocumentCells {
         requires limit { 0 < limit }
         requires room { limit ≤ list.old.room }
         requires empty { list.old.claims ≡ [] }
-        ensures answers { ClaimsSome self.old limit list.new.claims result self.new }
+        ensures answers { CellsClaimSome self.old limit list.new.claims result self.new }
         ensures room { list.new.room ≡ list.old.room }
-        ensures draws { DrawsFew self.old self.new }
+        ensures draws { CellsDrawFew self.old self.new }
     {
         self.cells.sound();
         let mut walk = self.first_walk();
@@ -60,7 +60,7 @@ impl DocumentCells {
 
     /// Finishes each value, gives each other claim back, and counts the answers. No memory is taken.
     pub fn finish_all(&mut self, outcomes: Outcomes) -> Tally
-        ensures answers { FinishesAll self.old outcomes result self.new }
+        ensures answers { CellsFinishAll self.old outcomes result self.new }
         ensures all { tally_sum result ≡ length outcomes }
         ensures draws { self.new.cells.draws ≡ self.old.cells.draws }
     {

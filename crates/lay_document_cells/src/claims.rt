@@ -4,8 +4,8 @@ ghost use Rattle.std.specs.Prelude.{◌≡◌, ◌≤◌, ◌<◌, ◌^◌, leng
 ghost use Rattle.lay_cells.specs.Looks.{Looks};
 ghost use Rattle.lay_cells.specs.Places.{AtPlace};
 ghost use Rattle.lay_cells.specs.declared.answers.Look.TheVariants as look;
-ghost use Rattle.lay_document_cells.specs.Claims.{AnswersClaim, DrawsFew};
-ghost use Rattle.lay_document_cells.specs.Steps.{GivesBackTo};
+ghost use Rattle.lay_document_cells.specs.Claims.{CellsAnswerClaim, CellsDrawFew};
+ghost use Rattle.lay_document_cells.specs.Steps.{CellsGiveBackTo};
 
 use crate::answers::Answer;
 use crate::document_cells::DocumentCells;
@@ -19,8 +19,8 @@ impl DocumentCells {
     /// where too many numbers are drawn. Otherwise it is claimed for what it is given now: Taken, Reused or Granted; or memory ran out,
     /// and all is as before.
     pub fn claim(&mut self, key: CellKey) -> Answer
-        ensures answers { AnswersClaim self.old key result self.new }
-        ensures draws { DrawsFew self.old self.new }
+        ensures answers { CellsAnswerClaim self.old key result self.new }
+        ensures draws { CellsDrawFew self.old self.new }
     {
         self.cells.sound();
         match self.cells.place_of(key) {
@@ -32,7 +32,7 @@ impl DocumentCells {
     /// The same of the cell at a place.
     fn claim_at(&mut self, place: usize) -> Answer
         requires within { place < length self.old.cells.rows }
-        ensures answers { AtPlace self.old.cells.rows place (λ r. AnswersClaim self.old r.key result self.new) }
+        ensures answers { AtPlace self.old.cells.rows place (λ r. CellsAnswerClaim self.old r.key result self.new) }
     {
         match self.cells.look_at(place) {
             Look::Gone => Answer::Gone,
@@ -45,7 +45,7 @@ impl DocumentCells {
     /// The same of a cell that is ready.
     fn claim_ready(&mut self, place: usize) -> Answer
         requires ready { AtPlace self.old.cells.rows place (λ r. Looks self.old.cells.rows r.key look.Ready) }
-        ensures answers { AtPlace self.old.cells.rows place (λ r. AnswersClaim self.old r.key result self.new) }
+        ensures answers { AtPlace self.old.cells.rows place (λ r. CellsAnswerClaim self.old r.key result self.new) }
     {
         if self.cells.draws() < CLAIM_NUMBERS {
             if self.can_reuse(place) {
@@ -68,7 +68,7 @@ impl DocumentCells {
 
     /// Takes back a claim that was granted. No memory is taken.
     pub fn give_back(&mut self, claim: Claim) -> Released
-        ensures { GivesBackTo self.old claim.key claim.number result self.new }
+        ensures { CellsGiveBackTo self.old claim.key claim.number result self.new }
     {
         self.give_back_claim(claim.key(), claim.number())
     }

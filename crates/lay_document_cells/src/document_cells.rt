@@ -13,7 +13,7 @@ ghost use Rattle.lay_history.specs.Edits.Answers.{AnswersFirst};
 ghost use Rattle.lay_history.specs.Edits.EditLists.{fault_at};
 ghost use Rattle.lay_doc.specs.Laws.{PutsNode};
 ghost use Rattle.lay_cells.specs.Progress.Grants.{laid_of_all};
-ghost use Rattle.lay_document_cells.specs.Edits.{EditsTo};
+ghost use Rattle.lay_document_cells.specs.Edits.{CellsEditTo};
 ghost use Rattle.lay_document_cells.specs.State.{IsNew, IsOfDocument};
 
 use crate::document_table::DocumentTable;
@@ -99,7 +99,7 @@ impl DocumentCells {
         requires draws { self.old.cells.draws ≤ 2 ^ 63 + 2 ^ 51 }
         ensures answer { AnswersFirst self.old.document edits.now result }
         ensures memory { IfErr result (λ e. e ≡ BatchFault.NoMemory → fault_at self.old.document edits.now 0 ≡ None) }
-        ensures ok { OnOk result (EditsTo self.old edits.now self.new) }
+        ensures ok { OnOk result (CellsEditTo self.old edits.now self.new) }
         ensures few { self.new.cells.draws ≤ self.old.cells.draws + 2 ^ 18 }
         ensures err { OnErr result (self.new ≡ self.old) }
     {

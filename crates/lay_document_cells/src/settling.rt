@@ -5,7 +5,8 @@ ghost use Rattle.std.specs.Arc.{arc_value};
 ghost use Rattle.lay_cells.specs.Looks.{Looks};
 ghost use Rattle.lay_cells.specs.Places.{AtPlace};
 ghost use Rattle.lay_cells.specs.declared.answers.Look.TheVariants as look;
-ghost use Rattle.lay_document_cells.specs.Settling.{AreCleanBefore, FinishesWork, GivesBackWork, GivesUpAt, SettlesAt, SettlesTo, StopsAt};
+ghost use Rattle.lay_document_cells.specs.Settling.{AreCleanBefore, FinishesWork, GivesBackWork, GivesUpAt};
+ghost use Rattle.lay_document_cells.specs.Settling.{SettlesAt, CellsSettleTo, CellsStopAt};
 
 use crate::document_cells::DocumentCells;
 use lay_cell_work::{CellInput, Layout, value_of_cell};
@@ -100,8 +101,8 @@ impl DocumentCells {
     /// here is given back.
     pub fn settle(&mut self) -> Result<(), NoMemory>
         requires draws { self.old.cells.draws ≤ 2 ^ 63 + 2 ^ 51 }
-        ensures ok { OnOk result (SettlesTo self.old self.new) }
-        ensures err { OnErr result (StopsAt self.old self.new) }
+        ensures ok { OnOk result (CellsSettleTo self.old self.new) }
+        ensures err { OnErr result (CellsStopAt self.old self.new) }
         ensures few { self.new.cells.draws ≤ self.old.cells.draws + 2 ^ 18 }
     {
         let first = match self.cells.dirty_from(0) {

@@ -5,7 +5,7 @@ ghost use Rattle.std.specs.Arc.{arc_value};
 ghost use Rattle.lay_cells.specs.Looks.{Looks};
 ghost use Rattle.lay_cells.specs.Places.{AtPlace};
 ghost use Rattle.lay_cells.specs.declared.answers.Look.TheVariants as look;
-ghost use Rattle.lay_document_cells.specs.Steps.{ClaimsTo, FinishesTo, GivesBackTo, IsGivenNow};
+ghost use Rattle.lay_document_cells.specs.Steps.{ClaimsTo, CellsFinishTo, CellsGiveBackTo, IsGivenNow};
 
 use crate::document_cells::DocumentCells;
 use lay_cell_work::{CellInput, Layout};
@@ -25,7 +25,7 @@ use std::sync::Arc;
 impl DocumentCells {
     /// Takes finished work, as `Cells::finish`. No claim is granted.
     pub fn finish(&mut self, done: Done<Layout>) -> Finished
-        ensures { FinishesTo self.old done result self.new }
+        ensures { CellsFinishTo self.old done result self.new }
     {
         finishes_keep_cells();
         finishes_keep_since();
@@ -39,7 +39,7 @@ impl DocumentCells {
 
     /// Takes back a claim of a key, as `Cells::give_back`.
     pub(crate) fn give_back_claim(&mut self, key: CellKey, number: u64) -> Released
-        ensures { GivesBackTo self.old key number result self.new }
+        ensures { CellsGiveBackTo self.old key number result self.new }
     {
         give_backs_keep_cells();
         give_backs_keep_since();

@@ -1,7 +1,7 @@
 //! How often outcomes of claims were answered each way.
 
 ghost use Rattle.std.specs.Prelude.{◌≡◌, ◌+◌, ◌-◌, ◌<◌, ◌^◌};
-ghost use Rattle.lay_document_cells.specs.Outcomes.{counted, finished, no_answers, released, tally_sum};
+ghost use Rattle.lay_document_cells.specs.Outcomes.{tallied, finished, no_answers, released, tally_sum};
 
 use lay_cells::{Finished, Released};
 use std::marker::Model;
@@ -41,7 +41,7 @@ impl Tally {
     /// Counts what finished work was answered.
     pub(crate) fn count_finished(&mut self, answer: Finished)
         requires { tally_sum self.old < 2 ^ 32 - 1 }
-        ensures counted { self.new ≡ counted self.old (finished answer) }
+        ensures counted { self.new ≡ tallied self.old (finished answer) }
         ensures sum { tally_sum self.new ≡ tally_sum self.old + 1 }
     {
         match answer {
@@ -55,7 +55,7 @@ impl Tally {
     /// Counts what a claim that came back was answered.
     pub(crate) fn count_released(&mut self, answer: Released)
         requires { tally_sum self.old < 2 ^ 32 - 1 }
-        ensures counted { self.new ≡ counted self.old (released answer) }
+        ensures counted { self.new ≡ tallied self.old (released answer) }
         ensures sum { tally_sum self.new ≡ tally_sum self.old + 1 }
     {
         match answer {

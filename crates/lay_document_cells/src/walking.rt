@@ -5,7 +5,7 @@ ghost use Rattle.std.specs.Arc.{arc_value};
 ghost use Rattle.lay_cells.specs.Looks.{Looks};
 ghost use Rattle.lay_cells.specs.Places.{AtPlace};
 ghost use Rattle.lay_cells.specs.declared.answers.Look.TheVariants as look;
-ghost use Rattle.lay_document_cells.specs.Claims.{AnswersNext, DrawsFew, HasDirtyCell, IsOpenToClaims};
+ghost use Rattle.lay_document_cells.specs.Claims.{CellsAnswerNext, CellsDrawFew, HasDirtyCell, IsOpenToClaims};
 ghost use Rattle.lay_document_cells.specs.Steps.{ClaimsTo};
 ghost use Rattle.lay_document_cells.specs.Walks.{DrawsFrom, IsLeastAfter, IsLesser, IsWalked, PassesAt};
 
@@ -120,7 +120,7 @@ impl DocumentCells {
     fn walk_on(&mut self, walk: &mut Walk) -> Next
         requires walked { IsWalked self.old.cells.rows walk.old.place walk.old.least }
         requires open { IsOpenToClaims self.old }
-        ensures answers { AnswersNext self.old result self.new }
+        ensures answers { CellsAnswerNext self.old result self.new }
         ensures walked { IsWalked self.new.cells.rows walk.new.place walk.new.least }
         ensures draws { self.new.cells.draws + walk.old.place ≤ self.old.cells.draws + walk.new.place }
         ensures further { walk.old.place ≤ walk.new.place }
@@ -150,7 +150,7 @@ impl DocumentCells {
     /// A claim of the next cell, where the cells that a walk passed need not be seen again.
     pub(crate) fn claim_behind(&mut self, walk: &mut Walk) -> Next
         requires walked { IsWalked self.old.cells.rows walk.old.place walk.old.least }
-        ensures answers { AnswersNext self.old result self.new }
+        ensures answers { CellsAnswerNext self.old result self.new }
         ensures walked { IsWalked self.new.cells.rows walk.new.place walk.new.least }
         ensures draws { DrawsFrom self.old walk.old.place walk.new.place self.new }
         ensures further { walk.old.place ≤ walk.new.place }
@@ -182,8 +182,8 @@ impl DocumentCells {
     /// Claims the next cell that there is to claim: goes through the cells in order, claims each that is ready, and answers the first
     /// claim that is granted. A cell whose kept value serves again is clean then.
     pub fn claim_next(&mut self) -> Next
-        ensures answers { AnswersNext self.old result self.new }
-        ensures draws { DrawsFew self.old self.new }
+        ensures answers { CellsAnswerNext self.old result self.new }
+        ensures draws { CellsDrawFew self.old self.new }
     {
         self.cells.sound();
         let mut walk = self.first_walk();

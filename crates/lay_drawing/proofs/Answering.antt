@@ -10,7 +10,7 @@ use Rattle.lay_drawing.specs.declared.words.Wish.TheVariants.{Tree, Between, Hit
 use Rattle.lay_drawing.specs.Reports.{IsBadLine, is_shown, ShowsPieces, ShowsNoTree}
 use Rattle.lay_drawing.specs.States.{WasReport}
 use Rattle.lay_drawing.specs.Input.{HasReport}
-use Rattle.lay_drawing.specs.Answers.{AnswersBytes, AnswersReading, AnswersHit, AnswersBoth, IsRefusal, IsAnswer, bad_line, no_tree, refused}
+use Rattle.lay_drawing.specs.Answers.{AnswersBytes, AnswersReading, AnswersHit, AnswersBoth, IsRefusal, IsDrawingAnswer, bad_line, no_tree, refused}
 use Rattle.lay_report.specs.Report.{numbered_line}
 
 is_found : (o : Option ℕ) (a b : Bool) → a ≡ b → IfSome o (λ v. b ≡ true) → IfSome o (λ v. a ≡ true)
@@ -105,6 +105,6 @@ refused_with None wish line Told is told = tt
 refused_with (Some bytes) wish line Told is told = (line, is, told)
 
 pub refused_front : (left : Option (List ℕ)) (wish : Wish) (line : List ℕ) (Told : List ℕ → Type 0) → IfSome left (λ bytes. AnswersBytes bytes wish (Refusal line)) → Told line
-    → IfSome left (λ bytes. (l : List ℕ) × IsAnswer bytes wish l × Told l)
+    → IfSome left (λ bytes. (l : List ℕ) × IsDrawingAnswer bytes wish l × Told l)
 refused_front None wish line Told is told = tt
 refused_front (Some bytes) wish line Told is told = (line, refused is, told)

@@ -19,8 +19,8 @@ use Rattle.lay_drawing.specs.declared.state.Stop.{Stop}
 use Rattle.lay_drawing.specs.declared.state.Stop.TheVariants.{BadLine, NoMemory}
 use Rattle.lay_drawing.specs.Lines.{line_text, line_body, line_fields, place_fields, reply_fields, shown_field, IsLine, IsPlace, IsReply, IsVersion}
 use Rattle.lay_drawing.specs.Reading.{line_in}
-use Rattle.lay_drawing.specs.Reports.{next_place, IsBadLine}
-use Rattle.lay_drawing.specs.States.{HasRead, Adds, CantAdd, IsNext, Reads, Stops}
+use Rattle.lay_drawing.specs.Reports.{place_behind_line, IsBadLine}
+use Rattle.lay_drawing.specs.States.{HasRead, Adds, CantAdd, IsNextLineNumber, Reads, Stops}
 use Rattle.lay_drawing.proofs.Splitting.{lacks_more, lacks_append, same_front, front_within}
 use Rattle.lay_drawing.proofs.LineReading.{line_sound, line_complete, body_lacks}
 use Rattle.lay_drawing.proofs.LineSteps.{has_more}
@@ -51,7 +51,7 @@ ends_line s t u line is adds wanted place count shown opened pieces empty =
     }
 
 -- a line ends and isn't added
-pub ends_badly : (s : Reading) (stop : Stop) → ((l : Line) (next : Place) → line_in s.text.items ≡ Some l → next_place l s.place ≡ Some next → ⊥) → IsNext s.count stop → Stops s (10 ∷ []) stop
+pub ends_badly : (s : Reading) (stop : Stop) → ((l : Line) (next : Place) → line_in s.text.items ≡ Some l → place_behind_line l s.place ≡ Some next → ⊥) → IsNextLineNumber s.count stop → Stops s (10 ∷ []) stop
 ends_badly s NoMemory never next = tt
 ends_badly s (BadLine number) never next = λ before more has. record {
   lines = has.lines;
@@ -67,11 +67,11 @@ ends_badly s (BadLine number) never next = λ before more has. record {
   number_is = next ∙ ap (λ (n : ℕ). n + 1) (sym has.has_lines.count_is);
 }
 
-pub never_read : (s : Reading) → line_in s.text.items ≡ None → (l : Line) (next : Place) → line_in s.text.items ≡ Some l → next_place l s.place ≡ Some next → ⊥
+pub never_read : (s : Reading) → line_in s.text.items ≡ None → (l : Line) (next : Place) → line_in s.text.items ≡ Some l → place_behind_line l s.place ≡ Some next → ⊥
 never_read s none l next is may = cc
 
-pub never_stands : (s : Reading) (line : Line) → line_in s.text.items ≡ Some line → next_place line s.place ≡ None → (l : Line) (next : Place) → line_in s.text.items ≡ Some l → next_place l s.place ≡ Some next → ⊥
-never_stands s line is none l next read may = let same : l ≡ line = cc in let q : next_place line s.place ≡ Some next = rw (← same) may in cc
+pub never_stands : (s : Reading) (line : Line) → line_in s.text.items ≡ Some line → place_behind_line line s.place ≡ None → (l : Line) (next : Place) → line_in s.text.items ≡ Some l → place_behind_line l s.place ≡ Some next → ⊥
+never_stands s line is none l next read may = let same : l ≡ line = cc in let q : place_behind_line line s.place ≡ Some next = rw (← same) may in cc
 
 pub cant_add : (s : Reading) (line : Line) (stop : Stop) → line_in s.text.items ≡ Some line → CantAdd s line stop → Stops s (10 ∷ []) stop
 cant_add s line NoMemory is cant = tt
@@ -137,7 +137,7 @@ fields_short (Piece f) is =
     )
 
 -- a line that is too long
-pub stops_long : (s : Reading) (byte : ℕ) (stop : Stop) → (byte == 10) ≡ false → length s.text.items ≡ 200 → IsNext s.count stop → Stops s (byte ∷ []) stop
+pub stops_long : (s : Reading) (byte : ℕ) (stop : Stop) → (byte == 10) ≡ false → length s.text.items ≡ 200 → IsNextLineNumber s.count stop → Stops s (byte ∷ []) stop
 stops_long s byte NoMemory other long next = tt
 stops_long s byte (BadLine number) other long next = λ before more has. record {
   lines = has.lines;

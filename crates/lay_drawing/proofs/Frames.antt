@@ -6,7 +6,7 @@ use Rattle.std.proofs.lemmas.List.Elements.{All-nil, All-cons}
 use Rattle.lay_drawing.specs.declared.mark.Marked.{Marked}
 use Rattle.lay_drawing.specs.declared.frame.Frame.{Frame}
 use Rattle.lay_drawing.specs.declared.frame.Span.{Span}
-use Rattle.lay_drawing.specs.Frames.{edges, wider, joined, frame_of, IsWithin, Holds, FramesHold}
+use Rattle.lay_drawing.specs.Frames.{edges, wider_span, joined, frame_around, IsWithin, Holds, FramesHold}
 
 Inside : Frame → Frame → Type 0
 Inside a b = IsWithin a.across b.across × IsWithin a.down b.down
@@ -17,10 +17,10 @@ same_span a = (omega (arith, ints), omega (arith, ints))
 trans_span : (a b c : Span) → IsWithin a b → IsWithin b c → IsWithin a c
 trans_span a b c first next = (omega (arith, ints, first.0, next.0), omega (arith, ints, first.1, next.1))
 
-left_span : (a b : Span) → IsWithin a (wider a b)
+left_span : (a b : Span) → IsWithin a (wider_span a b)
 left_span a b = (omega (arith, ints, clamps), omega (arith, ints, clamps))
 
-right_span : (a b : Span) → IsWithin b (wider a b)
+right_span : (a b : Span) → IsWithin b (wider_span a b)
 right_span a b = (omega (arith, ints, clamps), omega (arith, ints, clamps))
 
 grows : (frame : Frame) (fs : List Marked) → Inside frame (fold (λ f p. joined f (edges p.piece)) frame fs)
@@ -47,5 +47,5 @@ each frame (x ∷ xs) =
 
 pub hold_lem : FramesHold
 unfolding Inside
-hold_lem [] = All-nil (Holds (frame_of []))
-hold_lem (x ∷ xs) = All-cons (Holds (frame_of (x ∷ xs))) x xs (grows (edges x.piece) xs) (each (edges x.piece) xs)
+hold_lem [] = All-nil (Holds (frame_around []))
+hold_lem (x ∷ xs) = All-cons (Holds (frame_around (x ∷ xs))) x xs (grows (edges x.piece) xs) (each (edges x.piece) xs)

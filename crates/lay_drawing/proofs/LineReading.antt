@@ -23,7 +23,7 @@ use Rattle.lay_drawing.specs.declared.line.EditReply.TheVariants.{Accepted, Refu
 use Rattle.lay_drawing.specs.declared.line.Line.{Line}
 use Rattle.lay_drawing.specs.declared.line.Line.TheVariants.{Edit, Publish, Latest, Sync, Final, Laid, Piece}
 use Rattle.lay_drawing.specs.Lines.{line_fields, line_body, reply_fields, place_fields, shown_field, IsLine, IsPlace, IsReply, IsVersion, IsPiece}
-use Rattle.lay_drawing.specs.Reading.{number_of, small_of, negative_of, positive_of, position_of, counted_of, shown_of, read_of, fault_of, place_of, refused_of, reply_of, edit_of, kind_of, rect_of, piece_of, line_of, fields_in, line_in, is_word}
+use Rattle.lay_drawing.specs.Reading.{number_of, small_of, negative_of, positive_of, position_of, counted_of, version_shown, read_of, fault_of, place_field, refused_of, reply_of, edit_line, kind_of, rect_of, piece_of, line_of, fields_in, line_in, is_word}
 use Rattle.lay_drawing.proofs.Numerals.{by_bool, number_complete, number_sound}
 use Rattle.lay_drawing.proofs.Splitting.{Lacks, AllLack, decimal_lacks, lacks_more, fields_back, joined_lack}
 
@@ -66,7 +66,7 @@ fault_complete k low high =
     let b : nat_le k 11 ≡ true = le-leb k 11 high in
     rw (e, a, b) refl
 
-place_complete : (o : Option ℕ) → IsPlace o → place_of (place_fields o) ≡ Some o
+place_complete : (o : Option ℕ) → IsPlace o → place_field (place_fields o) ≡ Some o
 place_complete None is = refl
 place_complete (Some n) is = ap (option_and_then (λ k. Some (Some k))) (counted_complete n is)
 
@@ -80,7 +80,7 @@ word_differs ds digits = by_bool (is_word (codes "nomemory") ds)
     (λ same. let e = (bytes_eq-Decides ds (codes "nomemory")).0 same in let d : AllDigits 10 (codes "nomemory") = subst (AllDigits 10) e digits in absurd (omega (arith, (digit_from_value 110 d.0).1)))
     (λ other. other)
 
-shown_complete : (o : Option ℕ) → IsVersion o → shown_of (shown_field o ∷ []) ≡ Some o
+shown_complete : (o : Option ℕ) → IsVersion o → version_shown (shown_field o ∷ []) ≡ Some o
 shown_complete None is = refl
 shown_complete (Some v) is =
     let other = word_differs (decimal v) (decimal_is_IsNumeral v is).0.1 in
@@ -299,7 +299,7 @@ kind_sound word kind e = by_bool (is_word (codes "box") word)
     (λ c. let h = rw c at g in let q : Text ≡ kind = cc in word_sound (codes "text") word c ∙ ap kind_word q)
     (λ nc. let h = rw nc at g in absurd cc)))
 
-shown_sound : (fields : List (List ℕ)) (o : Option ℕ) → shown_of fields ≡ Some o → (fields ≡ shown_field o ∷ []) × IsVersion o
+shown_sound : (fields : List (List ℕ)) (o : Option ℕ) → version_shown fields ≡ Some o → (fields ≡ shown_field o ∷ []) × IsVersion o
 shown_sound [] o e = absurd cc
 shown_sound (x ∷ xs) o e = by_bool (is_word (codes "nomemory") x && (length xs == 0))
     (λ both_are.
@@ -331,7 +331,7 @@ read_sound (x ∷ []) r e = absurd cc
 read_sound (x ∷ y ∷ rest) r e =
     option_and_then_some _ (small_of x) r e (λ editor a e1.
     option_and_then_some _ (small_of y) r e1 (λ index b e2.
-    option_and_then_some _ (shown_of rest) r e2 (λ shown c e3.
+    option_and_then_some _ (version_shown rest) r e2 (λ shown c e3.
     let made : Read = (editor, index, shown) in
     let q : made ≡ r = cc in
     let p1 = small_sound x editor a in
@@ -356,7 +356,7 @@ fault_sound (x ∷ xs) k e =
     (same ∙ ap (λ (n : ℕ). 69 ∷ decimal n) q, omega (arith, leb-true 1 m p2.1, q), omega (arith, leb-true m 11 p1.1, q)))
     (λ some. let f = rw some at e1 in absurd cc))
 
-place_sound : (fields : List (List ℕ)) (o : Option ℕ) → place_of fields ≡ Some o → (fields ≡ place_fields o) × IsPlace o
+place_sound : (fields : List (List ℕ)) (o : Option ℕ) → place_field fields ≡ Some o → (fields ≡ place_fields o) × IsPlace o
 place_sound [] o e = let q : None ≡ o = cc in (ap place_fields q, subst IsPlace q tt)
 place_sound (word ∷ rest) o e = by_bool (is_word (codes "at") word)
     (λ a. let f = rw a at e in
@@ -373,7 +373,7 @@ refused_sound : (fields : List (List ℕ)) (r : EditReply) → refused_of fields
 refused_sound [] r e = absurd cc
 refused_sound (field ∷ rest) r e =
     option_and_then_some _ (fault_of field) r e (λ k a e1.
-    option_and_then_some _ (place_of rest) r e1 (λ o b e2.
+    option_and_then_some _ (place_field rest) r e1 (λ o b e2.
     let q : Refused k o ≡ r = cc in
     let s = fault_sound field k a in
     let t = place_sound rest o b in
@@ -406,7 +406,7 @@ reply_sound (word ∷ rest) r e = by_bool (is_word (codes "accepted") word)
     (same ∙ ap reply_fields q, subst IsReply q tt))
     (λ nc. let h = rw nc at g in absurd cc)))
 
-edit_sound : (fields : List (List ℕ)) (l : Line) → edit_of fields ≡ Some l → (codes "edit" ∷ fields ≡ line_fields l) × IsLine l
+edit_sound : (fields : List (List ℕ)) (l : Line) → edit_line fields ≡ Some l → (codes "edit" ∷ fields ≡ line_fields l) × IsLine l
 edit_sound [] l e = absurd cc
 edit_sound (x ∷ []) l e = absurd cc
 edit_sound (x ∷ y ∷ rest) l e =

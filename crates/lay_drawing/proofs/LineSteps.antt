@@ -10,13 +10,13 @@ use Rattle.lay_drawing.specs.declared.places.Place.{Place}
 use Rattle.lay_drawing.specs.declared.places.Place.TheVariants.{History}
 use Rattle.lay_drawing.specs.declared.state.Reading.{Reading}
 use Rattle.lay_drawing.specs.Lines.{IsLine}
-use Rattle.lay_drawing.specs.Reports.{place_after, next_place, is_shown, is_piece, shows, piece_in, first_pieces, pieces_shown}
+use Rattle.lay_drawing.specs.Reports.{place_after, place_behind_line, is_shown, is_piece, shows, piece_in, first_pieces, pieces_shown}
 use Rattle.lay_drawing.specs.States.{all_pieces, is_open, HasLines, Adds}
 use Rattle.lay_drawing.proofs.Numerals.{by_bool}
 
-place_more : (from : Place) (lines : List Line) (line : Line) (p q : Place) → place_after from lines ≡ Some p → next_place line p ≡ Some q → place_after from (lines ++ line ∷ []) ≡ Some q
-place_more from [] line p q e n = let same : from ≡ p = cc in let k : next_place line from ≡ Some q = rw same n in rw k refl
-place_more from (x ∷ xs) line p q e n = option_and_then_some _ (next_place x from) p e (λ next a e1. rw a (place_more next xs line p q e1 n))
+place_more : (from : Place) (lines : List Line) (line : Line) (p q : Place) → place_after from lines ≡ Some p → place_behind_line line p ≡ Some q → place_after from (lines ++ line ∷ []) ≡ Some q
+place_more from [] line p q e n = let same : from ≡ p = cc in let k : place_behind_line line from ≡ Some q = rw same n in rw k refl
+place_more from (x ∷ xs) line p q e n = option_and_then_some _ (place_behind_line x from) p e (λ next a e1. rw a (place_more next xs line p q e1 n))
 
 shown_more : (wanted : Option ℕ) (lines : List Line) (line : Line) → is_shown wanted (lines ++ line ∷ []) ≡ is_shown wanted lines || shows wanted line
 shown_more wanted lines line = list_any-append (shows wanted) lines (line ∷ []) ∙ ap (λ (b : Bool). is_shown wanted lines || b) (or-false (shows wanted line))

@@ -9,12 +9,12 @@ use Rattle.lay_frag.specs.declared.frag.FragKind.{FragKind}
 use Rattle.lay_frag.specs.declared.frag.FragKind.TheVariants.{Box, Line, Text}
 use Rattle.lay_drawing.specs.declared.mark.Mark.TheVariants.{Same}
 use Rattle.lay_drawing.specs.Marks.{marked}
-use Rattle.lay_drawing.specs.Changes.{is_kind, is_same, mark_after, left_of, NothingDiffers}
+use Rattle.lay_drawing.specs.Changes.{is_same_kind, is_same, mark_after, left_of, NothingDiffers}
 
 int_same : (z : ℤ) → int_eq z z ≡ true
 int_same z = (Decides-int_eq z z).1 refl
 
-kind_same : (k : FragKind) → is_kind k k ≡ true
+kind_same : (k : FragKind) → is_same_kind k k ≡ true
 kind_same Box = refl
 kind_same Line = refl
 kind_same Text = refl

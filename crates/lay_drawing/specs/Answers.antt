@@ -49,9 +49,9 @@ pub data IsRefusal (bytes : List ℕ) (wish : Wish) (line : List ℕ) : Type 0 w
   no_tree : (version : ℕ) → Misses bytes wish version → line ≡ numbered_line (codes "refused version ") version → IsRefusal bytes wish line
 
 -- a text that answers the bytes
-pub data IsAnswer (bytes : List ℕ) (wish : Wish) (text : List ℕ) : Type 0 where
-  drawn : IsPicture bytes wish text → IsAnswer bytes wish text
-  refused : IsRefusal bytes wish text → IsAnswer bytes wish text
+pub data IsDrawingAnswer (bytes : List ℕ) (wish : Wish) (text : List ℕ) : Type 0 where
+  drawn : IsPicture bytes wish text → IsDrawingAnswer bytes wish text
+  refused : IsRefusal bytes wish text → IsDrawingAnswer bytes wish text
 
 abbrev pub AnswersBytes : List ℕ → Wish → Answer → Type 0
 AnswersBytes bytes wish (Picture text) = IsPicture bytes wish text

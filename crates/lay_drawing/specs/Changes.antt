@@ -29,27 +29,27 @@ is_text Box = false
 is_text Line = false
 is_text Text = true
 
-abbrev pub is_kind : FragKind → FragKind → Bool
-is_kind Box kind = is_box kind
-is_kind Line kind = is_line kind
-is_kind Text kind = is_text kind
+abbrev pub is_same_kind : FragKind → FragKind → Bool
+is_same_kind Box kind = is_box kind
+is_same_kind Line kind = is_line kind
+is_same_kind Text kind = is_text kind
 
 -- two pieces have one name
 abbrev pub is_named : Frag → Frag → Bool
-is_named f g = is_kind f.kind g.kind && f.node.0 == g.node.0 && f.part == g.part
+is_named f g = is_same_kind f.kind g.kind && f.node.0 == g.node.0 && f.part == g.part
 
 abbrev pub is_sized : Frag → Frag → Bool
 is_sized f g = int_eq f.rect.w.0 g.rect.w.0 && int_eq f.rect.h.0 g.rect.h.0
 
-abbrev pub is_placed : Frag → Frag → Bool
-is_placed f g = int_eq f.rect.x.0 g.rect.x.0 && int_eq f.rect.y.0 g.rect.y.0
+abbrev pub is_placed_alike : Frag → Frag → Bool
+is_placed_alike f g = int_eq f.rect.x.0 g.rect.x.0 && int_eq f.rect.y.0 g.rect.y.0
 
 -- they have one name and one size, and one place too
 abbrev pub is_moved : Frag → Frag → Bool
 is_moved f g = is_named f g && is_sized f g
 
 abbrev pub is_same : Frag → Frag → Bool
-is_same f g = is_moved f g && is_placed f g
+is_same f g = is_moved f g && is_placed_alike f g
 
 -- what is said of a piece of the later tree
 abbrev pub mark_after : List Frag → Frag → Mark

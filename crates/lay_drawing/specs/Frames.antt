@@ -15,16 +15,16 @@ abbrev pub edges : Frag → Frame
 edges f = record { across = reach f.rect.x.0 f.rect.w.0; down = reach f.rect.y.0 f.rect.h.0 }
 
 -- the least that holds two
-abbrev pub wider : Span → Span → Span
-wider a b = record { low = int_min a.low b.low; high = int_max a.high b.high }
+abbrev pub wider_span : Span → Span → Span
+wider_span a b = record { low = int_min a.low b.low; high = int_max a.high b.high }
 
 abbrev pub joined : Frame → Frame → Frame
-joined a b = record { across = wider a.across b.across; down = wider a.down b.down }
+joined a b = record { across = wider_span a.across b.across; down = wider_span a.down b.down }
 
 -- the least frame that holds all pieces; where there are none, one of no size
-abbrev pub frame_of : List Marked → Frame
-frame_of [] = record { across = record { low = pos 0; high = pos 0 }; down = record { low = pos 0; high = pos 0 } }
-frame_of (m ∷ ms) = fold (λ frame other. joined frame (edges other.piece)) (edges m.piece) ms
+abbrev pub frame_around : List Marked → Frame
+frame_around [] = record { across = record { low = pos 0; high = pos 0 }; down = record { low = pos 0; high = pos 0 } }
+frame_around (m ∷ ms) = fold (λ frame other. joined frame (edges other.piece)) (edges m.piece) ms
 
 abbrev pub IsWithin : Span → Span → Type 0
 IsWithin inner outer = (outer.low ≤ℤ inner.low) × (inner.high ≤ℤ outer.high)
@@ -34,4 +34,4 @@ abbrev pub Holds : Frame → Marked → Type 0
 Holds frame m = IsWithin (edges m.piece).across frame.across × IsWithin (edges m.piece).down frame.down
 
 abbrev pub FramesHold : Type 0
-FramesHold = (pieces : List Marked) → All (Holds (frame_of pieces)) pieces
+FramesHold = (pieces : List Marked) → All (Holds (frame_around pieces)) pieces

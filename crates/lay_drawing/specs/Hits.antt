@@ -5,11 +5,11 @@ use Rattle.lay_drawing.specs.declared.hit.PieceName.{PieceName}
 use Rattle.lay_drawing.specs.declared.mark.Mark.{Mark}
 use Rattle.lay_drawing.specs.declared.mark.Mark.TheVariants.{Plain, Hit}
 use Rattle.lay_drawing.specs.declared.mark.Marked.{Marked}
-use Rattle.lay_drawing.specs.Changes.{is_kind}
+use Rattle.lay_drawing.specs.Changes.{is_same_kind}
 use Rattle.lay_drawing.specs.Marks.{marked}
 
 abbrev pub is_called : PieceName → Frag → Bool
-is_called n f = is_kind n.kind f.kind && f.node.0 == n.node && f.part == n.part
+is_called n f = is_same_kind n.kind f.kind && f.node.0 == n.node && f.part == n.part
 
 abbrev pub hit_mark : PieceName → Frag → Mark
 hit_mark n f = if is_called n f then Hit else Plain

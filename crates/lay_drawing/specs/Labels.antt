@@ -23,8 +23,8 @@ abbrev pub label_height : ℤ
 label_height = pos 832
 
 -- the label is one of the boxes with this upper left corner
-abbrev pub is_at : ℤ → ℤ → Label → Bool
-is_at left top label = int_eq label.corner left && int_eq label.frame.down.low top
+abbrev pub is_label_at : ℤ → ℤ → Label → Bool
+is_label_at left top label = int_eq label.corner left && int_eq label.frame.down.low top
 
 -- a size from an edge reaches into a span
 abbrev pub meets : ℤ → ℤ → Span → Bool
@@ -43,7 +43,7 @@ begin_at left top width labels = fold (behind top width) left labels
 
 -- the number stands at this corner
 abbrev pub is_told : ℤ → ℤ → ℕ → List Label → Bool
-is_told left top node labels = list_any (λ label. is_at left top label && label.node == node) labels
+is_told left top node labels = list_any (λ label. is_label_at left top label && label.node == node) labels
 
 -- two spans have a point in common
 abbrev pub crosses : Span → Span → Bool

@@ -12,7 +12,7 @@ use Rattle.lay_drawing.specs.declared.label.Label.{Label}
 use Rattle.lay_drawing.specs.declared.mark.Marked.{Marked}
 use Rattle.lay_drawing.specs.Pixels.{px_text}
 use Rattle.lay_drawing.specs.Marks.{mark_word}
-use Rattle.lay_drawing.specs.Frames.{edges, frame_of}
+use Rattle.lay_drawing.specs.Frames.{edges, frame_around}
 use Rattle.lay_drawing.specs.Labels.{labels_of}
 
 -- an attribute with a length
@@ -20,8 +20,8 @@ unfoldable pub length_text : List ℕ → ℤ → List ℕ
 length_text name units = codes " " ++ name ++ codes "=\"" ++ px_text units ++ codes "\""
 
 -- a margin of one px stands round all, so that no outline is cut: its outer edge
-abbrev pub outside : Span → ℤ
-outside s = s.low -ℤ pos 64
+abbrev pub outer_edge : Span → ℤ
+outer_edge s = s.low -ℤ pos 64
 
 -- from its outer edge to the other
 abbrev pub full_size : Span → ℤ
@@ -29,7 +29,7 @@ full_size s = (s.high -ℤ s.low) +ℤ pos 128
 
 unfoldable pub view_text : Frame → List ℕ
 view_text frame =
-    px_text (outside frame.across) ++ codes " " ++ px_text (outside frame.down)
+    px_text (outer_edge frame.across) ++ codes " " ++ px_text (outer_edge frame.down)
     ++ codes " " ++ px_text (full_size frame.across) ++ codes " " ++ px_text (full_size frame.down)
 
 unfoldable pub full_sizes : Frame → List ℕ
@@ -116,4 +116,4 @@ abbrev pub label_texts : List Label → List ℕ
 label_texts labels = flat_map label_text labels
 
 abbrev pub picture : List Marked → List ℕ
-picture pieces = opening (frame_of pieces) ++ style ++ shapes pieces ++ label_texts (labels_of pieces) ++ codes "</svg>\n"
+picture pieces = opening (frame_around pieces) ++ style ++ shapes pieces ++ label_texts (labels_of pieces) ++ codes "</svg>\n"

@@ -54,9 +54,9 @@ abbrev pub counted_of : List (List ℕ) → Option ℕ
 counted_of [] = None
 counted_of (field ∷ rest) = if length rest == 0 then number_of field else None
 
-abbrev pub shown_of : List (List ℕ) → Option (Option ℕ)
-shown_of [] = None
-shown_of (field ∷ rest) =
+abbrev pub version_shown : List (List ℕ) → Option (Option ℕ)
+version_shown [] = None
+version_shown (field ∷ rest) =
     if is_word (codes "nomemory") field && (length rest == 0) then Some None
     else (do
       version ← counted_of (field ∷ rest)
@@ -68,7 +68,7 @@ read_of (editor ∷ []) = None
 read_of (editor ∷ index ∷ reply) = do
   e ← small_of editor
   i ← small_of index
-  shown ← shown_of reply
+  shown ← version_shown reply
   Some (e, i, shown)
 
 -- an `E` and the number of a fault
@@ -79,9 +79,9 @@ fault_of (letter ∷ digits) = do
   if letter == 69 && nat_le 1 n && nat_le n 11 then Some n else None
 
 -- the place of an edit, where it is one of several
-abbrev pub place_of : List (List ℕ) → Option (Option ℕ)
-place_of [] = Some None
-place_of (word ∷ rest) =
+abbrev pub place_field : List (List ℕ) → Option (Option ℕ)
+place_field [] = Some None
+place_field (word ∷ rest) =
     if is_word (codes "at") word then (do
       place ← counted_of rest
       Some (Some place))
@@ -91,7 +91,7 @@ abbrev pub refused_of : List (List ℕ) → Option EditReply
 refused_of [] = None
 refused_of (field ∷ rest) = do
   fault ← fault_of field
-  place ← place_of rest
+  place ← place_field rest
   Some (Refused fault place)
 
 abbrev pub reply_of : List (List ℕ) → Option EditReply
@@ -103,10 +103,10 @@ reply_of (word ∷ rest) =
     else (if is_word (codes "refused") word then refused_of rest
     else (if is_word (codes "nomemory") word && (length rest == 0) then Some NoMemory else None))
 
-abbrev pub edit_of : List (List ℕ) → Option Line
-edit_of [] = None
-edit_of (editor ∷ []) = None
-edit_of (editor ∷ index ∷ reply) = do
+abbrev pub edit_line : List (List ℕ) → Option Line
+edit_line [] = None
+edit_line (editor ∷ []) = None
+edit_line (editor ∷ index ∷ reply) = do
   e ← small_of editor
   i ← small_of index
   r ← reply_of reply
@@ -144,7 +144,7 @@ piece_of kind (node ∷ part ∷ lengths) = do
 abbrev pub line_of : List (List ℕ) → Option Line
 line_of [] = None
 line_of (word ∷ rest) =
-    if is_word (codes "edit") word then edit_of rest
+    if is_word (codes "edit") word then edit_line rest
     else (if is_word (codes "latest") word then (do
       r ← read_of rest
       Some (Latest r.0 r.1 r.2))

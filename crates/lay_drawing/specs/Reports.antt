@@ -46,34 +46,34 @@ after_laid LastTree = Some End
 after_laid End = None
 
 -- where a line leads that stands in a place, if it may stand there
-abbrev pub next_place : Line → Place → Option Place
-next_place (Edit editor index reply) place = after_entry place
-next_place (Publish version) place = after_entry place
-next_place (Latest editor index shown) place = after_read shown place
-next_place (Sync editor index shown) place = after_read shown place
-next_place (Final version) place = after_final place
-next_place (Laid count) place = after_laid place
-next_place (Piece f) place = after_piece place
+abbrev pub place_behind_line : Line → Place → Option Place
+place_behind_line (Edit editor index reply) place = after_entry place
+place_behind_line (Publish version) place = after_entry place
+place_behind_line (Latest editor index shown) place = after_read shown place
+place_behind_line (Sync editor index shown) place = after_read shown place
+place_behind_line (Final version) place = after_final place
+place_behind_line (Laid count) place = after_laid place
+place_behind_line (Piece f) place = after_piece place
 
 -- where the lines lead from a place, if they may stand there one after the other
 abbrev pub place_after : Place → List Line → Option Place
 place_after place [] = Some place
-place_after place (line ∷ lines) = option_and_then (λ next. place_after next lines) (next_place line place)
+place_after place (line ∷ lines) = option_and_then (λ next. place_after next lines) (place_behind_line line place)
 
 -- a report may end there
-abbrev pub is_whole : Place → Bool
-is_whole History = false
-is_whole Tree = false
-is_whole LastTree = true
-is_whole End = true
+abbrev pub is_report_whole : Place → Bool
+is_report_whole History = false
+is_report_whole Tree = false
+is_report_whole LastTree = true
+is_report_whole End = true
 
-abbrev pub is_version : Option ℕ → ℕ → Bool
-is_version None version = false
-is_version (Some wanted) version = version == wanted
+abbrev pub is_wanted_version : Option ℕ → ℕ → Bool
+is_wanted_version None version = false
+is_wanted_version (Some wanted) version = version == wanted
 
 abbrev pub shows_read : Option ℕ → Option ℕ → Bool
 shows_read wanted None = false
-shows_read wanted (Some version) = is_version wanted version
+shows_read wanted (Some version) = is_wanted_version wanted version
 
 abbrev pub shows_final : Option ℕ → ℕ → Bool
 shows_final None version = true
@@ -131,7 +131,7 @@ pub record AreLines (bytes : List ℕ) (lines : List Line) (place : Place) (rest
 pub record IsReport (bytes : List ℕ) (lines : List Line) : Type 0 where
   pub place : Place
   pub are_lines : AreLines bytes lines place []
-  pub whole : is_whole place ≡ true
+  pub whole : is_report_whole place ≡ true
 
 -- the bytes are a report that shows the wanted tree, and these are its pieces; the last tree is in every report
 pub record ShowsPieces (bytes : List ℕ) (wanted : Option ℕ) (pieces : List Frag) : Type 0 where
@@ -148,9 +148,9 @@ pub record ShowsNoTree (bytes : List ℕ) (version : ℕ) : Type 0 where
 
 -- no line that may stand there stands in front of what is left, and nothing is left only where lines are missing
 pub record IsNoLine (place : Place) (rest : List ℕ) : Type 0 where
-  pub none : (line : Line) (next : Place) (more : List ℕ) → IsLine line → next_place line place ≡ Some next
+  pub none : (line : Line) (next : Place) (more : List ℕ) → IsLine line → place_behind_line line place ≡ Some next
       → rest ≡ line_text line ++ more → ⊥
-  pub missing : rest ≡ [] → is_whole place ≡ false
+  pub missing : rest ≡ [] → is_report_whole place ≡ false
 
 -- the line of this number, from 1, is the first that is none of a report
 pub record IsBadLine (bytes : List ℕ) (number : ℕ) : Type 0 where

@@ -8,7 +8,8 @@ use Rattle.lay_drawing.specs.declared.state.Reading.{Reading}
 use Rattle.lay_drawing.specs.declared.state.Stop.{Stop}
 use Rattle.lay_drawing.specs.declared.state.Stop.TheVariants.{BadLine, NoMemory}
 use Rattle.lay_drawing.specs.Lines.{line_text, IsLine}
-use Rattle.lay_drawing.specs.Reports.{place_after, next_place, is_shown, is_piece, shows, piece_in, pieces_shown, IsReport, IsBadLine}
+use Rattle.lay_drawing.specs.Reports.{place_after, place_behind_line, is_shown, is_piece, shows}
+use Rattle.lay_drawing.specs.Reports.{piece_in, pieces_shown, IsReport, IsBadLine}
 
 -- the lines since the first that shows the wanted tree are pieces of it
 abbrev pub all_pieces : List Line → Bool
@@ -37,7 +38,7 @@ pub record HasRead (s : Reading) (bytes : List ℕ) : Type 0 where
 
 -- one more line is read
 pub record Adds (s : Reading) (line : Line) (t : Reading) : Type 0 where
-  pub place_is : next_place line s.place ≡ Some t.place
+  pub place_is : place_behind_line line s.place ≡ Some t.place
   pub count_is : t.count ≡ s.count + 1
   pub wanted_is : t.wanted ≡ s.wanted
   pub text_is : t.text.items ≡ s.text.items
@@ -47,13 +48,13 @@ pub record Adds (s : Reading) (line : Line) (t : Reading) : Type 0 where
 
 -- why a line isn't added
 abbrev pub CantAdd : Reading → Line → Stop → Type 0
-CantAdd s line (BadLine number) = (next_place line s.place ≡ None) × (number ≡ s.count + 1)
+CantAdd s line (BadLine number) = (place_behind_line line s.place ≡ None) × (number ≡ s.count + 1)
 CantAdd s line NoMemory = Unit {0}
 
 -- the number of the next line, unless it is too great
-abbrev pub IsNext : ℕ → Stop → Type 0
-IsNext count (BadLine number) = number ≡ count + 1
-IsNext count NoMemory = Unit {0}
+abbrev pub IsNextLineNumber : ℕ → Stop → Type 0
+IsNextLineNumber count (BadLine number) = number ≡ count + 1
+IsNextLineNumber count NoMemory = Unit {0}
 
 -- reading these bytes leads from one state to another
 pub record Reads (s : Reading) (bytes : List ℕ) (t : Reading) : Type 0 where

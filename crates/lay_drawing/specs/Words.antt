@@ -44,8 +44,8 @@ bare_app = let a =
     }
 
 -- the command with its three options
-abbrev pub our_app : App
-our_app = with_rule (with_rule (with_rule bare_app version_rule) between_rule) hit_rule
+abbrev pub drawing_app : App
+drawing_app = with_rule (with_rule (with_rule bare_app version_rule) between_rule) hit_rule
 
 abbrev pub tree_at : List ℕ → Option Wish
 tree_at value = option_and_then (λ version. Some (Tree (Some version))) (number_of value)
@@ -91,9 +91,9 @@ wish_with versions between (k ∷ more) = if length versions == 0 && length betw
 -- words with a fault ask for nothing
 abbrev pub wish_of : List (List ℕ) → Option Wish
 wish_of words =
-    if length (fault_of our_app words) == 0
-    then wish_with (values_at (codes "version") (matches_of our_app words))
-    (values_at (codes "between") (matches_of our_app words)) (values_at (codes "hit") (matches_of our_app words))
+    if length (fault_of drawing_app words) == 0
+    then wish_with (values_at (codes "version") (matches_of drawing_app words))
+    (values_at (codes "between") (matches_of drawing_app words)) (values_at (codes "hit") (matches_of drawing_app words))
     else None
 
 -- what the words ask for

@@ -3,7 +3,7 @@
 ghost use Rattle.std.specs.Prelude.{◌≡◌, ◌≢◌, ◌⊎◌, ℕ, List, codes, Some, IfSome};
 ghost use Rattle.lay_outside.specs.Outside.{Rose, Took, TookFront, IsDrained};
 ghost use Rattle.lay_drawing.specs.Words.{AskFor, AreWrong};
-ghost use Rattle.lay_drawing.specs.Answers.{IsPicture, IsRefusal, IsAnswer};
+ghost use Rattle.lay_drawing.specs.Answers.{IsPicture, IsRefusal, IsDrawingAnswer};
 
 use crate::answer::{Answer, Lack, answer_to};
 use crate::words::{Wish, read_words};
@@ -69,7 +69,7 @@ pub fn draw<S: Source, K: Sink>(
     // After a fault of the sink it has a front of an answer.
     ensures front { result ≡ Ending.WriteFault → (wish : Wish) → AskFor words.now wish
         → IfSome (S.left source.old)
-        (λ bytes. (text : List ℕ) × IsAnswer bytes wish text × TookFront (K.taken sink.old) (K.taken sink.new) text) }
+        (λ bytes. (text : List ℕ) × IsDrawingAnswer bytes wish text × TookFront (K.taken sink.old) (K.taken sink.new) text) }
     ensures usage_front { result ≡ Ending.WriteFault → AreWrong words.now
         → TookFront (K.taken sink.old) (K.taken sink.new) (codes "usage\n") }
 
@@ -109,7 +109,7 @@ fn drawn<S: Source, K: Sink>(alloc: Global, wish: Wish, source: &mut S, sink: &m
     ensures no_memory { result ≡ Ending.NoMemory → K.taken sink.new ≡ K.taken sink.old }
     ensures front { result ≡ Ending.WriteFault
         → IfSome (S.left source.old)
-        (λ bytes. (text : List ℕ) × IsAnswer bytes wish text × TookFront (K.taken sink.old) (K.taken sink.new) text) }
+        (λ bytes. (text : List ℕ) × IsDrawingAnswer bytes wish text × TookFront (K.taken sink.old) (K.taken sink.new) text) }
 {
     match answer_to(alloc, wish, source) {
         Ok(Answer::Picture(text)) => told(sink, text.as_str(), Ending::Drawn),

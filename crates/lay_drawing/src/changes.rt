@@ -3,7 +3,7 @@
 ghost use Rattle.std.specs.Prelude.{◌≡◌, ◌++◌, IfOk, OnOk, map};
 ghost use Rattle.std.specs.List.{flat_map, list_any};
 ghost use Rattle.lay_drawing.specs.Marks.{marked};
-ghost use Rattle.lay_drawing.specs.Changes.{is_box, is_line, is_text, is_kind, is_named, is_sized, is_placed, is_moved};
+ghost use Rattle.lay_drawing.specs.Changes.{is_box, is_line, is_text, is_same_kind, is_named, is_sized, is_placed_alike, is_moved};
 ghost use Rattle.lay_drawing.specs.Changes.{is_same, mark_after, mark_before, left_of, differences, NothingDiffers};
 
 use crate::mark::{Mark, Marked};
@@ -134,7 +134,7 @@ fn is_moved(a: &Frag, b: &Frag) -> bool
 }
 
 fn is_placed(a: &Frag, b: &Frag) -> bool
-    ensures { result ≡ is_placed a.now b.now }
+    ensures { result ≡ is_placed_alike a.now b.now }
 {
     a.rect.x.0 == b.rect.x.0 && a.rect.y.0 == b.rect.y.0
 }
@@ -152,7 +152,7 @@ fn is_named(a: &Frag, b: &Frag) -> bool
 }
 
 pub(crate) fn is_kind(a: FragKind, b: FragKind) -> bool
-    ensures { result ≡ is_kind a b }
+    ensures { result ≡ is_same_kind a b }
 {
     match a {
         FragKind::Box => is_box(b),

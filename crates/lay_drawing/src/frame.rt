@@ -5,7 +5,7 @@ ghost use Rattle.std.specs.List.{All};
 ghost use Rattle.lay_units.specs.Units.{IsPosition};
 ghost use Rattle.lay_drawing.specs.Lines.{IsPiece};
 ghost use Rattle.lay_drawing.specs.Marks.{IsMarked};
-ghost use Rattle.lay_drawing.specs.Frames.{reach, edges, wider, joined, frame_of, FramesHold};
+ghost use Rattle.lay_drawing.specs.Frames.{reach, edges, wider_span, joined, frame_around, FramesHold};
 
 use crate::mark::Marked;
 use lay_frag::Frag;
@@ -28,7 +28,7 @@ pub struct Frame {
 /// The least frame that holds all pieces; where there are none, one of no size.
 pub(crate) fn frame_of(pieces: &[Marked]) -> Frame
     requires { All IsMarked pieces.now }
-    ensures { result ≡ frame_of pieces.now }
+    ensures { result ≡ frame_around pieces.now }
 {
     match pieces.split_first() {
         None => Frame {
@@ -84,7 +84,7 @@ fn joined(a: Frame, b: Frame) -> Frame
 }
 
 fn wider(a: Span, b: Span) -> Span
-    ensures { result ≡ wider a b }
+    ensures { result ≡ wider_span a b }
 {
     Span {
         low: a.low.min(b.low),

@@ -4,7 +4,7 @@ ghost use Rattle.std.specs.Prelude.{◌≡◌, ◌≤ℤ◌, ◌-ℤ◌, pos, If
 ghost use Rattle.std.specs.List.{All};
 ghost use Rattle.std.specs.Fmt.{decimal};
 ghost use Rattle.lay_drawing.specs.Marks.{IsMarked};
-ghost use Rattle.lay_drawing.specs.Labels.{label_width, is_at, meets, is_in_way, behind, begin_at, is_told};
+ghost use Rattle.lay_drawing.specs.Labels.{label_width, is_label_at, meets, is_in_way, behind, begin_at, is_told};
 ghost use Rattle.lay_drawing.specs.Labels.{crosses, overlaps, is_free, span_up_to, place_in, label_at, label_in};
 ghost use Rattle.lay_drawing.specs.Labels.{label_for, with_label, labels_of, LabelsAreApart, LabelsAreInBoxes};
 
@@ -171,7 +171,7 @@ fn meets(from: i64, size: i64, span: Span) -> bool
 }
 
 fn is_at(label: &Label, left: i64, top: i64) -> bool
-    ensures { result ≡ is_at left top label.now }
+    ensures { result ≡ is_label_at left top label.now }
 {
     label.corner == left && label.frame.down.low == top
 }

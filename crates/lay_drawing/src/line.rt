@@ -1,8 +1,8 @@
 //! The lines of a report.
 
 ghost use Rattle.std.specs.Prelude.{◌≡◌, map};
-ghost use Rattle.lay_drawing.specs.Reading.{line_of, edit_of, reply_of, refused_of, place_of, fault_of};
-ghost use Rattle.lay_drawing.specs.Reading.{read_of, shown_of, counted_of, piece_of, rect_of, kind_of, is_word};
+ghost use Rattle.lay_drawing.specs.Reading.{line_of, edit_line, reply_of, refused_of, place_field, fault_of};
+ghost use Rattle.lay_drawing.specs.Reading.{read_of, version_shown, counted_of, piece_of, rect_of, kind_of, is_word};
 
 use crate::numbers::{number, position, small};
 use lay_doc::NodeId;
@@ -74,7 +74,7 @@ fn is_word(field: &[u8], word: &str) -> bool
 }
 
 fn edit(fields: &[&[u8]]) -> Option<Line>
-    ensures { result ≡ edit_of (map (λ f. f.now) fields.now) }
+    ensures { result ≡ edit_line (map (λ f. f.now) fields.now) }
 {
     let (editor, rest) = fields.split_first()?;
     let (index, reply_fields) = rest.split_first()?;
@@ -107,7 +107,7 @@ fn refused(fields: &[&[u8]]) -> Option<EditReply>
 
 /// The place of an edit among several, where one is named.
 fn place(fields: &[&[u8]]) -> Option<Option<u64>>
-    ensures { result ≡ place_of (map (λ f. f.now) fields.now) }
+    ensures { result ≡ place_field (map (λ f. f.now) fields.now) }
 {
     if fields.is_empty() {
         return Some(None);
@@ -142,7 +142,7 @@ fn read(fields: &[&[u8]]) -> Option<(u32, u32, Option<u64>)>
 }
 
 fn shown(fields: &[&[u8]]) -> Option<Option<u64>>
-    ensures { result ≡ shown_of (map (λ f. f.now) fields.now) }
+    ensures { result ≡ version_shown (map (λ f. f.now) fields.now) }
 {
     let (field, rest) = fields.split_first()?;
     if is_word(field, "nomemory") && rest.is_empty() {

@@ -5,7 +5,7 @@ ghost use Rattle.std.specs.List.{All};
 ghost use Rattle.std.specs.Fmt.{decimal};
 ghost use Rattle.lay_frag.specs.Lines.{kind_word};
 ghost use Rattle.lay_drawing.specs.Marks.{IsMarked};
-ghost use Rattle.lay_drawing.specs.Picture.{length_text, outside, full_size, full_sizes, view_text, opening};
+ghost use Rattle.lay_drawing.specs.Picture.{length_text, outer_edge, full_size, full_sizes, view_text, opening};
 ghost use Rattle.lay_drawing.specs.Picture.{class_text, title_text, place_text, size, sizes, number_left};
 ghost use Rattle.lay_drawing.specs.Picture.{number_base, label_text, label_texts, shape, shapes, picture};
 
@@ -74,7 +74,7 @@ fn push_view(text: &mut String, frame: Frame) -> Result<(), NoMemory>
 
 /// The outer edge of the margin.
 fn outside(span: Span) -> i128
-    ensures { result ≡ outside span }
+    ensures { result ≡ outer_edge span }
 {
     i128::from(span.low) - 64
 }

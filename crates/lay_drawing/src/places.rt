@@ -1,8 +1,8 @@
 //! Which line may stand where, and which shows the wanted tree.
 
 ghost use Rattle.std.specs.Prelude.{◌≡◌};
-ghost use Rattle.lay_drawing.specs.Reports.{next_place, after_entry, after_read, after_final, after_piece};
-ghost use Rattle.lay_drawing.specs.Reports.{after_laid, is_whole, is_version, shows, shows_read, shows_final};
+ghost use Rattle.lay_drawing.specs.Reports.{place_behind_line, after_entry, after_read, after_final, after_piece};
+ghost use Rattle.lay_drawing.specs.Reports.{after_laid, is_report_whole, is_wanted_version, shows, shows_read, shows_final};
 
 use crate::line::Line;
 
@@ -21,7 +21,7 @@ pub enum Place {
 
 /// Where a line leads that stands in a place, if it may stand there.
 pub(crate) fn next_place(line: &Line, place: Place) -> Option<Place>
-    ensures { result ≡ next_place line.now place }
+    ensures { result ≡ place_behind_line line.now place }
 {
     match line {
         Line::Edit(_, _, _) => after_entry(place),
@@ -85,7 +85,7 @@ fn after_laid(place: Place) -> Option<Place>
 
 /// Whether a report may end there.
 pub(crate) fn is_whole(place: Place) -> bool
-    ensures { result ≡ is_whole place }
+    ensures { result ≡ is_report_whole place }
 {
     match place {
         Place::LastTree | Place::End => true,
@@ -115,7 +115,7 @@ fn shows_read(wanted: Option<u64>, shown: Option<u64>) -> bool
 }
 
 fn is_version(wanted: Option<u64>, version: u64) -> bool
-    ensures { result ≡ is_version wanted version }
+    ensures { result ≡ is_wanted_version wanted version }
 {
     match wanted {
         None => false,

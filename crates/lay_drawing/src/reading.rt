@@ -2,7 +2,7 @@
 ghost use Rattle.std.specs.Prelude.{◌≡◌, ◌+◌, ◌∷◌, [], ◌++◌, ◌&&◌, ◌||◌, not, if◌then◌else◌, OnOk, OnErr, IfErr, ℕ, List};
 ghost use Rattle.lay_drawing.specs.Lines.{IsLine};
 ghost use Rattle.lay_drawing.specs.Reports.{is_piece, piece_in, shows};
-ghost use Rattle.lay_drawing.specs.States.{HasRead, Adds, CantAdd, IsNext, Reads, Stops, WasReport, StopsAtEnd};
+ghost use Rattle.lay_drawing.specs.States.{HasRead, Adds, CantAdd, IsNextLineNumber, Reads, Stops, WasReport, StopsAtEnd};
 
 use crate::fields::read_line;
 use crate::line::Line;
@@ -135,7 +135,7 @@ impl Reading {
     }
 
     fn bad_line(&self) -> Stop
-        ensures { IsNext self.now.count result }
+        ensures { IsNextLineNumber self.now.count result }
     {
         match self.count.checked_add(1) {
             Some(number) => Stop::BadLine(number),

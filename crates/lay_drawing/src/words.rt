@@ -3,7 +3,7 @@
 ghost use Rattle.std.specs.Prelude.{◌≡◌, IfOk, [], map, string_bytes, codes, false, option_map, unwrap_or};
 ghost use Rattle.clap.specs.Words.{app_of, found_of, rows_of, rule_of};
 ghost use Rattle.lay_words.specs.Agree.{values_at};
-ghost use Rattle.lay_drawing.specs.Words.{our_app, version_rule, between_rule, hit_rule, tree_at, between_at, hit_at, wish_with_one};
+ghost use Rattle.lay_drawing.specs.Words.{drawing_app, version_rule, between_rule, hit_rule, tree_at, between_at, hit_at, wish_with_one};
 ghost use Rattle.lay_drawing.specs.Words.{wish_with_two, wish_with_three, wish_with_rest, wish_of_trees, wish_with, wish_of};
 
 use crate::hit::PieceName;
@@ -44,7 +44,7 @@ pub(crate) fn read_words(alloc: Global, words: &[String]) -> Result<Option<Wish>
 
 /// The command that reads the words.
 fn command<'a>(alloc: Global) -> Result<Command<'a>, AllocError>
-    ensures { IfOk result (λ c. app_of c ≡ our_app) }
+    ensures { IfOk result (λ c. app_of c ≡ drawing_app) }
 {
     let version = version(alloc);
     let between = between(alloc);

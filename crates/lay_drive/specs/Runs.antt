@@ -33,10 +33,10 @@ pub record AreCalled (before : PassOf) (commands : List Cmd) (after : PassOf) : 
   pub own : calls after.knows.own ≡ calls before.knows.own ++ script_calls before.knows.number (length before.knows.own) commands
 
 -- the pass of a job after its script
-abbrev pub IsRun : Job → PassOf → Type 0
-IsRun j p = AreCalled j.pass j.script p
+abbrev pub IsJobRun : Job → PassOf → Type 0
+IsJobRun j p = AreCalled j.pass j.script p
 
 -- the passes of all jobs, in their order
 pub record AreRun (jobs : List Job) (passes : List PassOf) : Type 0 where
   pub count : length passes ≡ length jobs
-  pub each : (place : ℕ) (j : Job) (p : PassOf) → slice_get jobs place ≡ Some j → slice_get passes place ≡ Some p → IsRun j p
+  pub each : (place : ℕ) (j : Job) (p : PassOf) → slice_get jobs place ≡ Some j → slice_get passes place ≡ Some p → IsJobRun j p

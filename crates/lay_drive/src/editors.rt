@@ -2,7 +2,7 @@
 
 ghost use Rattle.std.specs.Prelude.{◌≡◌, ◌<◌, ◌≤◌, length, IfOk};
 ghost use Rattle.std.specs.List.{All};
-ghost use Rattle.lay_drive.specs.Runs.{AreRun, IsCalled, IsRun};
+ghost use Rattle.lay_drive.specs.Runs.{AreRun, IsCalled, IsJobRun};
 
 use crate::jobs::Job;
 use crate::session::Session;
@@ -28,7 +28,7 @@ pub(crate) fn edit_all<R: Threads + Wait + Sync, G: Gate + Sync>(
 {
     let script = |job: Job| -> Pass
         requires { (job.pass.table ≡ session.now.engine.table) × (length job.script ≤ job.pass.knows.left) }
-        ensures { IsRun job result }
+        ensures { IsJobRun job result }
     { edit(rt, session, job, gate) };
     let passes = thread::map_vec(rt, jobs, &script);
     session.progress.end(rt);
@@ -39,7 +39,7 @@ pub(crate) fn edit_all<R: Threads + Wait + Sync, G: Gate + Sync>(
 fn edit<R: Wait, G: Gate>(rt: &R, session: &Session, job: Job, gate: &G) -> Pass
     requires of { job.pass.table ≡ session.now.engine.table }
     requires left { length job.script ≤ job.pass.knows.left }
-    ensures { IsRun job result }
+    ensures { IsJobRun job result }
 {
     let Job { mut pass, script } = job;
     for command in script.into_vec() {

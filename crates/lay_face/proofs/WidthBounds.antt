@@ -16,7 +16,7 @@ use Rattle.unicode_segmentation.proofs.SegmentsLemmas.{concat-segments}
 use Rattle.lay_face.specs.FaceValue.{FaceValue}
 use Rattle.lay_face.specs.Faces.{IsInRange, entry_of}
 use Rattle.lay_face.specs.declared.clusters.Setting.{Setting}
-use Rattle.lay_face.specs.Clusters.{IsUsedSetting, is_word_space, char_width, chars_width, is_linefeed, cluster_width, placed_widths, widths_of, WidthsFit}
+use Rattle.lay_face.specs.Clusters.{IsUsedSetting, is_word_space, char_width, chars_width, is_linefeed_cluster, cluster_width, placed_widths, widths_of, WidthsFit}
 use Rattle.lay_face.proofs.Measures.{measure_within, fits_lem}
 
 -- at most 2^35 from 0 for each of n
@@ -52,7 +52,7 @@ few_chars bs utf8 = omega (arith, length-le-encodes (chars bs), ap length (encod
 cluster_fits : (face : FaceValue) (s : Setting) (g : List ℕ) → IsUtf8 g → length g ≤ 1048576 → IsInRange face → IsUsedSetting s → IsPosition (cluster_width face s g)
 cluster_fits face s g utf8 short is used =
     let sum = chars_within face s (chars g) is used in
-    let last = spacing_within (is_linefeed g) s.letter.0 used.letter in
+    let last = spacing_within (is_linefeed_cluster g) s.letter.0 used.letter in
     let few = few_chars g utf8 in (omega (arith, ints, sum.0, last.0, few, short), omega (arith, ints, sum.1, last.1, few, short))
 
 utf8_past : (cs rest : List ℕ) → IsUtf8 (encode_utf8_all cs ++ rest) → IsUtf8 rest

@@ -24,12 +24,12 @@ abbrev pub chars_width : FaceValue → Setting → List ℕ → ℤ
 chars_width face s [] = pos 0
 chars_width face s (c ∷ cs) = char_width face s c +ℤ chars_width face s cs
 
-abbrev pub is_linefeed : List ℕ → Bool
-is_linefeed cluster = length cluster == 1 && slice_index cluster 0 == 10
+abbrev pub is_linefeed_cluster : List ℕ → Bool
+is_linefeed_cluster cluster = length cluster == 1 && slice_index cluster 0 == 10
 
 -- the letter-spacing after a cluster of these bytes
 abbrev pub spacing_after : Setting → List ℕ → ℤ
-spacing_after s cluster = if is_linefeed cluster then pos 0 else s.letter.0
+spacing_after s cluster = if is_linefeed_cluster cluster then pos 0 else s.letter.0
 
 -- the width of a cluster of these bytes
 abbrev pub cluster_width : FaceValue → Setting → List ℕ → ℤ
@@ -47,14 +47,14 @@ widths_of face s text = placed_widths face s 0 (graphemes true text)
 
 -- The lengths that a text is set in, the advances and the widths that follow are below 2^62 in absolute
 -- value.
-pub record SettingFits (face : FaceValue) (s : Setting) : Type 0 where
+pub record TextSettingFits (face : FaceValue) (s : Setting) : Type 0 where
   pub size : IsPosition s.size.0
   pub letter : IsPosition s.letter.0
   pub word : IsPosition s.word.0
   pub advances : (c : ℕ) → IsPosition (thousandths_of (entry_of face c) s.size.0)
 
 pub record WidthsFit (face : FaceValue) (s : Setting) (text : List ℕ) : Type 0 where
-  pub setting : SettingFits face s
+  pub setting : TextSettingFits face s
   pub widths : All (λ (w : ClusterWidth). IsPosition w.width.0) (widths_of face s text)
 
 -- used lengths, as those of a document's styles are

@@ -27,7 +27,7 @@ ghost use Rattle.lay_face.specs.Clusters.{
   cluster_width,
   widths_of,
   IsUsedSetting,
-  SettingFits,
+  TextSettingFits,
   WidthsFit,
 };
 
@@ -96,7 +96,7 @@ impl Face {
 
     /// The width of a character of a plain text, in 1/64 px: below 2^62 units in absolute value, and 0 for a linefeed.
     fn plain_width(&self, byte: u8, setting: Setting) -> Unit
-        requires setting { SettingFits self.now setting }
+        requires setting { TextSettingFits self.now setting }
         requires width { IsPosition (plain_width_of self.now setting byte) }
         ensures { result.0 ≡ plain_width_of self.now setting byte }
     {
@@ -138,7 +138,7 @@ impl Face {
     }
 
     fn cluster_width(&self, cluster: &str, setting: Setting) -> Unit
-        requires setting { SettingFits self.now setting }
+        requires setting { TextSettingFits self.now setting }
         requires width { IsPosition (cluster_width self.now setting cluster.now) }
         ensures { result.0 ≡ cluster_width self.now setting cluster.now }
     {
@@ -150,7 +150,7 @@ impl Face {
     }
 
     fn char_width(&self, c: char, setting: Setting) -> i64
-        requires { SettingFits self.now setting }
+        requires { TextSettingFits self.now setting }
         ensures value { result ≡ char_width self.now setting c }
         ensures low { neg_ℤ (pos 9223372036854775806) ≤ℤ result }
         ensures high { result ≤ℤ pos 9223372036854775806 }

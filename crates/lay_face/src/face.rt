@@ -4,7 +4,7 @@ ghost use Rattle.std.specs.Prelude.{◌≡◌, ◌↔◌, ◌≤◌, ◌<◌, po
 ghost use Rattle.lay_units.specs.Units.{IsPosition, IsUsed};
 ghost use Rattle.lay_face.specs.declared.pairs.AdvancePair.{AdvancePair as Pair};
 ghost use Rattle.lay_face.specs.Clusters.{WidthsFit};
-ghost use Rattle.lay_face.specs.Faces.{FitsAt, IsMeasure, MeasuresAreNear, face_of, entry_of, thousandths_of};
+ghost use Rattle.lay_face.specs.Faces.{FaceFitsAt, IsMeasure, MeasuresAreNear, face_of, entry_of, thousandths_of};
 
 use crate::metrics::FaceMetrics;
 use crate::pairs::PairList;
@@ -138,7 +138,7 @@ impl Face {
     /// are at most 10,000. Does nothing.
     pub fn fits_at(&self, size: Unit)
         requires { IsUsed size.0 }
-        ensures { FitsAt self.now size.0 }
+        ensures { FaceFitsAt self.now size.0 }
     {
         let _ = &self.table;
     }

@@ -14,7 +14,7 @@ use Rattle.lay_flow.specs.Blocks.MarginRuns.{block_at}
 use Rattle.lay_flow.specs.Blocks.BlockPositions.{is_lines}
 use Rattle.lay_flow.proofs.BlocksLemmas.Truths.{true_false}
 use Rattle.lay_floats.specs.ClearEdge.{Clears, IsClearEdge}
-use Rattle.lay_flow.specs.Blocks.BlockFloats.{Spot, float_of, floats_after, floats_before, place_at, spot_at, shape_at}
+use Rattle.lay_flow.specs.Blocks.BlockFloats.{Spot, float_with_shape, floats_after, floats_before, place_at, spot_at, shape_at}
 use Rattle.lay_flow.specs.Blocks.Clearance.{IsAbove}
 use Rattle.lay_flow.proofs.BlocksLemmas.FloatLists.{Has, has_there, has_back}
 
@@ -31,7 +31,7 @@ module _ (boxes : List FlowBox) (places : List Spot) where
 
   -- the floats after a box without lines
   after_is : (m : ℕ) (inside : Inside) → is_lines inside ≡ false
-      → floats_after (floats_before boxes places m) inside (shape_at boxes m) (spot_at places m) ≡ floats_before boxes places m ++ float_of (shape_at boxes m) (place_at places m)
+      → floats_after (floats_before boxes places m) inside (shape_at boxes m) (spot_at places m) ≡ floats_before boxes places m ++ float_with_shape (shape_at boxes m) (place_at places m)
   after_is m blocks_inside e = refl
   after_is m lines_inside e = absurd (true_false true refl e)
   after_is m solid_inside e = refl
@@ -45,7 +45,7 @@ module _ (boxes : List FlowBox) (places : List Spot) where
         (go (shape_at boxes m).float refl (stays n m ge (λ j low high. bare j low (omega (arith, high))) f w))
   ]
     where
-      go : (o : Option Side) → (shape_at boxes m).float ≡ o → Has (floats_before boxes places m) f → Has (floats_before boxes places m ++ float_of (shape_at boxes m) (place_at places m)) f
+      go : (o : Option Side) → (shape_at boxes m).float ≡ o → Has (floats_before boxes places m) f → Has (floats_before boxes places m ++ float_with_shape (shape_at boxes m) (place_at places m)) f
       go None e h = rw e (nothing_has (floats_before boxes places m) f h)
       go (Some side) e h = rw e (has_there (floats_before boxes places m) _ f h)
 
@@ -59,7 +59,7 @@ module _ (boxes : List FlowBox) (places : List Spot) where
         (go (shape_at boxes m).float refl ge (subst (λ (xs : List Placed). Has xs f) (after_is m (block_at boxes m).inside (bare m ge (omega arith))) w))
   ]
     where
-      go : (o : Option Side) → (shape_at boxes m).float ≡ o → n ≤ m → Has (floats_before boxes places m ++ float_of (shape_at boxes m) (place_at places m)) f → Has (floats_before boxes places m) f
+      go : (o : Option Side) → (shape_at boxes m).float ≡ o → n ≤ m → Has (floats_before boxes places m ++ float_with_shape (shape_at boxes m) (place_at places m)) f → Has (floats_before boxes places m) f
       go None e ge h = has_nothing (floats_before boxes places m) f (rw e at h)
       go (Some side) e ge h = has_back (floats_before boxes places m) _ f (Has (floats_before boxes places m) f) (λ w. w)
           (λ same. absurd (none m ge (omega arith) side e (subst (Clears clear) (ap (λ (f : Placed). f.side) same) clears))) (rw e at h)

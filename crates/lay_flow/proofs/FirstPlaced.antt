@@ -15,7 +15,7 @@ use Rattle.lay_flow.specs.Blocks.Weights.{weight}
 use Rattle.lay_flow.specs.Pass.Bounds.{IsMarkNear, reach}
 use Rattle.lay_flow.specs.Pass.Placed.{PlacesTo}
 use Rattle.lay_flow.specs.Pass.Knows.{AreExtentsKept, HaveNoExtent}
-use Rattle.lay_flow.specs.Pass.Known.{ArePlaced, ArePlacedOn, AreSpots, GoesOn, placing_of}
+use Rattle.lay_flow.specs.Pass.Known.{ArePlaced, ArePlacedOn, AreSpotColumns, GoesOn, placing_of}
 use Rattle.lay_flow.proofs.PassEnds.{lengths_at}
 use Rattle.lay_flow.proofs.PassSteps.{no_extents_kept}
 
@@ -31,7 +31,7 @@ pub mark_near_none : (w : ℕ) (v : ℤ) → v ≡ pos 0 → IsMarkNear w v
 mark_near_none w v e = (omega (arith, ints, e), omega (arith, ints, e))
 
 module _ (boxes : List FlowBox) (marks : List Length) (now : PlacingState) (is : IsEmpty now (length boxes)) where
-  are_none : AreSpots now []
+  are_none : AreSpotColumns now []
   are_none = record { places_are = sym is.places; rows_are = sym is.rows; met_are = sym is.met }
 
   to_none : PlacesTo boxes marks (placing_of now []) 0

@@ -15,17 +15,17 @@ use Rattle.lay_flow.specs.Blocks.Boxes.{box_at}
 use Rattle.lay_flow.specs.Blocks.Lengths.{length_at}
 use Rattle.lay_flow.specs.Blocks.BlockFloats.{content_of, line_content_of}
 use Rattle.lay_flow.specs.Blocks.BlockPositions.{is_lines}
-use Rattle.lay_flow.specs.Blocks.BlockSizes.{IsInset}
+use Rattle.lay_flow.specs.Blocks.BlockSizes.{IsBlockInset}
 use Rattle.lay_flow.specs.Blocks.FlowBoxes.{AreFlowBoxes}
 use Rattle.lay_flow.specs.Blocks.MarginRuns.{block_at, block_of}
-use Rattle.lay_flow.specs.Blocks.Weights.{weight, weight_of}
+use Rattle.lay_flow.specs.Blocks.Weights.{weight, box_weight}
 use Rattle.lay_flow.specs.Pass.Bounds.{IsMarkNear, reach}
 use Rattle.lay_flow.proofs.BlocksLemmas.FlowBoxFacts.{block_fits}
 use Rattle.lay_flow.proofs.PlaceSteps.{lines_wider, wider}
 use Rattle.lay_flow.proofs.BlocksLemmas.Truths.{true_false}
 use Rattle.lay_flow.proofs.BlocksLemmas.WeightFacts.{light_at, weight_next}
 
-lines_weigh : (kind : FlowKind) → is_lines (block_of kind).inside ≡ true → weight_of kind ≡ 1 + lines_weight (line_content_of kind)
+lines_weigh : (kind : FlowKind) → is_lines (block_of kind).inside ≡ true → box_weight kind ≡ 1 + lines_weight (line_content_of kind)
 lines_weigh (block b) e = absurd (true_false false e refl)
 lines_weigh (lines l) e = refl
 lines_weigh (solid b) e = absurd (true_false false e refl)
@@ -34,7 +34,7 @@ lines_weigh (line_float b) e = absurd (true_false false e refl)
 lines_weigh inline e = absurd (true_false false e refl)
 
 -- the top of lines
-top_within : (w : ℕ) (mark edge top : ℤ) → IsMarkNear w mark → IsInset edge → top ≡ mark +ℤ edge → IsWithin (pos (2251799813685248 + 68719476736 * w + 10737418240)) top
+top_within : (w : ℕ) (mark edge top : ℤ) → IsMarkNear w mark → IsBlockInset edge → top ≡ mark +ℤ edge → IsWithin (pos (2251799813685248 + 68719476736 * w + 10737418240)) top
 top_within w mark edge top near inset e = let a = near.0 in let b = near.1 in let c = inset.0 in let d = inset.1 in (omega (arith, ints, a, c, e), omega (arith, ints, b, d, e))
 
 within_near : (w : ℕ) (v : ℤ) → w ≤ 16711680 → IsWithin (pos (2251799813685248 + 68719476736 * w + 10737418240)) v → IsNear v
@@ -46,7 +46,7 @@ reaches w v lw e = omega (arith, e)
 pub mark_position : (w : ℕ) (v : ℤ) → w ≤ 16711680 → IsMarkNear w v → IsPosition v
 mark_position w v light near = let a = near.0 in let b = near.1 in (omega (arith, ints, light, a), omega (arith, ints, light, b))
 
-pub inset_position : (v : ℤ) → IsInset v → IsPosition v
+pub inset_position : (v : ℤ) → IsBlockInset v → IsPosition v
 inset_position v inset = let a = inset.0 in let b = inset.1 in (omega (arith, ints, a), omega (arith, ints, b))
 
 -- all that stands before is near

@@ -14,7 +14,7 @@ use Rattle.lay_flow.specs.Blocks.BlockLayout.{BlockLayout}
 use Rattle.lay_flow.specs.Blocks.BlockPositions.{IsBlockLayout, start_before}
 use Rattle.lay_flow.specs.Blocks.Gathered.{Gathered}
 use Rattle.lay_flow.specs.Blocks.MarginPlace.{IsPlace, IsAround, margin_place}
-use Rattle.lay_flow.specs.Pass.LookAhead.{ComesTo, IsOutermost, IsOutset, Reads, ReadsAll, reading}
+use Rattle.lay_flow.specs.Pass.LookAhead.{ComesTo, IsOutermost, IsOutset, ReadsMargins, ReadsAll, reading}
 use Rattle.lay_flow.specs.declared.hypothetical_edge.Outset.{Outset}
 use Rattle.lay_flow.proofs.BlocksLemmas.Truths.{true_false, true_or, low_not, low_yes}
 use Rattle.lay_flow.proofs.BlocksLemmas.RunEntries.{margins-append, top_there, top_here, bottom_same}
@@ -93,7 +93,7 @@ module _ (boxes : List FlowBox) (tree : IsTree (parents_of boxes)) (w : BlockLay
   }
 
   -- a box is opened
-  module _ (m : ℕ) (begun : k ≤ m) (inner : m < length boxes) (strut : StrutValue) (was : Reads boxes w from (reading strut (parent_at boxes m) m)) where
+  module _ (m : ℕ) (begun : k ≤ m) (inner : m < length boxes) (strut : StrutValue) (was : ReadsMargins boxes w from (reading strut (parent_at boxes m) m)) where
     positive_m : 0 < m
     positive_m = omega (arith, positive, order, begun)
 
@@ -113,7 +113,7 @@ module _ (boxes : List FlowBox) (tree : IsTree (parents_of boxes)) (w : BlockLay
     margins_up = ap (λ (xs : List Entry). margins (xs ++ mark m ∷ margin (block_at boxes m).margin_top.0 ∷ [])) lead ∙ margins-append run_up top
 
     pub reads_top : (next : StrutValue) → Holds next (margins (run_before boxes w.runs (parent_at boxes m) m) ++ (block_at boxes m).margin_top.0 ∷ []) → parts_tops boxes m ≡ false
-        → Reads boxes w from (reading next m (m + 1))
+        → ReadsMargins boxes w from (reading next m (m + 1))
     reads_top next holds plain =
         let come : run_before boxes w.runs m (m + 1) ≡ to_top boxes w.runs m = opened_top boxes tree w.runs is.has_runs m positive_m inner plain in
         let e = ap margins come ∙ margins_up in
@@ -179,7 +179,7 @@ module _ (boxes : List FlowBox) (tree : IsTree (parents_of boxes)) (w : BlockLay
         ]
 
   -- a box is closed
-  module _ (p m : ℕ) (at : IsPlace boxes p m) (least : outermost ≤ p) (after : k < m) (ends : m < length boxes → parent_at boxes m < p) (strut : StrutValue) (was : Reads boxes w from (reading strut p m)) where
+  module _ (p m : ℕ) (at : IsPlace boxes p m) (least : outermost ≤ p) (after : k < m) (ends : m < length boxes → parent_at boxes m < p) (strut : StrutValue) (was : ReadsMargins boxes w from (reading strut p m)) where
     positive_p : 0 < p
     positive_p = let o = outer.positive in omega (arith, o, least)
 
@@ -260,7 +260,7 @@ module _ (boxes : List FlowBox) (tree : IsTree (parents_of boxes)) (w : BlockLay
 
     -- it is collapsed through, and the run goes on
     pub reads_bottom : (p ≡ outermost → ⊥) → may_collapse_through (block_at boxes p) ≡ true → (next : StrutValue) → Holds next (margins (run_before boxes w.runs p m) ++ (block_at boxes p).margin_bottom.0 ∷ [])
-        → IsAround boxes outermost m → Reads boxes w from (reading next (parent_at boxes p) m)
+        → IsAround boxes outermost m → ReadsMargins boxes w from (reading next (parent_at boxes p) m)
     reads_bottom other passes next holds round =
         let g = gathered_p in
         let low = g.low in

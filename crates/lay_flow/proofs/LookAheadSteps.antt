@@ -10,7 +10,7 @@ use Rattle.lay_flow.specs.declared.hypothetical_edge.Outset.{Outset}
 use Rattle.lay_flow.specs.Blocks.MarginRuns.{block_at, is_zero, parts_tops, may_collapse_through}
 use Rattle.lay_flow.specs.Blocks.MarginPlace.{IsPlace, IsAround}
 use Rattle.lay_flow.specs.Pass.Struts.{StrutFits}
-use Rattle.lay_flow.specs.Pass.LookAhead.{IsOutset, IsReading, HasRead, reading}
+use Rattle.lay_flow.specs.Pass.LookAhead.{IsOutset, IsReading, HasLookedAhead, reading}
 use Rattle.lay_flow.proofs.BlocksLemmas.Truths.{true_or, low_not}
 use Rattle.lay_flow.proofs.BlocksLemmas.MarginWalk.{inside_up}
 use Rattle.lay_flow.proofs.Openings.{WithMargin}
@@ -37,7 +37,7 @@ module _ (boxes : List FlowBox) (tree : IsTree (parents_of boxes)) (from : Outse
               (was.reads w is comes) next (adds _ (was.reads w is comes).strut_holds) plain;
         }
 
-    pub opened_read : parts_tops boxes m ≡ true → HasRead boxes from next
+    pub opened_read : parts_tops boxes m ≡ true → HasLookedAhead boxes from next
     opened_read parts = record {
       fits = fits;
       reads_all = λ w is comes. ends_below_top boxes tree w is from out comes m was.begun within strut
@@ -48,14 +48,14 @@ module _ (boxes : List FlowBox) (tree : IsTree (parents_of boxes)) (from : Outse
     least : from.outermost ≤ p
     least = let o = out.is_outermost.most in was.above (omega (arith, o, after))
 
-    pub closed_read : may_collapse_through (block_at boxes p) ≡ false → HasRead boxes from strut
+    pub closed_read : may_collapse_through (block_at boxes p) ≡ false → HasLookedAhead boxes from strut
     closed_read parts = record {
       fits = was.fits;
       reads_all = λ w is comes. ends_inside_box boxes tree w is from out comes p m was.place least after ends strut
           (was.reads w is comes) parts;
     }
 
-    pub closed_last : p ≡ from.outermost → HasRead boxes from strut
+    pub closed_last : p ≡ from.outermost → HasLookedAhead boxes from strut
     closed_last last = record {
       fits = was.fits;
       reads_all = λ w is comes. true_or (may_collapse_through (block_at boxes p)) _

@@ -16,7 +16,7 @@ use Rattle.lay_flow.specs.Blocks.Children.{last_child, flag_at}
 use Rattle.lay_flow.specs.Blocks.MarginRuns.{Entry, margins, block_at, run_at, run_before}
 use Rattle.lay_flow.specs.Blocks.BlockLayout.{BlockLayout, Extents}
 use Rattle.lay_flow.specs.Blocks.BlockPositions.{IsBlockLayout, content_top, start_below, start_before, border_height, content_height, is_solid, held_end}
-use Rattle.lay_flow.specs.Blocks.ContextFlow.{AreContextPlaces}
+use Rattle.lay_flow.specs.Blocks.ContextFlow.{ArePlacesInContext}
 use Rattle.lay_flow.specs.Pass.State.{PassState, Settled, columns_of, clearances_of, ended_run}
 use Rattle.lay_flow.specs.Blocks.FlowBoxes.{AreFlowBoxes}
 use Rattle.lay_flow.specs.Pass.Bounds.{clears_of, clear_edges_of, StateFits, AreBoxHeights}
@@ -132,7 +132,7 @@ module _ (boxes : List FlowBox) (input : AreFlowBoxes boxes) where
       → mark ≡ length_at marks 0 → over ≡ held_end (block_at boxes 0).inside (mark +ℤ (block_at boxes 0).edge_top.0) (length_at placing'.extents 0) end
       → height ≡ border_height (block_at boxes 0) (pos 0) (root_height_of (record { 0 = mark +ℤ (block_at boxes 0).edge_top.0 }) (record { 0 = over }) bottom)
       → Wrote length_at now.heights heights 0 height
-      → AreContextPlaces boxes marks heights placing'.places
+      → ArePlacesInContext boxes marks heights placing'.places
   all_places now placing placing' marks heights bottom end over mark height known ends settled placed kept same is_bottom marked over_is is_height wrote =
       let extents : Extents = record { depths = placing'.extents; floats = bottom } in
       let n : ℕ = length boxes in

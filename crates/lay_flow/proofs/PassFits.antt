@@ -10,7 +10,7 @@ use Rattle.lay_units.specs.declared.length.Unit.{Unit as Length}
 use Rattle.lay_margins.specs.StrutValue.{StrutValue}
 use Rattle.lay_doc.specs.Tree.{IsTree}
 use Rattle.lay_flow.specs.Blocks.Lengths.{length_at}
-use Rattle.lay_flow.specs.Blocks.BlockSizes.{IsInset}
+use Rattle.lay_flow.specs.Blocks.BlockSizes.{IsBlockInset}
 use Rattle.lay_flow.specs.Blocks.Children.{flag_at}
 use Rattle.lay_flow.specs.Blocks.MarginRuns.{block_at, parts_tops}
 use Rattle.lay_flow.specs.Blocks.BlockPositions.{is_solid}
@@ -74,7 +74,7 @@ above_near k edge start near collapsed = let a = near.0 in let b = near.1 in let
 pub run_later_near : (j k : ℕ) (v : ℤ) → j < k → IsRunNear j v → IsStartNear k v
 run_later_near j k v lt near = let a = near.0 in let b = near.1 in (omega (arith, ints, a, lt), omega (arith, ints, b, lt))
 
-pub inset_height : (v : ℤ) → IsInset v → IsBoxSize v
+pub inset_height : (v : ℤ) → IsBlockInset v → IsBoxSize v
 inset_height v i = let a = i.0 in let b = i.1 in (a, omega (arith, ints, b))
 
 higher_near : (j k : ℕ) (v : ℤ) → j ≤ k → IsMarkNear j v → IsMarkNear k v

@@ -31,7 +31,7 @@ use Rattle.lay_flow.specs.Blocks.Weights.{weight}
 use Rattle.lay_flow.specs.declared.blocks.block.Inside.{Inside}
 use Rattle.lay_flow.specs.declared.blocks.block.Inside.TheVariants.{Blocks as blocks_inside, Lines as lines_inside, Solid as solid_inside}
 use Rattle.lay_lines.specs.Lines.{LinesValue, AreLines, LinesWithin, RowWithin, NodePlaceWithin}
-use Rattle.lay_flow.specs.Blocks.BlockFloats.{AreLinesAt, Spot, spot_at, no_spot, shape_at, place_at, no_place, lines_at, no_lines, line_content_of, content_of, float_of, floats_after, floats_before, float_request, solid_request, ceiling}
+use Rattle.lay_flow.specs.Blocks.BlockFloats.{AreLinesAt, Spot, spot_at, no_spot, shape_at, place_at, no_place, lines_at, no_lines, line_content_of, content_of, float_with_shape, floats_after, floats_before, float_request, solid_request, ceiling}
 use Rattle.lay_flow.specs.Blocks.Clearance.{lower_of}
 use Rattle.lay_flow.specs.Pass.Bounds.{reach, IsMarkNear, IsEdgeNear}
 use Rattle.lay_flow.specs.Pass.Placed.{IsPlaceNear, Placing, PlacesTo, IsCeilingNear}
@@ -315,7 +315,7 @@ module _ (boxes : List FlowBox) (marks : List Length) (now : Placing) (k : ℕ) 
   not_both o side e f = grind (arith, e, f)
 
   -- the floats after a box without lines
-  floats_go : (inside : Inside) (s : Shape) (more : List Placed) → is_lines inside ≡ false → float_of s p.place ≡ more → now.floats ++ more ≡ floats_after now.floats inside s p
+  floats_go : (inside : Inside) (s : Shape) (more : List Placed) → is_lines inside ≡ false → float_with_shape s p.place ≡ more → now.floats ++ more ≡ floats_after now.floats inside s p
   floats_go blocks_inside s more e f = ap (λ (fs : List Placed). now.floats ++ fs) (sym f)
   floats_go lines_inside s more e f = absurd (true_false true refl e)
   floats_go solid_inside s more e f = ap (λ (fs : List Placed). now.floats ++ fs) (sym f)

@@ -22,7 +22,7 @@ use Rattle.lay_flow.specs.Blocks.BlockSizes.{IsLineDepth}
 use Rattle.lay_flow.specs.Pass.Placed.{Placing, PlacesTo}
 use Rattle.lay_flow.proofs.BlocksLemmas.WeightFacts.{light_at}
 use Rattle.lay_flow.specs.declared.pass.Pass.{Pass}
-use Rattle.lay_flow.specs.Pass.Known.{ArePlaced, ArePlacedOn, AreSpots, GoesOn, IsKnown, placing_of}
+use Rattle.lay_flow.specs.Pass.Known.{ArePlaced, ArePlacedOn, AreSpotColumns, GoesOn, IsKnown, placing_of}
 use Rattle.lay_flow.proofs.PassSteps.{placed_kept}
 use Rattle.lay_flow.proofs.PlaceSteps.{old_place}
 
@@ -30,7 +30,7 @@ use Rattle.lay_flow.proofs.PlaceSteps.{old_place}
 pub counted : {A : Type 0} (old new : List A) (x : A) (k : ℕ) → length old ≡ k → new ≡ old ++ x ∷ [] → length new ≡ k + 1
 counted old new x k e pushed = ap length pushed ∙ length_push old x ∙ ap (λ (n : ℕ). n + 1) e
 
-pub places_count : (now : PlacingState) (places : List Spot) → AreSpots now places → length places ≡ length now.places.items
+pub places_count : (now : PlacingState) (places : List Spot) → AreSpotColumns now places → length places ≡ length now.places.items
 places_count now places are = sym (length-map places (λ (p : Spot). p.place)) ∙ ap length are.places_are
 
 pub placed_count : (boxes : List FlowBox) (marks : List Length) (now : PlacingState) (n : ℕ) → ArePlaced boxes marks now n → length now.places.items ≡ n
@@ -40,7 +40,7 @@ placed_count boxes marks now n is = sym (places_count now is.places is.are) ∙ 
 pub placed_so_far : (boxes : List FlowBox) (marks : List Length) (now : PlacingState) (n : ℕ) → ArePlaced boxes marks now n → (places : List Spot) → PlacesTo boxes marks (placing_of now places) (length now.places.items) → PlacesTo boxes marks (placing_of now places) n
 placed_so_far boxes marks now n is places = subst (PlacesTo boxes marks (placing_of now places)) (placed_count boxes marks now n is)
 
-module _ (boxes : List FlowBox) (old new : List Length) (now : PlacingState) (places : List Spot) (tree : IsTree (parents_of boxes)) (are : AreSpots now places)
+module _ (boxes : List FlowBox) (old new : List Length) (now : PlacingState) (places : List Spot) (tree : IsTree (parents_of boxes)) (are : AreSpotColumns now places)
     (few : length places ≤ length boxes) (placed : PlacesTo boxes old (placing_of now places) (length places)) (same : (j : ℕ) → j < length places → length_at new j ≡ length_at old j) where
   count : length places ≡ length now.places.items
   count = places_count now places are
@@ -52,7 +52,7 @@ module _ (boxes : List FlowBox) (old new : List Length) (now : PlacingState) (pl
   pub kept_places : ArePlaced boxes new now (length now.places.items)
   kept_places = record { places = places; are = are; to = kept }
 
-module _ (boxes : List FlowBox) (old new : List Length) (now then : PlacingState) (places : List Spot) (tree : IsTree (parents_of boxes)) (are : AreSpots now places)
+module _ (boxes : List FlowBox) (old new : List Length) (now then : PlacingState) (places : List Spot) (tree : IsTree (parents_of boxes)) (are : AreSpotColumns now places)
     (few : length places ≤ length boxes) (placed : PlacesTo boxes old (placing_of now places) (length places)) (same : (j : ℕ) → j < length places → length_at new j ≡ length_at old j)
     (goes : GoesOn boxes new now then) where
   -- and more are placed
@@ -80,7 +80,7 @@ module _ (boxes : List FlowBox) (now : PassState) (placing : Placing) (k : ℕ) 
   IsMarkWithout edge =
       (w : BlockLayout) → MayBe boxes (length placing.places) placing.extents w.extents → IsCandidate boxes w (clearances_of now) k → ((j : ℕ) → k ≤ j → flag_at w.runs.clears j ≡ false) → edge ≡ length_at w.places.marks k
 
-module _ (boxes : List FlowBox) (flow : Pass) (places : List Spot) (are : AreSpots flow.placing places) (k : ℕ) (edge : ℤ) where
+module _ (boxes : List FlowBox) (flow : Pass) (places : List Spot) (are : AreSpotColumns flow.placing places) (k : ℕ) (edge : ℤ) where
   -- the depths that are known are those of the spots
   pub edge_of : IsMarkWithout boxes (state_of flow) (placing_of flow.placing places) k edge → IsEdgeWithout boxes flow k edge
   edge_of is w may_be = is w (subst (λ (n : ℕ). MayBe boxes n flow.placing.extents.items w.extents) (sym (places_count flow.placing places are)) may_be)
@@ -98,7 +98,7 @@ line_depth boxes input marks now n to k lt le lines =
     let e = to.lines_extent k lt lines in
     (omega (arith, ints, a, light, e), omega (arith, ints, b, light, e))
 
-module _ (boxes : List FlowBox) (marks : List Length) (old new : PlacingState) (places : List Spot) (are : AreSpots old places) (p : Spot) (k : ℕ) (known : ArePlaced boxes marks old k)
+module _ (boxes : List FlowBox) (marks : List Length) (old new : PlacingState) (places : List Spot) (are : AreSpotColumns old places) (p : Spot) (k : ℕ) (known : ArePlaced boxes marks old k)
     (pushed : new.places.items ≡ old.places.items ++ p.place ∷ []) (rows : new.rows.items ≡ old.rows.items ++ p.lines.rows ∷ []) (met : new.met.items ≡ old.met.items ++ p.lines.places ∷ []) where
   -- one more spot
   pub pushed_on : PlacesTo boxes marks (placing_of new (places ++ p ∷ [])) (k + 1) → ArePlacedOn boxes marks new places

@@ -5,7 +5,8 @@ ghost use Rattle.lay_units.specs.Units.{IsUsed, IsNear};
 ghost use Rattle.lay_floats.specs.Within.{IsWithin};
 ghost use Rattle.lay_flow.specs.Blocks.Boxes.{box_at};
 ghost use Rattle.lay_flow.specs.Blocks.FlowBoxes.{FloatBoxFits};
-ghost use Rattle.lay_flow.specs.Blocks.FlowPlaces.{AreNearPlaces, IsFlowOf, IsNearPlace, border_box, float_box, own_place, corner_at};
+ghost use Rattle.lay_flow.specs.Blocks.FlowPlaces.{AreNearPlaces, IsFlowOf, IsNearPlace, border_box};
+ghost use Rattle.lay_flow.specs.Blocks.FlowPlaces.{float_border_box, own_place, corner_at};
 ghost use Rattle.lay_flow.specs.Pass.Columns.{AreBorderBoxes, AreNearColumns, IsFarPlace};
 ghost use Rattle.lay_flow.specs.Blocks.Lengths.{length_at};
 
@@ -84,7 +85,7 @@ fn in_flow(x: Unit, y: Unit, height: Unit) -> BoxPlace
 fn float_box(b: &FloatBox, place: Place) -> BoxPlace
     requires fits { FloatBoxFits b.now }
     requires place { IsFarPlace place }
-    ensures value { result ≡ float_box b.now place }
+    ensures value { result ≡ float_border_box b.now place }
     ensures near { IsNearPlace result }
 {
     BoxPlace {

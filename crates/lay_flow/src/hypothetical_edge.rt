@@ -10,7 +10,7 @@ ghost use Rattle.lay_flow.specs.Blocks.Children.{flag_at};
 ghost use Rattle.lay_flow.specs.Blocks.Lengths.{length_at};
 ghost use Rattle.lay_flow.specs.Blocks.BlockLayout.{BlockLayout};
 ghost use Rattle.lay_flow.specs.Blocks.BlockPositions.{IsBlockLayout, start_before};
-ghost use Rattle.lay_flow.specs.Pass.LookAhead.{HasRead, IsOutermost, IsOutset, IsReading, reading};
+ghost use Rattle.lay_flow.specs.Pass.LookAhead.{HasLookedAhead, IsOutermost, IsOutset, IsReading, reading};
 ghost use Rattle.lay_flow.specs.Blocks.MarginRuns.{block_at, has_top, margins, may_collapse_through, run_before};
 ghost use Rattle.lay_flow.specs.Pass.Struts.{StrutFits};
 
@@ -101,7 +101,7 @@ fn outermost_from(before: &BoxInRun<'_>) -> usize
 impl LookAhead<'_> {
     // The margins between the start of the run and the top border edge of the box.
     fn strut_ahead(&self) -> UsedStrut
-        ensures { HasRead self.now.boxes.list.now self.now.from result.strut }
+        ensures { HasLookedAhead self.now.boxes.list.now self.now.from result.strut }
     {
         let begins = BoxAt {
             boxes: self.boxes,
@@ -129,7 +129,7 @@ impl LookAhead<'_> {
         requires reading { IsReading self.now.boxes.list.now self.now.from (reading ahead.used.strut ahead.innermost m) }
         ensures going { result.ended ≡ false
             → IsReading self.now.boxes.list.now self.now.from (reading result.used.strut result.innermost (m + 1)) }
-        ensures ended { result.ended ≡ true → HasRead self.now.boxes.list.now self.now.from result.used.strut }
+        ensures ended { result.ended ≡ true → HasLookedAhead self.now.boxes.list.now self.now.from result.used.strut }
     {
         let closed = self.close_to(ahead, m);
         if closed.ended {
@@ -149,7 +149,7 @@ impl LookAhead<'_> {
             → IsReading self.now.boxes.list.now self.now.from (reading result.used.strut (parent_at self.now.boxes.list.now m) m) }
         ensures last { result.ended ≡ false → length self.now.boxes.list.now ≤ m
             → IsReading self.now.boxes.list.now self.now.from (reading result.used.strut 0 m) }
-        ensures ended { result.ended ≡ true → HasRead self.now.boxes.list.now self.now.from result.used.strut }
+        ensures ended { result.ended ≡ true → HasLookedAhead self.now.boxes.list.now self.now.from result.used.strut }
     {
         let to = self.boxes.holder_at(m);
         let mut used = ahead.used;
@@ -191,7 +191,7 @@ fn open(at: &BoxAt<'_>, used: UsedStrut) -> Ahead
         → IsReading at.now.boxes.list.now from (reading result.used.strut result.innermost (at.now.k + 1)) }
     ensures ended { result.ended ≡ true → (from : Outset) → IsOutset at.now.boxes.list.now from
         → IsReading at.now.boxes.list.now from (reading used.strut (parent_at at.now.boxes.list.now at.now.k) at.now.k)
-        → HasRead at.now.boxes.list.now from result.used.strut }
+        → HasLookedAhead at.now.boxes.list.now from result.used.strut }
 {
     let block = at.block();
     Ahead {

@@ -22,7 +22,7 @@ use Rattle.lay_flow.specs.declared.blocks.flow_box.HeightRule.{HeightRule}
 use Rattle.lay_flow.specs.declared.blocks.flow_box.FlowKind.TheVariants.{Block as block, Lines as lines}
 use Rattle.lay_flow.specs.Blocks.BlockPositions.{given_or_auto}
 use Rattle.lay_flow.specs.Blocks.Boxes.{box_at, empty_block, parent_at, parents_of}
-use Rattle.lay_flow.specs.Blocks.FlowBoxes.{AreFlowBoxes, BlockBoxFits, FloatBoxFits, IsFlowTree, KindFits, is_block, is_in_lines as is_line_kind, may_hold}
+use Rattle.lay_flow.specs.Blocks.FlowBoxes.{AreFlowBoxes, BlockBoxFits, FloatBoxFits, IsFlowTree, KindFits, is_flow_block, is_in_lines as is_line_kind, may_hold}
 use Rattle.lay_flow.specs.Blocks.FlowPlaces.{AreNearPlaces, FlowPlacesValue, IsFlowOf, box_place_at}
 use Rattle.lay_flow.specs.Blocks.Lengths.{length_at}
 use Rattle.lay_flow.specs.Blocks.Weights.{weight}
@@ -36,7 +36,7 @@ use Rattle.lay_sizes.specs.SizeColumns.{HaveSizeBounds, sizes_at}
 use Rattle.lay_flow_boxes.specs.declared.inline_containers.Level.TheVariants.{Block as block_level}
 use Rattle.lay_box_tree.specs.Containing.{container_of}
 use Rattle.lay_box_tree.specs.ContextBoxes.{AreContextBoxes, is_inner}
-use Rattle.lay_flow_boxes.specs.ContextBlocks.{AreFlowBoxesOf, block_box, cleared_by, content_of_box, flow_box_of, float_box, float_side, has_lines, height_rule, holds_lines, inner_box, is_anchor, is_in_lines, kind_alone, kind_by, kind_in_lines, lines_in, own_block}
+use Rattle.lay_flow_boxes.specs.ContextBlocks.{AreFlowBoxesOf, block_box, cleared_by, content_of_box, flow_box_of, float_box, float_side, has_lines, height_rule, holds_lines, inner_box, is_anchor, is_inside_lines, kind_alone, kind_by, kind_in_lines, lines_in, own_block}
 use Rattle.lay_flow_boxes.specs.InlineContainers.{holds, is_beside_lines, is_block_box, is_inline_container, is_of, is_own_container, stands_in}
 use Rattle.lay_flow_boxes.specs.NearLefts.{AreNearLefts, IsNearLeft}
 use Rattle.lay_flow_boxes.specs.PlaceInputs.{HeightRuleFits}
@@ -118,7 +118,7 @@ kind_fits : (m : BoxMeasuresValue) (own_height : HeightRule) (lefts : List Lengt
     → IsNearLeft (length_at lefts k) → KindFits (kind_by m own_height lefts k content)
 kind_fits m own_height lefts k (Some content) own rule fits near = own_block_fits m.boxes m.sizes own_height lefts k rule fits near
 kind_fits m own_height lefts k None own rule fits near =
-    none_fits (is_in_lines m lefts k) (kind_alone m.boxes m.sizes m.inner own_height lefts k) (float_side m.boxes k) (cleared_by m.boxes k) (own_box_at m.inner k) own
+    none_fits (is_inside_lines m lefts k) (kind_alone m.boxes m.sizes m.inner own_height lefts k) (float_side m.boxes k) (cleared_by m.boxes k) (own_box_at m.inner k) own
     (alone_fits (is_anchor (role_at m.boxes k)) (is_inner m.boxes k) (is_inline_level (role_at m.boxes k)) (float_side m.boxes k) (cleared_by m.boxes k) (own_box_at m.inner k)
     (own_block m.boxes m.sizes own_height lefts k) (record { 0 = length_at lefts k }) own (own_block_fits m.boxes m.sizes own_height lefts k rule fits near) near)
 
@@ -212,7 +212,7 @@ alone_kind m own_height lefts k =
     (block (own_block m.boxes m.sizes own_height lefts k)) refl
 
 -- a box that is in no lines is of no kind that stands in lines
-out_of_lines : (m : BoxMeasuresValue) (own_height : HeightRule) (lefts : List Length) (k : ℕ) (held : Bool) → is_in_lines m lefts k ≡ false
+out_of_lines : (m : BoxMeasuresValue) (own_height : HeightRule) (lefts : List Length) (k : ℕ) (held : Bool) → is_inside_lines m lefts k ≡ false
     → is_line_kind (kind_by m own_height lefts k (if held then Some (content_of_box m lefts k) else None)) ≡ false
 out_of_lines m own_height lefts k true out = refl
 out_of_lines m own_height lefts k false out = rw out (alone_kind m own_height lefts k)
@@ -229,7 +229,7 @@ own_by true false e f none = cc
 own_by false b e f none = absurd cc
 
 lines_around : (m : BoxMeasuresValue) (lefts : List Length) (c : ℕ) (held : Bool) → 0 < c → c < length m.boxes → counts m.boxes c ≡ true → is_inner m.boxes c ≡ false
-    → holds_lines m lefts (container_of m.boxes c) ≡ held → is_in_lines m lefts c ≡ false
+    → holds_lines m lefts (container_of m.boxes c) ≡ held → is_inside_lines m lefts c ≡ false
 lines_around m lefts c false positive within counted outer is = and_right (nat_lt 0 c) (holds_lines m lefts (container_of m.boxes c)) is
 lines_around m lefts c true positive within counted outer is =
     let inline = (and_parts (is_inline_container m.boxes (container_of m.boxes c)) _ is).0 in
@@ -237,7 +237,7 @@ lines_around m lefts c true positive within counted outer is =
     absurd (own_by (counts m.boxes c) (is_inner m.boxes c) counted outer (or_parts (is_beside_lines (role_at m.boxes c)) (is_own_container m.boxes c) of).1)
 
 -- a container is in no lines
-container_out : (m : BoxMeasuresValue) (lefts : List Length) (c : ℕ) → c < length m.boxes → counts m.boxes c ≡ true → is_inner m.boxes c ≡ false → is_in_lines m lefts c ≡ false
+container_out : (m : BoxMeasuresValue) (lefts : List Length) (c : ℕ) → c < length m.boxes → counts m.boxes c ≡ true → is_inner m.boxes c ≡ false → is_inside_lines m lefts c ≡ false
 container_out m lefts zero within counted outer = refl
 container_out m lefts (suc c) within counted outer =
     lines_around m lefts (suc c) (holds_lines m lefts (container_of m.boxes (suc c))) (omega arith) within counted outer refl
@@ -254,11 +254,11 @@ holds_by m own_height lefts k false are positive within is =
     rw (is, out, outer)
     (block_alone (is_anchor (role_at m.boxes c)) (is_inline_level (role_at m.boxes c)) (block (own_block m.boxes m.sizes own_height lefts c)) (flow_box_of m own_height lefts k).kind (λ x e. rw e refl) child)
 
-block_kind : (inline : Bool) (b : FlowKind) → is_block b ≡ true → is_block (if inline then block empty_block else b) ≡ true
+block_kind : (inline : Bool) (b : FlowKind) → is_flow_block b ≡ true → is_flow_block (if inline then block empty_block else b) ≡ true
 block_kind true b e = refl
 block_kind false b e = e
 
-root_by : (m : BoxMeasuresValue) (own_height : HeightRule) (lefts : List Length) (held : Bool) → is_inner m.boxes 0 ≡ false → is_block (kind_by m own_height lefts 0 (if held then Some (content_of_box m lefts 0) else None)) ≡ true
+root_by : (m : BoxMeasuresValue) (own_height : HeightRule) (lefts : List Length) (held : Bool) → is_inner m.boxes 0 ≡ false → is_flow_block (kind_by m own_height lefts 0 (if held then Some (content_of_box m lefts 0) else None)) ≡ true
 root_by m own_height lefts true own = refl
 root_by m own_height lefts false own = rw own (block_kind (is_inline_level (role_at m.boxes 0)) (block (own_block m.boxes m.sizes own_height lefts 0)) refl)
 
@@ -285,7 +285,7 @@ module _ (m : BoxMeasuresValue) (own_height : HeightRule) (lefts : List Length) 
     tree = containers_are_a_tree m.boxes (parents_of flow_boxes) are.tree containers;
     root =
         let some : 0 < length flow_boxes = omega (arith, are.some, of.count) in
-        ap is_block (kind_is 0 some) ∙ root_by m own_height lefts (holds_lines m lefts 0) are.own;
+        ap is_flow_block (kind_is 0 some) ∙ root_by m own_height lefts (holds_lines m lefts 0) are.own;
     parent = λ k positive lt.
         let there = within k lt in
         let before = container_before m.boxes k are positive there in
@@ -322,7 +322,7 @@ has_by false false false false side clear o left b e = e
 lines_by : (m : BoxMeasuresValue) (own_height : HeightRule) (lefts : List Length) (k : ℕ) (held : Bool) → has_lines (kind_by m own_height lefts k (if held then Some (content_of_box m lefts k) else None)) ≡ held
 lines_by m own_height lefts k true = refl
 lines_by m own_height lefts k false =
-    has_by (is_in_lines m lefts k) (is_anchor (role_at m.boxes k)) (is_inner m.boxes k) (is_inline_level (role_at m.boxes k)) (float_side m.boxes k) (cleared_by m.boxes k) (own_box_at m.inner k) (record { 0 = length_at lefts k })
+    has_by (is_inside_lines m lefts k) (is_anchor (role_at m.boxes k)) (is_inner m.boxes k) (is_inline_level (role_at m.boxes k)) (float_side m.boxes k) (cleared_by m.boxes k) (own_box_at m.inner k) (record { 0 = length_at lefts k })
     (block (own_block m.boxes m.sizes own_height lefts k)) refl
 
 -- a flow box has lines where its box holds lines of which one is seen
@@ -338,11 +338,11 @@ pub kind_with : (m : BoxMeasuresValue) (own_height : HeightRule) (lefts : List L
     → (flow_box_of m own_height lefts k).kind ≡ lines (record { block = own_block m.boxes m.sizes own_height lefts k; content = content })
 kind_with m own_height lefts k content is = ap (kind_by m own_height lefts k) is
 
-pub kind_inside : (m : BoxMeasuresValue) (own_height : HeightRule) (lefts : List Length) (k : ℕ) → lines_in m lefts k ≡ None → is_in_lines m lefts k ≡ true
+pub kind_inside : (m : BoxMeasuresValue) (own_height : HeightRule) (lefts : List Length) (k : ℕ) → lines_in m lefts k ≡ None → is_inside_lines m lefts k ≡ true
     → (flow_box_of m own_height lefts k).kind ≡ kind_in_lines (float_side m.boxes k) (cleared_by m.boxes k) (own_box_at m.inner k)
 kind_inside m own_height lefts k is inside = ap (kind_by m own_height lefts k) is ∙ rw inside refl
 
-pub kind_outside : (m : BoxMeasuresValue) (own_height : HeightRule) (lefts : List Length) (k : ℕ) → lines_in m lefts k ≡ None → is_in_lines m lefts k ≡ false
+pub kind_outside : (m : BoxMeasuresValue) (own_height : HeightRule) (lefts : List Length) (k : ℕ) → lines_in m lefts k ≡ None → is_inside_lines m lefts k ≡ false
     → (flow_box_of m own_height lefts k).kind ≡ kind_alone m.boxes m.sizes m.inner own_height lefts k
 kind_outside m own_height lefts k is outside = ap (kind_by m own_height lefts k) is ∙ rw outside refl
 
@@ -351,10 +351,10 @@ pub box_is : (m : BoxMeasuresValue) (own_height : HeightRule) (lefts : List Leng
 box_is m own_height lefts k p kind parent is = λ i. record { parent = parent i; kind = is i }
 
 -- a box stands in lines where its container's flow box has lines
-pub in_lines_is : (m : BoxMeasuresValue) (own_height : HeightRule) (lefts : List Length) (k p : ℕ) (b : FlowBox) → 0 < k → p ≡ container_of m.boxes k → b ≡ flow_box_of m own_height lefts p → has_lines b.kind ≡ is_in_lines m lefts k
+pub in_lines_is : (m : BoxMeasuresValue) (own_height : HeightRule) (lefts : List Length) (k p : ℕ) (b : FlowBox) → 0 < k → p ≡ container_of m.boxes k → b ≡ flow_box_of m own_height lefts p → has_lines b.kind ≡ is_inside_lines m lefts k
 in_lines_is m own_height lefts k p b positive parent is =
     ap (λ (x : FlowBox). has_lines x.kind) is ∙ lines_are_held m own_height lefts p ∙ ap (holds_lines m lefts) parent ∙ sym (and_one (nat_lt 0 k) (holds_lines m lefts (container_of m.boxes k)) (positive_lt k positive))
 
-pub first_out : (m : BoxMeasuresValue) (lefts : List Length) (k : ℕ) → k ≡ 0 → nat_lt 0 k ≡ is_in_lines m lefts k
+pub first_out : (m : BoxMeasuresValue) (lefts : List Length) (k : ℕ) → k ≡ 0 → nat_lt 0 k ≡ is_inside_lines m lefts k
 first_out m lefts zero is = refl
 first_out m lefts (suc k) is = absurd (omega (arith, is))

@@ -10,14 +10,14 @@ use Rattle.lay_box_tree.specs.declared.box_tree.BoxNode.{BoxNode}
 use Rattle.lay_flow_boxes.proofs.Cited.{containers_are_nearest_lem, length-parents, one_container, some_before}
 use Rattle.lay_measure.specs.Children.{Child, child_as, holds_lines, is_inline_level as is_inline_child}
 use Rattle.lay_measure.specs.MeasureInValue.{MeasureInValue}
-use Rattle.lay_measure.specs.PreferredWidths.{as_child, children, own_widths}
+use Rattle.lay_measure.specs.PreferredWidths.{as_measured_child, children, own_preferred_widths}
 use Rattle.lay_measure.specs.LineParts.{contribution}
 use Rattle.lay_measure.specs.declared.preferred_widths.PreferredWidths.{PreferredWidths}
 use Rattle.lay_box_tree.specs.Containing.{container_of}
 use Rattle.lay_box_tree.specs.ContextBoxes.{AreContextBoxes}
 use Rattle.lay_flow_boxes.specs.declared.inline_containers.Level.TheVariants.{Block as block_level, Inline as inline_level}
 use Rattle.lay_flow_boxes.specs.InlineContainers.{holds, is_beside_lines, is_block_box, is_of, is_own_container, stands_in}
-use Rattle.lay_flow_boxes.specs.LineItems.{AreHeldByOthers, IsIn, holds_nothing}
+use Rattle.lay_flow_boxes.specs.LineItems.{AreHeldByOthers, IsInLines, holds_nothing}
 use Rattle.lay_flow_boxes.specs.OneLevel.{WidthsAgreeOnLines}
 use Rattle.lay_flow_boxes.proofs.FlowFacts.{beside_by, not_held, positive_lt}
 use Rattle.lay_flow_boxes.proofs.ItemSorts.{behind, parent_is, role_is, some_behind}
@@ -62,7 +62,7 @@ both_ways false false f g = refl
 -- One formatting context that is measured.
 module _ (m : MeasureInValue) (are : AreContextBoxes m.boxes) (c : ℕ) where
   abbrev says : BoxNode → ℕ → List Child → Bool
-  says b i cs = list_any is_inline_child (as_child m i b cs)
+  says b i cs = list_any is_inline_child (as_measured_child m i b cs)
 
   later : (i : ℕ) → HasInlineChild m.boxes c (i + 1) → HasInlineChild m.boxes c i
   later i h = record { place = h.place; least = (let l = h.least in omega (arith, l)); there = h.there; parent = h.parent; level = h.level }
@@ -72,22 +72,22 @@ module _ (m : MeasureInValue) (are : AreContextBoxes m.boxes) (c : ℕ) where
   found_in i [] e positive h = absurd cc
   found_in i (b ∷ bs) e positive h = by (found_in (i + 1) bs (behind m.boxes i b bs e) (omega arith)) (b.parent == c) refl h
     where
-      first : (a : Bool) → list_any is_inline_child (as_child m i b (children m i (i + 1) bs)) ≡ a → b.parent ≡ c → (holds_lines (children m c (i + 1) bs) ≡ true → HasInlineChild m.boxes c (i + 1))
+      first : (a : Bool) → list_any is_inline_child (as_measured_child m i b (children m i (i + 1) bs)) ≡ a → b.parent ≡ c → (holds_lines (children m c (i + 1) bs) ≡ true → HasInlineChild m.boxes c (i + 1))
           → (a || holds_lines (children m c (i + 1) bs)) ≡ true → HasInlineChild m.boxes c i
       first true s same rest h = record {
         place = i;
         least = omega arith;
         there = within m.boxes i b bs e;
         parent = parent_is m.boxes i b bs e ∙ same;
-        level = ap is_inline_level (role_is m.boxes i b bs positive e) ∙ (sym (child_says (role_of b) (contribution b (own_widths m i (role_of b) (children m i (i + 1) bs)))) ∙ s);
+        level = ap is_inline_level (role_is m.boxes i b bs positive e) ∙ (sym (child_says (role_of b) (contribution b (own_preferred_widths m i (role_of b) (children m i (i + 1) bs)))) ∙ s);
       }
       first false s same rest h = later i (rest h)
 
       by : (holds_lines (children m c (i + 1) bs) ≡ true → HasInlineChild m.boxes c (i + 1)) → (x : Bool) → (b.parent == c) ≡ x
-          → holds_lines (if x then as_child m i b (children m i (i + 1) bs) ++ children m c (i + 1) bs else children m c (i + 1) bs) ≡ true → HasInlineChild m.boxes c i
+          → holds_lines (if x then as_measured_child m i b (children m i (i + 1) bs) ++ children m c (i + 1) bs else children m c (i + 1) bs) ≡ true → HasInlineChild m.boxes c i
       by rest true same h =
-          first (list_any is_inline_child (as_child m i b (children m i (i + 1) bs))) refl (eqb-true b.parent c same) rest
-          (sym (any_append (as_child m i b (children m i (i + 1) bs)) (children m c (i + 1) bs)) ∙ h)
+          first (list_any is_inline_child (as_measured_child m i b (children m i (i + 1) bs))) refl (eqb-true b.parent c same) rest
+          (sym (any_append (as_measured_child m i b (children m i (i + 1) bs)) (children m c (i + 1) bs)) ∙ h)
       by rest false other h = later i (rest h)
 
   -- and the other way round
@@ -98,26 +98,26 @@ module _ (m : MeasureInValue) (are : AreContextBoxes m.boxes) (c : ℕ) where
     | inl same ↦ (let mine : b.parent ≡ c = sym (parent_is m.boxes i b bs e) ∙ ap (box_parent m.boxes) same ∙ parent in
         let inline : is_inline_level (role_of b) ≡ true = ap is_inline_level (sym (role_is m.boxes i b bs positive e) ∙ ap (role_at m.boxes) same) ∙ level in
         here (b.parent == c) (eq-eqb b.parent c mine)
-        (child_says (role_of b) (contribution b (own_widths m i (role_of b) (children m i (i + 1) bs))) ∙ inline))
+        (child_says (role_of b) (contribution b (own_preferred_widths m i (role_of b) (children m i (i + 1) bs))) ∙ inline))
     | inr other ↦ further (b.parent == c) (said_of k (i + 1) bs (behind m.boxes i b bs e) (omega arith) (omega (arith, low, other)) lt parent level)
   ]
     where
-      here : (x : Bool) → x ≡ true → list_any is_inline_child (as_child m i b (children m i (i + 1) bs)) ≡ true
-          → holds_lines (if x then as_child m i b (children m i (i + 1) bs) ++ children m c (i + 1) bs else children m c (i + 1) bs) ≡ true
-      here true q s = any_append (as_child m i b (children m i (i + 1) bs)) (children m c (i + 1) bs) ∙ or_left _ (holds_lines (children m c (i + 1) bs)) s
+      here : (x : Bool) → x ≡ true → list_any is_inline_child (as_measured_child m i b (children m i (i + 1) bs)) ≡ true
+          → holds_lines (if x then as_measured_child m i b (children m i (i + 1) bs) ++ children m c (i + 1) bs else children m c (i + 1) bs) ≡ true
+      here true q s = any_append (as_measured_child m i b (children m i (i + 1) bs)) (children m c (i + 1) bs) ∙ or_left _ (holds_lines (children m c (i + 1) bs)) s
       here false q s = absurd cc
 
       further : (x : Bool) → holds_lines (children m c (i + 1) bs) ≡ true
-          → holds_lines (if x then as_child m i b (children m i (i + 1) bs) ++ children m c (i + 1) bs else children m c (i + 1) bs) ≡ true
-      further true h = any_append (as_child m i b (children m i (i + 1) bs)) (children m c (i + 1) bs) ∙ or_right (list_any is_inline_child (as_child m i b (children m i (i + 1) bs))) _ h
+          → holds_lines (if x then as_measured_child m i b (children m i (i + 1) bs) ++ children m c (i + 1) bs else children m c (i + 1) bs) ≡ true
+      further true h = any_append (as_measured_child m i b (children m i (i + 1) bs)) (children m c (i + 1) bs) ∙ or_right (list_any is_inline_child (as_measured_child m i b (children m i (i + 1) bs))) _ h
       further false h = h
 
 -- One container.
 module _ (boxes : List BoxNode) (are : AreContextBoxes boxes) (c : ℕ) where
-  nearest : (k : ℕ) → IsIn boxes c k → IsContainer boxes k c
+  nearest : (k : ℕ) → IsInLines boxes c k → IsContainer boxes k c
   nearest k is = subst (IsContainer boxes k) is.container (containers_are_nearest_lem boxes k are is.within)
 
-  stands : (k : ℕ) → IsIn boxes c k → is_inline_level (role_at boxes k) ≡ true → stands_in inline_level boxes c k ≡ true
+  stands : (k : ℕ) → IsInLines boxes c k → is_inline_level (role_at boxes k) ≡ true → stands_in inline_level boxes c k ≡ true
   stands k is level =
       let positive = positive_lt k is.behind in
       let same : (container_of boxes k == c) ≡ true = eq-eqb (container_of boxes k) c is.container in
@@ -134,7 +134,7 @@ module _ (boxes : List BoxNode) (are : AreContextBoxes boxes) (c : ℕ) where
   -- and the other way round
   record IsHeld : Type 0 where
     place : ℕ
-    is : IsIn boxes c place
+    is : IsInLines boxes c place
     level : is_inline_level (role_at boxes place) ≡ true
 
   held_by : (k : ℕ) → k < length boxes → (p s l : Bool) → nat_lt 0 k ≡ p → (container_of boxes k == c) ≡ s → is_inline_level (role_at boxes k) ≡ l → (p && s && l) ≡ true → IsHeld
@@ -168,18 +168,18 @@ module _ (boxes : List BoxNode) (are : AreContextBoxes boxes) (c : ℕ) where
   opened role.Solid b h = absurd cc
   opened role.TablePart b h = absurd cc
 
-  not_beside : holds block_level boxes c (length boxes) ≡ false → (k : ℕ) → IsIn boxes c k → is_beside_lines (role_at boxes k) ≡ false
+  not_beside : holds block_level boxes c (length boxes) ≡ false → (k : ℕ) → IsInLines boxes c k → is_beside_lines (role_at boxes k) ≡ false
   not_beside none k is =
       let same : (container_of boxes k == c) ≡ true = eq-eqb (container_of boxes k) c is.container in
       (or_parts (is_beside_lines (role_at boxes k)) (is_own_container boxes k) (beside_by (nat_lt 0 k) (container_of boxes k == c) (is_of block_level boxes k) (not_held boxes c (length boxes) k none is.within) (positive_lt k is.behind) same)).0
 
-  outermost : AreHeldByOthers boxes → holds block_level boxes c (length boxes) ≡ false → (turns k : ℕ) → k < turns → IsIn boxes c k → is_inline_level (role_at boxes k) ≡ true
+  outermost : AreHeldByOthers boxes → holds block_level boxes c (length boxes) ≡ false → (turns k : ℕ) → k < turns → IsInLines boxes c k → is_inline_level (role_at boxes k) ≡ true
       → HasInlineChild boxes c (c + 1)
   outermost others none zero k lt is level = absurd (omega (arith, lt))
   outermost others none (suc turns) k lt is level =
       by (λ j less there l. outermost others none turns j less there l) (are.tree.before k is.behind (omega (arith, length-parents boxes, is.within))) (counts boxes (box_parent boxes k)) refl
     where
-      by : ((j : ℕ) → j < turns → IsIn boxes c j → is_inline_level (role_at boxes j) ≡ true → HasInlineChild boxes c (c + 1)) → box_parent boxes k < k
+      by : ((j : ℕ) → j < turns → IsInLines boxes c j → is_inline_level (role_at boxes j) ≡ true → HasInlineChild boxes c (c + 1)) → box_parent boxes k < k
           → (b : Bool) → counts boxes (box_parent boxes k) ≡ b → HasInlineChild boxes c (c + 1)
       by further before true e =
           let same : box_parent boxes k ≡ c = one_container boxes k (box_parent boxes k) c (at_parent k is.behind e) (nearest k is) in
@@ -187,7 +187,7 @@ module _ (boxes : List BoxNode) (are : AreContextBoxes boxes) (c : ℕ) where
       by further before false e =
           let p : ℕ = box_parent boxes k in
           let up = one_container boxes k (container_of boxes p) c (at_further k (container_of boxes p) is.behind e (containers_are_nearest_lem boxes p are (omega (arith, before, is.within)))) (nearest k is) in
-          let there : IsIn boxes c p = record { behind = some_before boxes p e; within = omega (arith, before, is.within); container = up } in
+          let there : IsInLines boxes c p = record { behind = some_before boxes p e; within = omega (arith, before, is.within); container = up } in
           further p (omega (arith, before, lt)) there (opened (role_at boxes p) (not_beside none p there) (others k is.behind is.within))
 
   -- an inline-level child is such a box
@@ -196,7 +196,7 @@ module _ (boxes : List BoxNode) (are : AreContextBoxes boxes) (c : ℕ) where
       let k : ℕ = h.place in
       let positive : 0 < k = (let l = h.least in omega (arith, l)) in
       let mine : IsContainer boxes k c = subst (IsContainer boxes k) h.parent (at_parent k positive (subst (λ (p : ℕ). counts boxes p ≡ true) (sym h.parent) open_one)) in
-      let there : IsIn boxes c k = record { behind = positive; within = h.there; container = one_container boxes k (container_of boxes k) c (containers_are_nearest_lem boxes k are h.there) mine } in
+      let there : IsInLines boxes c k = record { behind = positive; within = h.there; container = one_container boxes k (container_of boxes k) c (containers_are_nearest_lem boxes k are h.there) mine } in
       held k (length boxes) h.there (stands k there h.level)
 
 of_block : (b h n : Bool) → b ≡ true → (h ≡ true → n ≡ false) → (b && h && not n) ≡ h

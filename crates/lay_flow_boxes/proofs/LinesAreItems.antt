@@ -4,7 +4,7 @@ use Rattle.std.proofs.lemmas.Bool.{cases_lt, eqb-true, or_parts, both_ways}
 use Rattle.std.proofs.lemmas.List.{drop_all, append-nil}
 use Rattle.std.proofs.lemmas.List.Elements.{All-append, All-cons, All-nil}
 use Rattle.lay_box_tree.specs.Containers.{IsContainer, box_containers, box_parent, counts, further as at_further, parent as at_parent}
-use Rattle.lay_box_tree.specs.Kinds.{is_block_container}
+use Rattle.lay_box_tree.specs.Kinds.{is_block_container_kind}
 use Rattle.lay_box_tree.specs.Roles.{float_role, role_at, role_in, role_of, role_of_kind}
 use Rattle.lay_box_tree.specs.declared.box_role.Role.{Role}
 use Rattle.lay_box_tree.specs.declared.box_role.Role.TheVariants as role
@@ -25,7 +25,7 @@ use Rattle.lay_box_tree.specs.Containing.{container_of}
 use Rattle.lay_box_tree.specs.ContextBoxes.{AreContextBoxes}
 use Rattle.lay_flow_boxes.specs.declared.inline_containers.Level.TheVariants.{Block as block_level, Inline as inline_level}
 use Rattle.lay_flow_boxes.specs.InlineContainers.{holds, is_beside_lines, is_block_box, is_inline_container, is_own_container}
-use Rattle.lay_flow_boxes.specs.LineItems.{AreHeldByOthers, BoxesInLinesAreItems, IsIn, IsInLinesAs, ItemsAreBoxesInLines, Sort, as_anchor, as_atomic, as_inline, as_left_float, as_right_float, as_text, end, holds_nothing, named, sorts_of, start}
+use Rattle.lay_flow_boxes.specs.LineItems.{AreHeldByOthers, BoxesInLinesAreItems, IsInLines, IsInLinesAs, ItemsAreBoxesInLines, Sort, as_anchor, as_atomic, as_inline, as_left_float, as_right_float, as_text, end, holds_nothing, named, sorts_of, start}
 use Rattle.lay_flow_boxes.proofs.FlowFacts.{container_counts, in_line_container}
 use Rattle.lay_flow_boxes.proofs.ItemSorts.{behind, below, follows, own_sorts, parent_is, role_is, some_behind, spread}
 
@@ -54,22 +54,22 @@ open_sorts r ss as_anchor e = absurd cc
 -- One block container that holds lines.
 module _ (boxes : List BoxNode) (c : ℕ) (are : AreContextBoxes boxes) (lines : is_inline_container boxes c ≡ true) where
   -- a box in them
-  role_in_lines : (k : ℕ) → IsIn boxes c k → IsInLinesAs (role_at boxes k) (own_sorts (role_at boxes k))
+  role_in_lines : (k : ℕ) → IsInLines boxes c k → IsInLinesAs (role_at boxes k) (own_sorts (role_at boxes k))
   role_in_lines k is =
       let here : is_inline_container boxes (container_of boxes k) ≡ true = rw is.container lines in
       in_lines (role_at boxes k) (or_parts (is_beside_lines (role_at boxes k)) (is_own_container boxes k) (in_line_container boxes k is.behind is.within here)).0
 
-  counted : (k : ℕ) → IsIn boxes c k → counts boxes c ≡ true
+  counted : (k : ℕ) → IsInLines boxes c k → counts boxes c ≡ true
   counted k is = container_counts boxes k c (subst (IsContainer boxes k) is.container (containers_are_nearest_lem boxes k are is.within))
 
-  own_sorts_of : (held : AreHeldByOthers boxes) (turns k : ℕ) → k < turns → IsIn boxes c k → sorts_of k (items_of boxes c) ≡ own_sorts (role_at boxes k)
+  own_sorts_of : (held : AreHeldByOthers boxes) (turns k : ℕ) → k < turns → IsInLines boxes c k → sorts_of k (items_of boxes c) ≡ own_sorts (role_at boxes k)
   own_sorts_of held zero k lt is = absurd (omega (arith, lt))
   own_sorts_of held (suc turns) k lt is =
       let before : box_parent boxes k < k = are.tree.before k is.behind (omega (arith, length-parents boxes, is.within)) in
       let container = subst (IsContainer boxes k) is.container (containers_are_nearest_lem boxes k are is.within) in
       by_count (λ j less there. own_sorts_of held turns j less there) (counts boxes (box_parent boxes k)) refl before container
     where
-      by_count : ((j : ℕ) → j < turns → IsIn boxes c j → sorts_of j (items_of boxes c) ≡ own_sorts (role_at boxes j)) → (b : Bool) → counts boxes (box_parent boxes k) ≡ b
+      by_count : ((j : ℕ) → j < turns → IsInLines boxes c j → sorts_of j (items_of boxes c) ≡ own_sorts (role_at boxes j)) → (b : Bool) → counts boxes (box_parent boxes k) ≡ b
           → box_parent boxes k < k → IsContainer boxes k c → sorts_of k (items_of boxes c) ≡ own_sorts (role_at boxes k)
       by_count earlier true e before container =
           let same : box_parent boxes k ≡ c = one_container boxes k (box_parent boxes k) c (at_parent k is.behind e) container in
@@ -78,7 +78,7 @@ module _ (boxes : List BoxNode) (c : ℕ) (are : AreContextBoxes boxes) (lines :
           let p : ℕ = box_parent boxes k in
           let nearest = containers_are_nearest_lem boxes p are (omega (arith, before, is.within)) in
           let up = one_container boxes k (container_of boxes p) c (at_further k (container_of boxes p) is.behind e nearest) container in
-          let there : IsIn boxes c p = record { behind = some_before boxes p e; within = omega (arith, before, is.within); container = up } in
+          let there : IsInLines boxes c p = record { behind = some_before boxes p e; within = omega (arith, before, is.within); container = up } in
           let opened = open_sorts (role_at boxes p) (own_sorts (role_at boxes p)) (role_in_lines p there) (held k is.behind is.within) in
           follows boxes are.tree k is.behind is.within c (c + 1) (drop (c + 1) boxes) refl (λ same. both_ways (counts boxes c) (subst (λ (p : ℕ). counts boxes p ≡ false) same e) (counted k is))
           ∙ ap (spread (own_sorts (role_at boxes k))) (earlier p (omega (arith, before, lt)) there ∙ opened)
@@ -89,10 +89,10 @@ boxes_in_lines_lem boxes c k are held lines is =
     rw (own_sorts_of boxes c are lines held (k + 1) k (omega arith) is) (role_in_lines boxes c are lines k is)
 
 -- an inline box is no block container
-inline_kind : (b : BoxNode) → is_inline (role_of b) ≡ true → is_block_container b.kind ≡ false
+inline_kind : (b : BoxNode) → is_inline (role_of b) ≡ true → is_block_container_kind b.kind ≡ false
 inline_kind b e = by_flow b.flow b.style.float b.inner b.kind e
   where
-    by_kind : (inner : Bool) (k : BoxKind) → is_inline (role_of_kind inner k) ≡ true → is_block_container k ≡ false
+    by_kind : (inner : Bool) (k : BoxKind) → is_inline (role_of_kind inner k) ≡ true → is_block_container_kind k ≡ false
     by_kind inner kind.Inline e = refl
     by_kind inner (kind.Text t) e = refl
     by_kind inner kind.Anchor e = refl
@@ -117,15 +117,15 @@ inline_kind b e = by_flow b.flow b.style.float b.inner b.kind e
     by_float floating.Left r e = absurd cc
     by_float floating.Right r e = absurd cc
 
-    by_flow : (w : Flow) (f : Float) (inner : Bool) (k : BoxKind) → is_inline (role_in w f (role_of_kind inner k)) ≡ true → is_block_container k ≡ false
+    by_flow : (w : Flow) (f : Float) (inner : Bool) (k : BoxKind) → is_inline (role_in w f (role_of_kind inner k)) ≡ true → is_block_container_kind k ≡ false
     by_flow InFlow f inner k e = by_kind inner k e
     by_flow Floating f inner k e = by_kind inner k (by_float f (role_of_kind inner k) e)
     by_flow Absolute f inner k e = by_kind inner k e
 
-read_counts : (xs : List BoxNode) (k : ℕ) (b : BoxNode) (bs : List BoxNode) → drop k xs ≡ b ∷ bs → slice_index_or (box_containers xs) k false ≡ is_block_container b.kind
+read_counts : (xs : List BoxNode) (k : ℕ) (b : BoxNode) (bs : List BoxNode) → drop k xs ≡ b ∷ bs → slice_index_or (box_containers xs) k false ≡ is_block_container_kind b.kind
 read_counts [] zero b bs e = absurd cc
 read_counts [] (suc k) b bs e = absurd cc
-read_counts (x ∷ xs) zero b bs e = ap (λ (y : BoxNode). is_block_container y.kind) (let q : x ≡ b = cc in q)
+read_counts (x ∷ xs) zero b bs e = ap (λ (y : BoxNode). is_block_container_kind y.kind) (let q : x ≡ b = cc in q)
 read_counts (x ∷ xs) (suc k) b bs e = read_counts xs k b bs e
 
 inline_counts : (boxes : List BoxNode) (k : ℕ) (b : BoxNode) (bs : List BoxNode) → 0 < k → drop k boxes ≡ b ∷ bs → is_inline (role_of b) ≡ true → counts boxes k ≡ false
@@ -141,19 +141,19 @@ within (x ∷ xs) (suc k) b bs e = omega (arith, within xs k b bs e)
 -- The items of boxes that stand in one container.
 module _ (boxes : List BoxNode) (c : ℕ) (are : AreContextBoxes boxes) where
   abbrev Stands : Item → Type 0
-  Stands x = IsIn boxes c (named x).box
+  Stands x = IsInLines boxes c (named x).box
 
   -- what is in the box at p stands in the container at c
   abbrev Leads : ℕ → Type 0
   Leads p = (j : ℕ) → 0 < j → j < length boxes → box_parent boxes j ≡ p → container_of boxes j ≡ c
 
-  deeper : (k : ℕ) → IsIn boxes c k → counts boxes k ≡ false → Leads k
+  deeper : (k : ℕ) → IsInLines boxes c k → counts boxes k ≡ false → Leads k
   deeper k is closed j positive within e =
       one_container boxes j (container_of boxes j) c (containers_are_nearest_lem boxes j are within)
       (at_further j c positive (subst (λ (p : ℕ). counts boxes p ≡ false) (sym e) closed)
       (subst (λ (p : ℕ). IsContainer boxes p c) (sym e) (subst (IsContainer boxes k) is.container (containers_are_nearest_lem boxes k are is.within))))
 
-  all_as : (r : Role) (k : ℕ) (b : BoxNode) (inside : List Item) → IsIn boxes c k → (is_inline r ≡ true → All Stands inside)
+  all_as : (r : Role) (k : ℕ) (b : BoxNode) (inside : List Item) → IsInLines boxes c k → (is_inline r ≡ true → All Stands inside)
       → All Stands (items_as boxes r k b inside)
   all_as role.Inline k b inside is all =
       All-cons Stands (item.Start k (takes_room boxes k b)) (inside ++ item.End k ∷ []) is
@@ -178,7 +178,7 @@ module _ (boxes : List BoxNode) (c : ℕ) (are : AreContextBoxes boxes) where
       let next = behind boxes i b bs e in
       let lt = within boxes i b bs e in
       all_by (b.parent == p) (items_at boxes i b (items_below boxes i (i + 1) bs)) (items_below boxes p (i + 1) bs)
-      (λ same. (let is : IsIn boxes c i = record { behind = positive; within = lt; container = leads i positive lt (parent_is boxes i b bs e ∙ eqb-true b.parent p same) } in
+      (λ same. (let is : IsInLines boxes c i = record { behind = positive; within = lt; container = leads i positive lt (parent_is boxes i b bs e ∙ eqb-true b.parent p same) } in
       all_as (role_of b) i b (items_below boxes i (i + 1) bs) is
       (λ inline. all_below i (i + 1) bs next (omega arith) (deeper i is (inline_counts boxes i b bs positive e inline)))))
       (all_below p (i + 1) bs next (omega arith) leads)
@@ -189,10 +189,10 @@ module _ (boxes : List BoxNode) (c : ℕ) (are : AreContextBoxes boxes) where
       (subst (IsContainer boxes j) e (at_parent j positive (subst (λ (p : ℕ). counts boxes p ≡ true) (sym e) open_one)))
 
 -- a block box of the context is a container
-block_kind : (b : BoxNode) → is_block_box (role_of b) ≡ true → is_block_container b.kind ≡ true
+block_kind : (b : BoxNode) → is_block_box (role_of b) ≡ true → is_block_container_kind b.kind ≡ true
 block_kind b e = by_flow b.flow b.style.float b.inner b.kind e
   where
-    by_kind : (inner : Bool) (k : BoxKind) → is_block_box (role_of_kind inner k) ≡ true → is_block_container k ≡ true
+    by_kind : (inner : Bool) (k : BoxKind) → is_block_box (role_of_kind inner k) ≡ true → is_block_container_kind k ≡ true
     by_kind inner kind.Block e = refl
     by_kind inner kind.Wrapper e = refl
     by_kind inner kind.InlineBlock e = refl
@@ -217,7 +217,7 @@ block_kind b e = by_flow b.flow b.style.float b.inner b.kind e
     by_float floating.Left r e = absurd cc
     by_float floating.Right r e = absurd cc
 
-    by_flow : (w : Flow) (f : Float) (inner : Bool) (k : BoxKind) → is_block_box (role_in w f (role_of_kind inner k)) ≡ true → is_block_container k ≡ true
+    by_flow : (w : Flow) (f : Float) (inner : Bool) (k : BoxKind) → is_block_box (role_in w f (role_of_kind inner k)) ≡ true → is_block_container_kind k ≡ true
     by_flow InFlow f inner k e = by_kind inner k e
     by_flow Floating f inner k e = by_kind inner k (by_float f (role_of_kind inner k) e)
     by_flow Absolute f inner k e = by_kind inner k e
@@ -240,5 +240,5 @@ items_are_boxes_lem boxes c are lines = elim (cases_lt c (length boxes)) [
   | inl lt ↦ all_below boxes c are c (c + 1) (drop (c + 1) boxes) refl (omega arith)
       (from_own boxes c are (block_counts boxes c lt (first_of (is_block_box (role_at boxes c)) (holds inline_level boxes c (length boxes)) (not (holds block_level boxes c (length boxes))) lines)))
   | inr past ↦ (let gone : drop (c + 1) boxes ≡ [] = drop_all (c + 1) boxes (omega (arith, past)) in
-      rw gone (All-nil (λ (x : Item). IsIn boxes c (named x).box)))
+      rw gone (All-nil (λ (x : Item). IsInLines boxes c (named x).box)))
 ]

@@ -9,7 +9,7 @@ use Rattle.lay_box_tree.specs.declared.inline_part.InlinePart.{InlinePart}
 use Rattle.lay_box_tree.specs.InlineParts.{AreInlineParts, no_part}
 use Rattle.lay_flow.specs.declared.blocks.flow_box.FlowBox.{FlowBox}
 use Rattle.lay_flow.specs.declared.blocks.flow_box.HeightRule.{HeightRule}
-use Rattle.lay_flow.specs.Blocks.Boxes.{no_box}
+use Rattle.lay_flow.specs.Blocks.Boxes.{no_flow_box}
 use Rattle.lay_flow.specs.Blocks.Lengths.{length_at}
 use Rattle.lay_line_measures.specs.BoxMeasuresValue.{BoxMeasuresValue}
 use Rattle.lay_sizes.specs.declared.sizing.BoxSizes.{BoxSizes}
@@ -48,7 +48,7 @@ one_part_list boxes x y a b =
 
 one_box_list : (m : BoxMeasuresValue) (own_height : HeightRule) (lefts : List Length) (bs cs : List FlowBox) → AreFlowBoxesOf m own_height lefts bs → AreFlowBoxesOf m own_height lefts cs → bs ≡ cs
 one_box_list m own_height lefts bs cs a b =
-    ext_get_or no_box bs cs (a.count ∙ sym b.count) (λ k lt. (let within : k < length m.boxes = omega (arith, a.count) in a.each k within ∙ sym (b.each k within)))
+    ext_get_or no_flow_box bs cs (a.count ∙ sym b.count) (λ k lt. (let within : k < length m.boxes = omega (arith, a.count) in a.each k within ∙ sym (b.each k within)))
 
 pub one_flow_shape_lem : OneFlowShape
 one_flow_shape_lem i s t are a b =

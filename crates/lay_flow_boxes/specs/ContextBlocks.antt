@@ -155,8 +155,8 @@ abbrev pub lines_in : BoxMeasuresValue → List Length → ℕ → Option LineCo
 lines_in m lefts k = if holds_lines m lefts k then Some (content_of_box m lefts k) else None
 
 -- the box at k stands in such lines
-abbrev pub is_in_lines : BoxMeasuresValue → List Length → ℕ → Bool
-is_in_lines m lefts k = nat_lt 0 k && holds_lines m lefts (container_of m.boxes k)
+abbrev pub is_inside_lines : BoxMeasuresValue → List Length → ℕ → Bool
+is_inside_lines m lefts k = nat_lt 0 k && holds_lines m lefts (container_of m.boxes k)
 
 -- a flow box holds lines
 abbrev pub has_lines : FlowKind → Bool
@@ -189,7 +189,7 @@ abbrev pub kind_by : BoxMeasuresValue → HeightRule → List Length → ℕ →
 kind_by m own_height lefts k (Some content) =
     lines (record { block = own_block m.boxes m.sizes own_height lefts k; content = content })
 kind_by m own_height lefts k None =
-    if is_in_lines m lefts k then kind_in_lines (float_side m.boxes k) (cleared_by m.boxes k) (own_box_at m.inner k)
+    if is_inside_lines m lefts k then kind_in_lines (float_side m.boxes k) (cleared_by m.boxes k) (own_box_at m.inner k)
     else kind_alone m.boxes m.sizes m.inner own_height lefts k
 
 -- the box at k, where the height of the own box is given by this rule

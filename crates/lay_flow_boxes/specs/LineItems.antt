@@ -61,15 +61,15 @@ abbrev pub AreHeldByOthers : List BoxNode → Type 0
 AreHeldByOthers boxes = (k : ℕ) → 0 < k → k < length boxes → holds_nothing (role_at boxes (box_parent boxes k)) ≡ false
 
 -- the box at k stands in these lines
-pub record IsIn (boxes : List BoxNode) (c k : ℕ) : Type 0 where
+pub record IsInLines (boxes : List BoxNode) (c k : ℕ) : Type 0 where
   pub behind : 0 < k
   pub within : k < length boxes
   pub container : container_of boxes k ≡ c
 
 abbrev pub BoxesInLinesAreItems : Type 0
 BoxesInLinesAreItems = (boxes : List BoxNode) (c k : ℕ) → AreContextBoxes boxes → AreHeldByOthers boxes
-    → is_inline_container boxes c ≡ true → IsIn boxes c k → IsInLinesAs (role_at boxes k) (sorts_of k (items_of boxes c))
+    → is_inline_container boxes c ≡ true → IsInLines boxes c k → IsInLinesAs (role_at boxes k) (sorts_of k (items_of boxes c))
 
 abbrev pub ItemsAreBoxesInLines : Type 0
 ItemsAreBoxesInLines = (boxes : List BoxNode) (c : ℕ) → AreContextBoxes boxes → is_inline_container boxes c ≡ true
-    → All (λ x. IsIn boxes c (named x).box) (items_of boxes c)
+    → All (λ x. IsInLines boxes c (named x).box) (items_of boxes c)

@@ -8,7 +8,7 @@ use Rattle.lay_doc.specs.declared.edit.Edit.{Edit}
 use Rattle.lay_history.specs.declared.edits.command.Cmd.{Cmd}
 use Rattle.lay_history.specs.declared.edits.command.Cmd.TheVariants.{Edits, Latest, Sync}
 use Rattle.lay_history.specs.Calls.{Call, calls_of, script_calls}
-use Rattle.lay_generator.specs.LastDocuments.{list_in, lists_of}
+use Rattle.lay_generator.specs.LastDocuments.{list_of_command, lists_of}
 
 -- the calls that aren't this editor's
 abbrev unless_of : ℕ → Call → List Call
@@ -56,11 +56,11 @@ no_calls (c ∷ cs) none = absurd (not_own c cs (none c.editor))
 
 -- the lists of edits of calls, in order
 abbrev pub given : List Call → List (List Edit)
-given cs = flat_map (λ c. list_in c.command) cs
+given cs = flat_map (λ c. list_of_command c.command) cs
 
 -- a call each of whose lists of edits is good for its editor
 abbrev pub IsGoodCall : (ℕ → List Edit → Type 0) → Call → Type 0
-IsGoodCall IsGood c = All (IsGood c.editor) (list_in c.command)
+IsGoodCall IsGood c = All (IsGood c.editor) (list_of_command c.command)
 
 good_others : (P : Call → Type 0) (editor : ℕ) (cs : List Call) → All P cs → All P (others editor cs)
 good_others P editor [] all = All-nil P
@@ -85,10 +85,10 @@ good_calls P (c ∷ cs) each =
 module _ {D : Type 0} (step : D → List Edit → D) (IsGood : ℕ → List Edit → Type 0)
     (exchanged : (d : D) (a b : ℕ) (xs ys : List Edit) → IsGood a xs → IsGood b ys → (a ≡ b → ⊥) → step (step d xs) ys ≡ step (step d ys) xs) where
   abbrev called : D → Call → D
-  called d c = fold step d (list_in c.command)
+  called d c = fold step d (list_of_command c.command)
 
-  commands_exchanged : (d : D) (a b : ℕ) (x y : Cmd) → All (IsGood a) (list_in x) → All (IsGood b) (list_in y) → (a ≡ b → ⊥)
-      → fold step (fold step d (list_in x)) (list_in y) ≡ fold step (fold step d (list_in y)) (list_in x)
+  commands_exchanged : (d : D) (a b : ℕ) (x y : Cmd) → All (IsGood a) (list_of_command x) → All (IsGood b) (list_of_command y) → (a ≡ b → ⊥)
+      → fold step (fold step d (list_of_command x)) (list_of_command y) ≡ fold step (fold step d (list_of_command y)) (list_of_command x)
   commands_exchanged d a b (Edits xs) (Edits ys) good_x good_y apart =
       exchanged d a b xs ys (All-head (IsGood a) xs [] good_x) (All-head (IsGood b) ys [] good_y) apart
   commands_exchanged d a b (Edits xs) Latest good_x good_y apart = refl
@@ -120,7 +120,7 @@ module _ {D : Type 0} (step : D → List Edit → D) (IsGood : ℕ → List Edit
   ]
 
   -- the lists of edits of a script
-  script_given : (d : D) (editor index : ℕ) (script : List Cmd) → fold called d (script_calls editor index script) ≡ fold step d (flat_map list_in script)
+  script_given : (d : D) (editor index : ℕ) (script : List Cmd) → fold called d (script_calls editor index script) ≡ fold step d (flat_map list_of_command script)
   script_given d editor index [] = refl
   script_given d editor index (Edits xs ∷ script) = script_given (step d xs) editor (index + 1) script
   script_given d editor index (Latest ∷ script) = script_given d editor (index + 1) script
@@ -128,7 +128,7 @@ module _ {D : Type 0} (step : D → List Edit → D) (IsGood : ℕ → List Edit
 
   one_after_another : (d : D) (cs : List Call) → fold called d cs ≡ fold step d (given cs)
   one_after_another d [] = refl
-  one_after_another d (c ∷ cs) = one_after_another (called d c) cs ∙ sym (fold-append step d (list_in c.command) (given cs))
+  one_after_another d (c ∷ cs) = one_after_another (called d c) cs ∙ sym (fold-append step d (list_of_command c.command) (given cs))
 
   editor_by_editor : (scripts : List (List Cmd)) (k : ℕ) (cs : List Call) (d : D) → All (IsGoodCall IsGood) cs
       → ((editor : ℕ) → editor < k → calls_of editor cs ≡ []) → ((j : ℕ) → calls_of (k + j) cs ≡ script_calls (k + j) 0 (slice_index_or scripts j []))
@@ -141,8 +141,8 @@ module _ {D : Type 0} (step : D → List Edit → D) (IsGood : ℕ → List Edit
       own_in_front d k cs all
       ∙ (ap (λ xs. fold called (fold called d xs) (others k cs)) first
       ∙ (ap (λ z. fold called z (others k cs)) (script_given d k 0 s)
-      ∙ (editor_by_editor ss (k + 1) (others k cs) (fold step d (flat_map list_in s)) (good_others (IsGoodCall IsGood) k cs all) earlier later
-      ∙ sym (fold-append step d (flat_map list_in s) (lists_of ss)))))
+      ∙ (editor_by_editor ss (k + 1) (others k cs) (fold step d (flat_map list_of_command s)) (good_others (IsGoodCall IsGood) k cs all) earlier later
+      ∙ sym (fold-append step d (flat_map list_of_command s) (lists_of ss)))))
     where
       first : calls_of k cs ≡ script_calls k 0 s
       first = let same : k + 0 ≡ k = omega arith in subst (λ n. calls_of n cs ≡ script_calls n 0 s) same (own 0)

@@ -13,7 +13,7 @@ use Rattle.lay_doc.specs.declared.doc.NewFault.{NewFault}
 use Rattle.lay_doc.specs.declared.doc.NewFault.TheVariants.{Bad}
 use Rattle.lay_doc.specs.declared.edit.EditFault.{EditFault}
 use Rattle.lay_generator.specs.Draws.{draw, next, state_after}
-use Rattle.lay_generator.specs.Nodes.{block, container, float_box, id, more_count, more_words, root, section_end, section_nodes, sections, text, word}
+use Rattle.lay_generator.specs.Nodes.{block, container, float_node, id, more_count, more_words, root, section_end, section_nodes, sections, text, word}
 use Rattle.lay_generator.specs.Generated.{generated, with_node, with_nodes}
 use Rattle.lay_generator.specs.Laws.{AreFaultless, GeneratedNodesFit}
 use Rattle.lay_generator.proofs.Placed.{Fits, IsParent, fits_more, no_fault, parent_more, parent_stays, put}
@@ -66,7 +66,7 @@ section_fits s state d few is =
     let q = 4 + 4 * s in
     let last = 5 + 4 * s in
     let a = container s state in
-    let b = float_box s (state_after 1 state) in
+    let b = float_node s (state_after 1 state) in
     let c = block s in
     let e = text s (state_after 4 state) in
     let none-a = no_fault d m m t 1 1 a is.fits is.root (omega arith) (omega arith) (omega arith) (omega arith) (omega arith) in
@@ -142,43 +142,43 @@ put_as after d e parent new other is documents nodes = is ∙ (ap (λ x. with_no
 one_put : (s state : ℕ) (d d1 : Document) (a : NewNodeValue) → a ≡ container s state → d1 ≡ with_node d (id 1, a) → d1 ≡ with_node d (id 1, container s state)
 one_put s state d d1 a is-a put = put_as d1 d d 1 a (container s state) put refl is-a
 
-pub second_fits : (s state : ℕ) (d d1 : Document) (a b : NewNodeValue) → AreFaultless d (section_nodes s state) → a ≡ container s state → b ≡ float_box s (state_after 1 state)
+pub second_fits : (s state : ℕ) (d d1 : Document) (a b : NewNodeValue) → AreFaultless d (section_nodes s state) → a ≡ container s state → b ≡ float_node s (state_after 1 state)
     → d1 ≡ with_node d (id 1, a) → insert_fault d1 (2 + 4 * s) (last_index d1 (2 + 4 * s)) b ≡ None
 second_fits s state d d1 a b fit is-a is-b put =
-    fits_as_well d1 (with_node d (id 1, container s state)) (2 + 4 * s) b (float_box s (state_after 1 state)) (one_put s state d d1 a is-a put) is-b fit.1.0
+    fits_as_well d1 (with_node d (id 1, container s state)) (2 + 4 * s) b (float_node s (state_after 1 state)) (one_put s state d d1 a is-a put) is-b fit.1.0
 
-two_put : (s state : ℕ) (d d1 d2 : Document) (a b : NewNodeValue) → a ≡ container s state → b ≡ float_box s (state_after 1 state)
+two_put : (s state : ℕ) (d d1 d2 : Document) (a b : NewNodeValue) → a ≡ container s state → b ≡ float_node s (state_after 1 state)
     → d1 ≡ with_node d (id 1, a) → d2 ≡ with_node d1 (id (2 + 4 * s), b)
-    → d2 ≡ with_node (with_node d (id 1, container s state)) (id (2 + 4 * s), float_box s (state_after 1 state))
+    → d2 ≡ with_node (with_node d (id 1, container s state)) (id (2 + 4 * s), float_node s (state_after 1 state))
 two_put s state d d1 d2 a b is-a is-b put-1 put-2 =
-    put_as d2 d1 (with_node d (id 1, container s state)) (2 + 4 * s) b (float_box s (state_after 1 state)) put-2 (one_put s state d d1 a is-a put-1) is-b
+    put_as d2 d1 (with_node d (id 1, container s state)) (2 + 4 * s) b (float_node s (state_after 1 state)) put-2 (one_put s state d d1 a is-a put-1) is-b
 
-pub third_fits : (s state : ℕ) (d d1 d2 : Document) (a b n : NewNodeValue) → AreFaultless d (section_nodes s state) → a ≡ container s state → b ≡ float_box s (state_after 1 state) → n ≡ block s
+pub third_fits : (s state : ℕ) (d d1 d2 : Document) (a b n : NewNodeValue) → AreFaultless d (section_nodes s state) → a ≡ container s state → b ≡ float_node s (state_after 1 state) → n ≡ block s
     → d1 ≡ with_node d (id 1, a) → d2 ≡ with_node d1 (id (2 + 4 * s), b) → insert_fault d2 (2 + 4 * s) (last_index d2 (2 + 4 * s)) n ≡ None
 third_fits s state d d1 d2 a b n fit is-a is-b is-n put-1 put-2 =
-    fits_as_well d2 (with_node (with_node d (id 1, container s state)) (id (2 + 4 * s), float_box s (state_after 1 state))) (2 + 4 * s) n (block s)
+    fits_as_well d2 (with_node (with_node d (id 1, container s state)) (id (2 + 4 * s), float_node s (state_after 1 state))) (2 + 4 * s) n (block s)
     (two_put s state d d1 d2 a b is-a is-b put-1 put-2) is-n fit.1.1.0
 
-three_put : (s state : ℕ) (d d1 d2 d3 : Document) (a b n : NewNodeValue) → a ≡ container s state → b ≡ float_box s (state_after 1 state) → n ≡ block s
+three_put : (s state : ℕ) (d d1 d2 d3 : Document) (a b n : NewNodeValue) → a ≡ container s state → b ≡ float_node s (state_after 1 state) → n ≡ block s
     → d1 ≡ with_node d (id 1, a) → d2 ≡ with_node d1 (id (2 + 4 * s), b) → d3 ≡ with_node d2 (id (2 + 4 * s), n)
-    → d3 ≡ with_node (with_node (with_node d (id 1, container s state)) (id (2 + 4 * s), float_box s (state_after 1 state))) (id (2 + 4 * s), block s)
+    → d3 ≡ with_node (with_node (with_node d (id 1, container s state)) (id (2 + 4 * s), float_node s (state_after 1 state))) (id (2 + 4 * s), block s)
 three_put s state d d1 d2 d3 a b n is-a is-b is-n put-1 put-2 put-3 =
-    put_as d3 d2 (with_node (with_node d (id 1, container s state)) (id (2 + 4 * s), float_box s (state_after 1 state))) (2 + 4 * s) n (block s)
+    put_as d3 d2 (with_node (with_node d (id 1, container s state)) (id (2 + 4 * s), float_node s (state_after 1 state))) (2 + 4 * s) n (block s)
     put-3 (two_put s state d d1 d2 a b is-a is-b put-1 put-2) is-n
 
 pub fourth_fits : (s state : ℕ) (d d1 d2 d3 : Document) (a b n e : NewNodeValue) → AreFaultless d (section_nodes s state)
-    → a ≡ container s state → b ≡ float_box s (state_after 1 state) → n ≡ block s → e ≡ text s (state_after 4 state)
+    → a ≡ container s state → b ≡ float_node s (state_after 1 state) → n ≡ block s → e ≡ text s (state_after 4 state)
     → d1 ≡ with_node d (id 1, a) → d2 ≡ with_node d1 (id (2 + 4 * s), b) → d3 ≡ with_node d2 (id (2 + 4 * s), n) → insert_fault d3 (4 + 4 * s) (last_index d3 (4 + 4 * s)) e ≡ None
 fourth_fits s state d d1 d2 d3 a b n e fit is-a is-b is-n is-e put-1 put-2 put-3 =
-    fits_as_well d3 (with_node (with_node (with_node d (id 1, container s state)) (id (2 + 4 * s), float_box s (state_after 1 state))) (id (2 + 4 * s), block s)) (4 + 4 * s)
+    fits_as_well d3 (with_node (with_node (with_node d (id 1, container s state)) (id (2 + 4 * s), float_node s (state_after 1 state))) (id (2 + 4 * s), block s)) (4 + 4 * s)
     e (text s (state_after 4 state)) (three_put s state d d1 d2 d3 a b n is-a is-b is-n put-1 put-2 put-3) is-e fit.1.1.1.0
 
 -- the document with all of them
-pub section_put : (s state : ℕ) (d d1 d2 d3 d4 : Document) (a b n e : NewNodeValue) → a ≡ container s state → b ≡ float_box s (state_after 1 state) → n ≡ block s → e ≡ text s (state_after 4 state)
+pub section_put : (s state : ℕ) (d d1 d2 d3 d4 : Document) (a b n e : NewNodeValue) → a ≡ container s state → b ≡ float_node s (state_after 1 state) → n ≡ block s → e ≡ text s (state_after 4 state)
     → d1 ≡ with_node d (id 1, a) → d2 ≡ with_node d1 (id (2 + 4 * s), b) → d3 ≡ with_node d2 (id (2 + 4 * s), n) → d4 ≡ with_node d3 (id (4 + 4 * s), e)
     → d4 ≡ with_nodes d (section_nodes s state)
 section_put s state d d1 d2 d3 d4 a b n e is-a is-b is-n is-e put-1 put-2 put-3 put-4 =
-    put_as d4 d3 (with_node (with_node (with_node d (id 1, container s state)) (id (2 + 4 * s), float_box s (state_after 1 state))) (id (2 + 4 * s), block s)) (4 + 4 * s)
+    put_as d4 d3 (with_node (with_node (with_node d (id 1, container s state)) (id (2 + 4 * s), float_node s (state_after 1 state))) (id (2 + 4 * s), block s)) (4 + 4 * s)
     e (text s (state_after 4 state)) put-4 (three_put s state d d1 d2 d3 a b n is-a is-b is-n put-1 put-2 put-3) is-e
 
 all_fit : (n s state : ℕ) (d : Document) → s + n ≤ 1000 → IsSections s d → AreFaultless d (sections n s state)

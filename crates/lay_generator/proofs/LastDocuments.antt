@@ -20,7 +20,7 @@ use Rattle.lay_history.proofs.OneMore.{doc_whole}
 use Rattle.lay_generator.specs.Nodes.{sections_end}
 use Rattle.lay_generator.specs.Generated.{generated}
 use Rattle.lay_generator.specs.LastDocuments.{after_lists, last_document, lists_of}
-use Rattle.lay_generator.specs.Laws.{ComesTo, GeneratedEditsFit, GeneratedNodesStay, GeneratedRunsComeToOne, IsListOf, NoneLacked, NoneRefused}
+use Rattle.lay_generator.specs.Laws.{ResultsIn, GeneratedEditsFit, GeneratedNodesStay, GeneratedRunsComeToOne, IsListOf, NoneLacked, NoneRefused}
 use Rattle.lay_generator.proofs.Accepted.{AreAccepted, ArePart, accepted_part, all_given}
 use Rattle.lay_generator.proofs.EditorOrder.{IsGoodCall, by_editors, given, good_calls}
 use Rattle.lay_generator.proofs.Faultless.{generated_sections}
@@ -203,7 +203,7 @@ module _ (size seed : ℕ) (h : List Entry) (few : size ≤ 1000) (legal : IsLeg
   part : ArePart (lists h) (given (calls h))
   part = accepted_part h
 
-  comes_to : ComesTo (generated size seed) (last_document (generated size seed)) h
+  comes_to : ResultsIn (generated size seed) (last_document (generated size seed)) h
   comes_to = record {
     none_refused = not_refused;
     nodes_stay = ap (λ (d : Document). length d.nodes) (doc_whole ready h) ∙ (lists_same size ready (lists h) (accepted_lists size h entries)).count;

@@ -11,8 +11,8 @@ use Rattle.lay_history.specs.declared.edits.command.Cmd.TheVariants.{Edits, Sync
 use Rattle.lay_history.specs.Calls.{script_calls}
 use Rattle.lay_generator.specs.Draws.{next}
 use Rattle.lay_generator.specs.Nodes.{id}
-use Rattle.lay_generator.specs.Commands.{batch_at, batch_size, batches, is_of, paddings, script, script_end, scripts, sections_of, set_padding}
-use Rattle.lay_generator.specs.LastDocuments.{list_in, lists_of}
+use Rattle.lay_generator.specs.Commands.{batch_at, batch_size, batches, is_section_of, set_paddings, script, script_end, scripts, sections_of, set_padding}
+use Rattle.lay_generator.specs.LastDocuments.{list_of_command, lists_of}
 use Rattle.lay_generator.proofs.EditorOrder.{IsGoodCall}
 use Rattle.lay_generator.proofs.Steps.{by_bool}
 
@@ -35,30 +35,30 @@ ArePaddings size editor edits = All (IsPadding size editor) edits
 abbrev pub OfOne : ℕ → List Edit → Type 0
 OfOne size edits = (editor : ℕ) × ArePaddings size editor edits
 
-is_own : (size editor section : ℕ) → 1 ≤ editor → section < size → is_of editor section ≡ true → IsOwn size editor section
+is_own : (size editor section : ℕ) → 1 ≤ editor → section < size → is_section_of editor section ≡ true → IsOwn size editor section
 is_own size editor section some within is = elim (cases_eq (section % 4) (editor - 1)) [
   | inl same ↦ record { within = within; own = omega (arith, some, same) }
   | inr other ↦ (let no = ne_eqb (section % 4) (editor - 1) other in absurd cc)
 ]
 
-owned_sections : (size editor a n : ℕ) → 1 ≤ editor → a + n ≤ size → All (IsOwn size editor) (filter (is_of editor) (range_with_len a n))
+owned_sections : (size editor a n : ℕ) → 1 ≤ editor → a + n ≤ size → All (IsOwn size editor) (filter (is_section_of editor) (range_with_len a n))
 owned_sections size editor a zero some few = All-nil (IsOwn size editor)
 owned_sections size editor a (suc n) some few =
     let rest = owned_sections size editor (a + 1) n some (omega (arith, few)) in
-    by_bool (is_of editor a)
-    (λ t. rw t (All-cons (IsOwn size editor) a (filter (is_of editor) (range_with_len (a + 1) n)) (is_own size editor a some (omega (arith, few)) t) rest))
+    by_bool (is_section_of editor a)
+    (λ t. rw t (All-cons (IsOwn size editor) a (filter (is_section_of editor) (range_with_len (a + 1) n)) (is_own size editor a some (omega (arith, few)) t) rest))
     (λ f. rw f rest)
 
-are_paddings : (size editor : ℕ) (sections : List ℕ) (state : ℕ) → All (IsOwn size editor) sections → ArePaddings size editor (paddings sections state)
+are_paddings : (size editor : ℕ) (sections : List ℕ) (state : ℕ) → All (IsOwn size editor) sections → ArePaddings size editor (set_paddings sections state)
 are_paddings size editor [] state all = All-nil (IsPadding size editor)
 are_paddings size editor (s ∷ ss) state all =
-    All-cons (IsPadding size editor) (set_padding s state) (paddings ss (next state))
+    All-cons (IsPadding size editor) (set_padding s state) (set_paddings ss (next state))
     (record { section = s; owned = All-head (IsOwn size editor) s ss all; decl = _; is = refl })
     (are_paddings size editor ss (next state) (All-tail (IsOwn size editor) s ss all))
 
 -- the lists that a command of this editor gives
 abbrev Gives : ℕ → ℕ → Cmd → Type 0
-Gives size editor c = All (ArePaddings size editor) (list_in c)
+Gives size editor c = All (ArePaddings size editor) (list_of_command c)
 
 script_gives : (size editor state : ℕ) → 1 ≤ editor → All (Gives size editor) (script size editor state)
 script_gives size editor state some =
@@ -67,7 +67,7 @@ script_gives size editor state some =
     (All-cons (Gives size editor) Sync [] (All-nil (ArePaddings size editor)) (All-nil (Gives size editor)))
   where
     edits : List Edit
-    edits = paddings (sections_of size editor) state
+    edits = set_paddings (sections_of size editor) state
 
     each : ArePaddings size editor edits
     each = are_paddings size editor (sections_of size editor) state (owned_sections size editor 0 size some (omega arith))
@@ -78,10 +78,10 @@ script_gives size editor state some =
         (All-take (IsPadding size editor) batch_size (drop (batch_size * k) edits) (All-drop (IsPadding size editor) (batch_size * k) edits each))
         (All-nil (ArePaddings size editor))
 
-given_by : (P : List Edit → Type 0) (script : List Cmd) → All (λ c. All P (list_in c)) script → All P (flat_map list_in script)
+given_by : (P : List Edit → Type 0) (script : List Cmd) → All (λ c. All P (list_of_command c)) script → All P (flat_map list_of_command script)
 given_by P [] all = All-nil P
 given_by P (c ∷ cs) all =
-    All-append P (list_in c) (flat_map list_in cs) (All-head (λ x. All P (list_in x)) c cs all) (given_by P cs (All-tail (λ x. All P (list_in x)) c cs all))
+    All-append P (list_of_command c) (flat_map list_of_command cs) (All-head (λ x. All P (list_of_command x)) c cs all) (given_by P cs (All-tail (λ x. All P (list_of_command x)) c cs all))
 
 of_one : (size editor : ℕ) (lists : List (List Edit)) → All (ArePaddings size editor) lists → All (OfOne size) lists
 of_one size editor lists all = λ k d lt. (editor, all k d lt)
@@ -90,8 +90,8 @@ of_one size editor lists all = λ k d lt. (editor, all k d lt)
 pub each_of_one : (size n editor state : ℕ) → 1 ≤ editor → All (OfOne size) (lists_of (scripts size n editor state))
 each_of_one size zero editor state some = All-nil (OfOne size)
 each_of_one size (suc n) editor state some =
-    All-append (OfOne size) (flat_map list_in (script size editor state)) (lists_of (scripts size n (editor + 1) (script_end size editor state)))
-    (of_one size editor (flat_map list_in (script size editor state)) (given_by (ArePaddings size editor) (script size editor state) (script_gives size editor state some)))
+    All-append (OfOne size) (flat_map list_of_command (script size editor state)) (lists_of (scripts size n (editor + 1) (script_end size editor state)))
+    (of_one size editor (flat_map list_of_command (script size editor state)) (given_by (ArePaddings size editor) (script size editor state) (script_gives size editor state some)))
     (each_of_one size n (editor + 1) (script_end size editor state) (omega arith))
 
 -- the script at a place gives lists of its editor

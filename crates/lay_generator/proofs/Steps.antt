@@ -20,7 +20,7 @@ use Rattle.lay_json.proofs.Listed.{put_listed}
 use Rattle.lay_frag.specs.declared.frag.Frag.{Frag}
 use Rattle.lay_generator.specs.Draws.{next, state_after}
 use Rattle.lay_generator.specs.Nodes.{more_words, section_end, section_nodes, sections, sections_end, word}
-use Rattle.lay_generator.specs.Commands.{is_of, paddings, script, script_end, scripts, set_padding}
+use Rattle.lay_generator.specs.Commands.{is_section_of, set_paddings, script, script_end, scripts, set_padding}
 use Rattle.lay_generator.specs.Generated.{ids, with_node, with_nodes}
 use Rattle.lay_generator.specs.Summary.{mark_from, piece_mark}
 
@@ -66,7 +66,7 @@ drop_step (y ∷ ys) zero x is = let e : y ≡ x = cc in ap (λ z. z ∷ ys) e
 drop_step (y ∷ ys) (suc k) x is = let e : suc k + 1 ≡ suc (k + 1) = omega arith in rw e (drop_step ys k x is)
 
 -- the edits for sections, and those for more
-pub paddings_more : (xs ys : List ℕ) (state : ℕ) → paddings (xs ++ ys) state ≡ paddings xs state ++ paddings ys (state_after (length xs) state)
+pub paddings_more : (xs ys : List ℕ) (state : ℕ) → set_paddings (xs ++ ys) state ≡ set_paddings xs state ++ set_paddings ys (state_after (length xs) state)
 paddings_more [] ys state = refl
 paddings_more (x ∷ xs) ys state = ap (λ (es : List Edit). set_padding x state ∷ es) (paddings_more xs ys (next state))
 
@@ -92,29 +92,29 @@ listed_put d parent node listed none is =
     put_listed d (with_node d (parent, node)) (parent, node) listed is
     (ap (λ (f : Option EditFault). without_fault (length d.nodes) f (with_node d (parent, node))) none)
 
-rest_step : (editor k n : ℕ) → 0 < n → filter (is_of editor) (range_with_len k n) ≡ filter (is_of editor) (k ∷ []) ++ filter (is_of editor) (range_with_len (k + 1) (n - 1))
-rest_step editor k n some = ap (filter (is_of editor)) (range_step k n some) ∙ filter_step (is_of editor) k (range_with_len (k + 1) (n - 1))
+rest_step : (editor k n : ℕ) → 0 < n → filter (is_section_of editor) (range_with_len k n) ≡ filter (is_section_of editor) (k ∷ []) ++ filter (is_section_of editor) (range_with_len (k + 1) (n - 1))
+rest_step editor k n some = ap (filter (is_section_of editor)) (range_step k n some) ∙ filter_step (is_section_of editor) k (range_with_len (k + 1) (n - 1))
 
 -- the edits for the sections that are left, and for one fewer
 pub edits_step : (editor k n state : ℕ) (edits : List Edit) → 0 < n
-    → edits ++ paddings (filter (is_of editor) (range_with_len k n)) state
-    ≡ (edits ++ paddings (filter (is_of editor) (k ∷ [])) state) ++ paddings (filter (is_of editor) (range_with_len (k + 1) (n - 1))) (state_after (length (filter (is_of editor) (k ∷ []))) state)
+    → edits ++ set_paddings (filter (is_section_of editor) (range_with_len k n)) state
+    ≡ (edits ++ set_paddings (filter (is_section_of editor) (k ∷ [])) state) ++ set_paddings (filter (is_section_of editor) (range_with_len (k + 1) (n - 1))) (state_after (length (filter (is_section_of editor) (k ∷ []))) state)
 edits_step editor k n state edits some =
-    let one = filter (is_of editor) (k ∷ []) in
-    let rest = filter (is_of editor) (range_with_len (k + 1) (n - 1)) in
-    ap (λ (es : List Edit). edits ++ es) (ap (λ (xs : List ℕ). paddings xs state) (rest_step editor k n some) ∙ paddings_more one rest state)
-    ∙ sym (append_assoc edits (paddings one state) (paddings rest (state_after (length one) state)))
+    let one = filter (is_section_of editor) (k ∷ []) in
+    let rest = filter (is_section_of editor) (range_with_len (k + 1) (n - 1)) in
+    ap (λ (es : List Edit). edits ++ es) (ap (λ (xs : List ℕ). set_paddings xs state) (rest_step editor k n some) ∙ paddings_more one rest state)
+    ∙ sym (append_assoc edits (set_paddings one state) (set_paddings rest (state_after (length one) state)))
 
 pub state_after_step : (editor k n state : ℕ) → 0 < n
-    → state_after (length (filter (is_of editor) (range_with_len k n))) state
-    ≡ state_after (length (filter (is_of editor) (range_with_len (k + 1) (n - 1)))) (state_after (length (filter (is_of editor) (k ∷ []))) state)
+    → state_after (length (filter (is_section_of editor) (range_with_len k n))) state
+    ≡ state_after (length (filter (is_section_of editor) (range_with_len (k + 1) (n - 1)))) (state_after (length (filter (is_section_of editor) (k ∷ []))) state)
 state_after_step editor k n state some =
-    let one = filter (is_of editor) (k ∷ []) in
-    let rest = filter (is_of editor) (range_with_len (k + 1) (n - 1)) in
+    let one = filter (is_section_of editor) (k ∷ []) in
+    let rest = filter (is_section_of editor) (range_with_len (k + 1) (n - 1)) in
     ap (λ (m : ℕ). state_after m state) (ap length (rest_step editor k n some) ∙ length-append one rest) ∙ states_more (length one) (length rest) state
 
-pub few_more : (editor k state : ℕ) (edits : List Edit) → length edits ≤ k → length (edits ++ paddings (filter (is_of editor) (k ∷ [])) state) ≤ k + 1
-few_more editor k state edits few = by_bool (is_of editor k)
+pub few_more : (editor k state : ℕ) (edits : List Edit) → length edits ≤ k → length (edits ++ set_paddings (filter (is_section_of editor) (k ∷ [])) state) ≤ k + 1
+few_more editor k state edits few = by_bool (is_section_of editor k)
     (λ e. rw e (grind (arith, common_steps, few)))
     (λ e. rw e (grind (arith, common_steps, few)))
 

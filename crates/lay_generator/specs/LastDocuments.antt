@@ -9,14 +9,14 @@ use Rattle.lay_history.specs.Edits.EditLists.{after_all}
 use Rattle.lay_run.specs.Runs.{Run}
 
 -- the list of edits that a command gives
-abbrev pub list_in : Cmd → List (List Edit)
-list_in (Edits edits) = edits ∷ []
-list_in Latest = []
-list_in Sync = []
+abbrev pub list_of_command : Cmd → List (List Edit)
+list_of_command (Edits edits) = edits ∷ []
+list_of_command Latest = []
+list_of_command Sync = []
 
 -- the lists of edits of all editors, each editor's in order
 abbrev pub lists_of : List (List Cmd) → List (List Edit)
-lists_of scripts = flat_map (flat_map list_in) scripts
+lists_of scripts = flat_map (flat_map list_of_command) scripts
 
 abbrev pub list_count : Run → ℕ
 list_count run = length (lists_of run.scripts)

@@ -54,7 +54,7 @@ NoneRefused history = (k editor index place : ℕ) (edits : List Change) (f : Ed
 
 -- What comes of a history that answers a run's editors. At most all lists of edits were accepted, and all were but for want of memory; then
 -- the document is the last one.
-pub record ComesTo (run : Run) (last : Document) (history : List Entry) : Type 0 where
+pub record ResultsIn (run : Run) (last : Document) (history : List Entry) : Type 0 where
   pub none_refused : NoneRefused history
   pub nodes_stay : length (doc_after run.doc history).nodes ≡ length run.doc.nodes
   pub few : accepted history ≤ list_count run
@@ -64,4 +64,4 @@ pub record ComesTo (run : Run) (last : Document) (history : List Entry) : Type 0
 -- in whatever order the editors of a generated run came, their run comes to its last document
 abbrev pub GeneratedRunsComeToOne : Type 0
 GeneratedRunsComeToOne = (size seed : ℕ) (history : List Entry) → size ≤ 1000 → IsLegal (generated size seed).doc history
-    → AnswersScripts history (generated size seed).scripts → ComesTo (generated size seed) (last_document (generated size seed)) history
+    → AnswersScripts history (generated size seed).scripts → ResultsIn (generated size seed) (last_document (generated size seed)) history

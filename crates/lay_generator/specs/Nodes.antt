@@ -16,8 +16,8 @@ abbrev pub id : ℕ → NodeId
 id n = record { 0 = n }
 
 -- so many px
-abbrev pub px : ℕ → Given
-px n = Length (record { 0 = pos (64 * n) })
+abbrev pub px_value : ℕ → Given
+px_value n = Length (record { 0 = pos (64 * n) })
 
 abbrev pub element : ℕ → List Declaration → NewNodeValue
 element n decls = record { id = id n; kind = Element 1 1; decls = decls; text = [] }
@@ -29,16 +29,16 @@ root = element 1 (record { property = Display; value = Keyword Block } ∷ [])
 abbrev pub container : ℕ → ℕ → NewNodeValue
 container section state = element (2 + 4 * section) (
     record { property = Display; value = Keyword Block }
-    ∷ record { property = MarginTop; value = px (draw 1 state % 21) }
+    ∷ record { property = MarginTop; value = px_value (draw 1 state % 21) }
     ∷ record { property = Overflow; value = Keyword Hidden } ∷ [])
 
 -- the float of a section: its side, its width and its height are the next three draws
-abbrev pub float_box : ℕ → ℕ → NewNodeValue
-float_box section state = element (3 + 4 * section) (
+abbrev pub float_node : ℕ → ℕ → NewNodeValue
+float_node section state = element (3 + 4 * section) (
     record { property = Display; value = Keyword Block }
     ∷ record { property = Float; value = Keyword (if draw 1 state % 2 == 1 then Left else Right) }
-    ∷ record { property = Height; value = px (10 + draw 3 state % 40) }
-    ∷ record { property = Width; value = px (20 + draw 2 state % 100) } ∷ [])
+    ∷ record { property = Height; value = px_value (10 + draw 3 state % 40) }
+    ∷ record { property = Width; value = px_value (20 + draw 2 state % 100) } ∷ [])
 
 abbrev pub block : ℕ → NewNodeValue
 block section = element (4 + 4 * section) (record { property = Display; value = Keyword Block } ∷ [])
@@ -53,8 +53,8 @@ more_words zero state = []
 more_words (suc n) state = (codes " " ++ word state) ++ more_words n (next state)
 
 -- a text of a word and so many more, parted by one space each
-abbrev pub words : ℕ → ℕ → List ℕ
-words more state = word state ++ more_words more (next state)
+abbrev pub text_of_words : ℕ → ℕ → List ℕ
+text_of_words more state = word state ++ more_words more (next state)
 
 -- how many words more than one a text has, by the next draw
 abbrev pub more_count : ℕ → ℕ
@@ -62,13 +62,13 @@ more_count state = draw 1 state % 30
 
 -- the text of a section: the number of its words is the next draw, and each word's length a further one
 abbrev pub text : ℕ → ℕ → NewNodeValue
-text section state = record { id = id (5 + 4 * section); kind = Text; decls = []; text = words (more_count state) (next state) }
+text section state = record { id = id (5 + 4 * section); kind = Text; decls = []; text = text_of_words (more_count state) (next state) }
 
 -- the nodes of a section
 abbrev pub section_nodes : ℕ → ℕ → List (NodeId × NewNodeValue)
 section_nodes section state =
     (id 1, container section state)
-    ∷ (id (2 + 4 * section), float_box section (state_after 1 state))
+    ∷ (id (2 + 4 * section), float_node section (state_after 1 state))
     ∷ (id (2 + 4 * section), block section)
     ∷ (id (4 + 4 * section), text section (state_after 4 state)) ∷ []
 

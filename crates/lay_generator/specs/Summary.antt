@@ -11,12 +11,12 @@ abbrev pub residue : ℤ → ℕ
 residue number = unsigned_abs (int_rem_euclid number (pos (2 ^ 32)))
 
 -- a mark with one number more, modulo 2^32
-abbrev pub marked : ℕ → ℤ → ℕ
-marked mark number = (31 * mark + residue number) % 2 ^ 32
+abbrev pub mark_with : ℕ → ℤ → ℕ
+mark_with mark number = (31 * mark + residue number) % 2 ^ 32
 
 -- with the place and the size of a piece
 abbrev pub piece_mark : ℕ → Frag → ℕ
-piece_mark mark frag = marked (marked (marked (marked mark frag.rect.x.0) frag.rect.y.0) frag.rect.w.0) frag.rect.h.0
+piece_mark mark frag = mark_with (mark_with (mark_with (mark_with mark frag.rect.x.0) frag.rect.y.0) frag.rect.w.0) frag.rect.h.0
 
 -- the mark of pieces in their order, behind one of others
 abbrev pub mark_from : ℕ → List Frag → ℕ

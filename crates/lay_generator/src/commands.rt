@@ -4,7 +4,7 @@ ghost use Rattle.std.specs.Prelude.{◌≡◌, ◌<◌, ◌≤◌, ◌++◌, ◌
 ghost use Rattle.std.specs.List.{filter};
 ghost use Rattle.lay_run.specs.Scripts.{reads_of};
 ghost use Rattle.lay_generator.specs.Draws.{next, state_after};
-ghost use Rattle.lay_generator.specs.Commands.{is_of, paddings, script, script_end, scripts, set_padding};
+ghost use Rattle.lay_generator.specs.Commands.{is_section_of, set_paddings, script, script_end, scripts, set_padding};
 
 use crate::batches::Batches;
 use crate::draws::Draws;
@@ -57,8 +57,8 @@ fn push_padding(
 ) -> Result<(), NoMemory>
     requires section { section < 1000 }
     requires editor { 1 ≤ editor }
-    ensures edits { OnOk result (batches.new ≡ batches.old ++ paddings (filter (is_of editor) (section ∷ [])) draws.old) }
-    ensures state { OnOk result (draws.new ≡ state_after (length (filter (is_of editor) (section ∷ []))) draws.old) }
+    ensures edits { OnOk result (batches.new ≡ batches.old ++ set_paddings (filter (is_section_of editor) (section ∷ [])) draws.old) }
+    ensures state { OnOk result (draws.new ≡ state_after (length (filter (is_section_of editor) (section ∷ []))) draws.old) }
 {
     if section % 4 == editor - 1 {
         batches.push(set_padding(section, draws))?;

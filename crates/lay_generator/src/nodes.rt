@@ -4,7 +4,8 @@ ghost use Rattle.std.specs.Prelude.{◌≡◌, ◌+◌, ◌*◌, ◌%◌, ◌<�
 ghost use Rattle.lay_style.specs.Values.{is_value_of};
 ghost use Rattle.lay_style.specs.Declarations.{with_declaration};
 ghost use Rattle.lay_generator.specs.Draws.{draw, next, state_after};
-ghost use Rattle.lay_generator.specs.Nodes.{block, container, element, float_box, more_count, more_words, px, root, text, word, words};
+ghost use Rattle.lay_generator.specs.Nodes.{block, container, element, float_node, more_count, more_words};
+ghost use Rattle.lay_generator.specs.Nodes.{px_value, root, text, word, text_of_words};
 
 use crate::draws::Draws;
 use lay_doc::{NewNode, NodeId};
@@ -15,7 +16,7 @@ use std::alloc::Global;
 /// So many px.
 pub(crate) fn px(n: u32) -> Given
     requires { n < 2 ^ 15 }
-    ensures { result ≡ px n }
+    ensures { result ≡ px_value n }
 {
     Given::Length(Unit(64 * i64::from(n)))
 }
@@ -70,7 +71,7 @@ pub(crate) fn container(alloc: Global, section: u32, draws: &mut Draws) -> Resul
 /// The float of a section.
 pub(crate) fn float_box(alloc: Global, section: u32, draws: &mut Draws) -> Result<NewNode, NoMemory>
     requires { section < 1000 }
-    ensures node { IfOk result (λ n. n ≡ float_box section draws.old) }
+    ensures node { IfOk result (λ n. n ≡ float_node section draws.old) }
     ensures state { draws.new ≡ state_after 3 draws.old }
 {
     let side = side(draws.draw());
@@ -118,7 +119,7 @@ pub(crate) fn text(alloc: Global, section: u32, draws: &mut Draws) -> Result<New
 
 /// A text of a word and so many more.
 fn words(alloc: Global, more: u32, draws: &mut Draws) -> Result<String, NoMemory>
-    ensures text { IfOk result (λ t. string_bytes t ≡ words more draws.old) }
+    ensures text { IfOk result (λ t. string_bytes t ≡ text_of_words more draws.old) }
     ensures state { OnOk result (draws.new ≡ state_after (1 + more) draws.old) }
 {
     let mut text = word(alloc, draws)?;

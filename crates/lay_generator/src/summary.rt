@@ -2,7 +2,7 @@
 
 ghost use Rattle.std.specs.Prelude.{◌≡◌, ◌++◌, IfOk, OnOk, string_bytes};
 ghost use Rattle.lay_frag.specs.Pieces.{IsContextInRange, IsTreeInRange, frags_of, page_pieces};
-ghost use Rattle.lay_generator.specs.Summary.{mark_from, marked, piece_mark, residue, summary};
+ghost use Rattle.lay_generator.specs.Summary.{mark_from, mark_with, piece_mark, residue, summary};
 ghost use Rattle.lay_report.specs.Report.{numbered_line};
 
 use lay_frag::{Frag, Placed, Tree};
@@ -64,7 +64,7 @@ fn piece_mark(mark: u32, frag: &Frag) -> u32
 }
 
 fn marked(mark: u32, length: Unit) -> u32
-    ensures { result ≡ marked mark length.0 }
+    ensures { result ≡ mark_with mark length.0 }
 {
     ((31 * u64::from(mark) + u64::from(residue(length.0))) % 4294967296) as u32
 }

@@ -6,7 +6,7 @@ use Rattle.lay_grid.specs.declared.cells.Area.{Area}
 use Rattle.lay_grid.specs.declared.cells.Cell.{Cell}
 use Rattle.lay_grid.specs.Areas.{areas_from}
 use Rattle.lay_grid.specs.Laws.{RowsHaveAGrid}
-use Rattle.lay_grid.specs.Places.{Covers, HasRoom, StandAfter, StandsLeft, areas_of, right_edge}
+use Rattle.lay_grid.specs.Places.{Covers, HasRoomForArea, StandAfter, StandsLeft, areas_of, right_edge}
 use Rattle.lay_grid.specs.Slots.{columns_of, slots_from}
 use Rattle.lay_grid.proofs.ColumnsWithin.{room_behind_all}
 
@@ -51,16 +51,16 @@ beside area left cell = from (apart area left cell) (cases_eq cell.area.row area
     from (inl free) (inl same) (inl less) = inr (λ room. let right = room.right same in omega (arith, right, less))
     from (inl free) (inl same) (inr not) = inl (record { right = λ e. omega (arith, not); apart = free })
 
-first_room : (x : Cell) (earlier : List Cell) (area : Area) (left : ℕ) → HasRoom (x ∷ earlier) area left → HasRoomBeside area left x
+first_room : (x : Cell) (earlier : List Cell) (area : Area) (left : ℕ) → HasRoomForArea (x ∷ earlier) area left → HasRoomBeside area left x
 first_room x earlier area left room = record { right = room.right_of_its_row 0 x refl; apart = λ r c here there. room.all_free r c here 0 x refl there }
 
-rest_room : (x : Cell) (earlier : List Cell) (area : Area) (left : ℕ) → HasRoom (x ∷ earlier) area left → HasRoom earlier area left
+rest_room : (x : Cell) (earlier : List Cell) (area : Area) (left : ℕ) → HasRoomForArea (x ∷ earlier) area left → HasRoomForArea earlier area left
 rest_room x earlier area left room = record {
   right_of_its_row = λ i cell at. room.right_of_its_row (suc i) cell at;
   all_free = λ r c here i cell at. room.all_free r c here (suc i) cell at;
 }
 
-more_room : (x : Cell) (earlier : List Cell) (area : Area) (left : ℕ) → HasRoomBeside area left x → HasRoom earlier area left → HasRoom (x ∷ earlier) area left
+more_room : (x : Cell) (earlier : List Cell) (area : Area) (left : ℕ) → HasRoomBeside area left x → HasRoomForArea earlier area left → HasRoomForArea (x ∷ earlier) area left
 more_room x earlier area left one rest = record { right_of_its_row = right; all_free = free }
   where
     right : (i : ℕ) (cell : Cell) → slice_get (x ∷ earlier) i ≡ Some cell → cell.area.row ≡ area.row → right_edge cell ≤ left
@@ -71,7 +71,7 @@ more_room x earlier area left one rest = record { right_of_its_row = right; all_
     free r c here zero cell at = let e = same_Some x cell at in subst (λ (z : Cell). Covers z.area z.left r c → ⊥) e (one.apart r c here)
     free r c here (suc i) cell at = rest.all_free r c here i cell at
 
-room : (earlier : List Cell) (area : Area) (left : ℕ) → HasRoom earlier area left ⊎ (HasRoom earlier area left → ⊥)
+room : (earlier : List Cell) (area : Area) (left : ℕ) → HasRoomForArea earlier area left ⊎ (HasRoomForArea earlier area left → ⊥)
 room [] area left = inl (record { right_of_its_row = λ i cell at. absurd (cc (at)); all_free = λ r c here i cell at. absurd (cc (at)) })
 room (x ∷ earlier) area left = elim (beside area left x) [
   | inr none ↦ inr (λ all. none (first_room x earlier area left all))
@@ -82,12 +82,12 @@ room (x ∷ earlier) area left = elim (beside area left x) [
 ]
 
 -- the least column with room, from one on before which there is none
-search_from : (earlier : List Cell) (area : Area) (left more : ℕ) → HasRoom earlier area (left + more) → ((column : ℕ) → column < left → HasRoom earlier area column → ⊥)
+search_from : (earlier : List Cell) (area : Area) (left more : ℕ) → HasRoomForArea earlier area (left + more) → ((column : ℕ) → column < left → HasRoomForArea earlier area column → ⊥)
     → (least : ℕ) × StandsLeft earlier area least
 search_from earlier area left zero there none = (
   left,
   record {
-    has_room = let e : left + 0 ≡ left = omega arith in subst (λ (n : ℕ). HasRoom earlier area n) e there;
+    has_room = let e : left + 0 ≡ left = omega arith in subst (λ (n : ℕ). HasRoomForArea earlier area n) e there;
     least = λ column has. elim (cases_lt column left) [
       | inl less ↦ absurd (none column less has)
       | inr not ↦ omega (arith, not)
@@ -105,10 +105,10 @@ search_from earlier area left (suc more) there none = elim (room earlier area le
       ];
     },
   )
-  | inr never ↦ search_from earlier area (left + 1) more (let e : left + suc more ≡ (left + 1) + more = omega arith in subst (λ (n : ℕ). HasRoom earlier area n) e there)
+  | inr never ↦ search_from earlier area (left + 1) more (let e : left + suc more ≡ (left + 1) + more = omega arith in subst (λ (n : ℕ). HasRoomForArea earlier area n) e there)
       (λ column less has. elim (cases_lt column left) [
         | inl low ↦ none column low has
-        | inr not ↦ (let e : column ≡ left = omega (arith, less, not) in never (subst (λ (n : ℕ). HasRoom earlier area n) e has))
+        | inr not ↦ (let e : column ≡ left = omega (arith, less, not) in never (subst (λ (n : ℕ). HasRoomForArea earlier area n) e has))
       ])
 ]
 
@@ -116,7 +116,7 @@ pub stand_after : (earlier : List Cell) (areas : List Area) → (cells : List Ce
 stand_after earlier [] = ([], refl, tt)
 stand_after earlier (area ∷ areas) =
     let end : columns_of earlier ≡ 0 + columns_of earlier = omega arith in
-    let there = subst (λ (n : ℕ). HasRoom earlier area n) end (room_behind_all earlier area) in
+    let there = subst (λ (n : ℕ). HasRoomForArea earlier area n) end (room_behind_all earlier area) in
     let here = search_from earlier area 0 (columns_of earlier) there (λ column less. absurd (omega (arith, less))) in
     let cell : Cell = record { area = area; left = here.0 } in
     let rest = stand_after (earlier ++ cell ∷ []) areas in

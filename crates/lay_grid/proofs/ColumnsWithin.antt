@@ -3,7 +3,7 @@ use Rattle.std.proofs.Common.{◌≡◌, ℕ, zero, suc, ◌+◌, ◌≤◌, max
 use Rattle.std.proofs.lemmas.Option.{same_Some}
 use Rattle.lay_grid.specs.declared.cells.Area.{Area}
 use Rattle.lay_grid.specs.declared.cells.Cell.{Cell}
-use Rattle.lay_grid.specs.Places.{areas_of, right_edge, HasRoom, StandsLeft, StandAfter}
+use Rattle.lay_grid.specs.Places.{areas_of, right_edge, HasRoomForArea, StandsLeft, StandAfter}
 use Rattle.lay_grid.specs.Slots.{columns_of}
 use Rattle.lay_grid.specs.Within.{columns_spanned, ColumnsAreWithin}
 
@@ -13,7 +13,7 @@ member_below (x ∷ cells) zero cell at = let e = ap right_edge (same_Some x cel
 member_below (x ∷ cells) (suc i) cell at = let h = member_below cells i cell at in omega (arith, h)
 
 -- right of all earlier cells there is room
-pub room_behind_all : (earlier : List Cell) (area : Area) → HasRoom earlier area (columns_of earlier)
+pub room_behind_all : (earlier : List Cell) (area : Area) → HasRoomForArea earlier area (columns_of earlier)
 room_behind_all earlier area = record {
   right_of_its_row = λ i cell at same. member_below earlier i cell at;
   all_free = λ r c covers i cell at other.

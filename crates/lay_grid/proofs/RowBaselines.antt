@@ -11,7 +11,7 @@ use Rattle.lay_grid.specs.Heights.{HasBaseline, IsRowBaseline}
 use Rattle.lay_grid.specs.Lengths.{MayBePosition}
 use Rattle.lay_grid.specs.RowBaselines.{AreRowBaselines, IsBaselineOf}
 use Rattle.lay_grid.specs.Laws.{OneRowBaselines}
-use Rattle.lay_grid.specs.Pass.Baselines.{lower_of, BaselineTo, BaselinesTo}
+use Rattle.lay_grid.specs.Pass.Baselines.{lower_baseline, BaselineTo, BaselinesTo}
 
 first : (a b : ℤ) → a ≤ℤ int_max a b
 first a b = omega (arith, ints, clamps)
@@ -31,7 +31,7 @@ up a b v p q = omega (arith, ints, p, q)
 -- a cell of the row
 here : (cells : List RowCell) (row n : ℕ) (d : RowCell) (found o : Option Unit) → n < length cells → (get_or cells n d).row ≡ row
     → (get_or cells n d).baseline ≡ o
-    → BaselineTo cells row n found → BaselineTo cells row (n + 1) (lower_of found o)
+    → BaselineTo cells row n found → BaselineTo cells row (n + 1) (lower_baseline found o)
 here cells row n d found o lt same is old = from found o is old
   where
     new : (p : Option Unit) → (get_or cells n d).baseline ≡ p → (cell : RowCell) → slice_get cells n ≡ Some cell → p ≡ cell.baseline
@@ -40,7 +40,7 @@ here cells row n d found o lt same is old = from found o is old
     has : (b : Unit) → (get_or cells n d).baseline ≡ Some b → HasBaseline cells row b.0
     has b e = (n, get_or cells n d, slice_get-get_or cells n d lt, same, e)
 
-    from : (f p : Option Unit) → (get_or cells n d).baseline ≡ p → BaselineTo cells row n f → BaselineTo cells row (n + 1) (lower_of f p)
+    from : (f p : Option Unit) → (get_or cells n d).baseline ≡ p → BaselineTo cells row n f → BaselineTo cells row (n + 1) (lower_baseline f p)
     from None None e old = below_more _ n old (λ cell at of. sym (new None e cell at))
     from None (Some b) e old = (
       has b e,
@@ -74,7 +74,7 @@ none_yet cells row k less = absurd (omega (arith, less))
 
 -- one more cell, in all rows
 pub baselines_more : (cells : List RowCell) (n rows : ℕ) (d : RowCell) (old new : List (Option Unit)) → BaselinesTo cells n rows old → n < length cells
-    → get_or new (get_or cells n d).row None ≡ lower_of (get_or old (get_or cells n d).row None) (get_or cells n d).baseline
+    → get_or new (get_or cells n d).row None ≡ lower_baseline (get_or old (get_or cells n d).row None) (get_or cells n d).baseline
     → ((k : ℕ) → (k ≡ (get_or cells n d).row → ⊥) → get_or new k None ≡ get_or old k None)
     → length new ≡ length old → All MayBePosition new → BaselinesTo cells (n + 1) rows new
 baselines_more cells n rows d old new to lt at others same fits = record {
@@ -88,7 +88,7 @@ baselines_more cells n rows d old new to lt at others same fits = record {
         (there cells row n d _ other (to.each row less))
     from row less (inl e) =
         subst (λ (o : Option Unit). BaselineTo cells row (n + 1) o)
-        (sym (subst (λ (m : ℕ). get_or new m None ≡ lower_of (get_or old m None) (get_or cells n d).baseline) e at))
+        (sym (subst (λ (m : ℕ). get_or new m None ≡ lower_baseline (get_or old m None) (get_or cells n d).baseline) e at))
         (here cells row n d _ _ lt e refl (to.each row less))
 
 -- the baseline of a row of which all cells are known
@@ -116,9 +116,9 @@ baseline_exists cells row (suc n) less = next (baseline_exists cells row n (omeg
     next : ((o : Option Unit) × BaselineTo cells row n o) → (((get_or cells n default).row ≡ row) ⊎ ((get_or cells n default).row ≡ row → ⊥))
         → (o : Option Unit) × BaselineTo cells row (suc n) o
     next (o, to) (inl e) = (
-      lower_of o (get_or cells n default).baseline,
+      lower_baseline o (get_or cells n default).baseline,
       subst
-          (λ (m : ℕ). BaselineTo cells row m (lower_of o (get_or cells n default).baseline)) (omega arith)
+          (λ (m : ℕ). BaselineTo cells row m (lower_baseline o (get_or cells n default).baseline)) (omega arith)
           (here cells row n default o _ (omega (arith, less)) e refl to),
     )
     next (o, to) (inr other) = (o, subst (λ (m : ℕ). BaselineTo cells row m o) (omega arith) (there cells row n default o other to))

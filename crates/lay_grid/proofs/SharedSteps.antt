@@ -4,7 +4,7 @@ use Rattle.std.proofs.lemmas.Int.{ints}
 use Rattle.std.proofs.lemmas.Bool.{cases_lt}
 use Rattle.std.proofs.lemmas.List.{drop_more, get_or_append_left, get_or_push}
 use Rattle.lay_units.specs.declared.length.Unit.{Unit}
-use Rattle.lay_grid.specs.Shares.{own_width, sum_own, sum_of, all_own, takes, width_at, own_at, share_at, takes_at}
+use Rattle.lay_grid.specs.Shares.{own_width, sum_own, sum_of, all_own, takes_share, width_at, own_at, share_at, takes_at}
 use Rattle.lay_grid.specs.Pass.Sharing.{SharedTo, count_takers}
 
 some_without : (all : Bool) (owns : List (Option Unit)) → all_own owns ≡ false → 0 < count_takers all owns
@@ -37,9 +37,9 @@ length_push (v ∷ widths) w = let h = length_push widths w in omega (arith, h)
 
 -- what a step does with a column
 pub record Step (all : Bool) (own : Option Unit) (each more after : ℕ) (w : Unit) : Type 0 where
-  pub kept : takes all own ≡ false → (w.0 ≡ own_width own) × (after ≡ more)
-  pub greater : takes all own ≡ true → 0 < more → (w.0 ≡ (own_width own +ℤ pos (each + 1))) × (after + 1 ≡ more)
-  pub lesser : takes all own ≡ true → more ≡ 0 → (w.0 ≡ (own_width own +ℤ pos each)) × (after ≡ 0)
+  pub kept : takes_share all own ≡ false → (w.0 ≡ own_width own) × (after ≡ more)
+  pub greater : takes_share all own ≡ true → 0 < more → (w.0 ≡ (own_width own +ℤ pos (each + 1))) × (after + 1 ≡ more)
+  pub lesser : takes_share all own ≡ true → more ≡ 0 → (w.0 ≡ (own_width own +ℤ pos each)) × (after ≡ 0)
 
 abbrev pub Kind : Bool → ℕ → Type 0
 Kind t more = (t ≡ false) ⊎ (((t ≡ true) × (0 < more)) ⊎ ((t ≡ true) × (more ≡ 0)))

@@ -7,12 +7,12 @@ use Rattle.std.proofs.Math.Nat.{zero-mul}
 use Rattle.lay_units.specs.declared.length.Unit.{Unit}
 use Rattle.lay_units.specs.Units.{IsPosition}
 use Rattle.lay_grid.specs.Lengths.{ArePositions}
-use Rattle.lay_grid.specs.Shares.{AreShared, own_width, sum_own, sum_of, all_own, takes, own_at, takes_at}
+use Rattle.lay_grid.specs.Shares.{AreShared, own_width, sum_own, sum_of, all_own, takes_share, own_at, takes_at}
 use Rattle.lay_grid.specs.Pass.Sharing.{SharedTo, count_takers}
 use Rattle.lay_grid.proofs.SharedSteps.{Step, Kind, kind, shared_more, length_push}
 
 -- a column takes a step
-step_exists : (all : Bool) (own : Option Unit) (each more : ℕ) → Kind (takes all own) more → (w : Unit) × (after : ℕ) × Step all own each more after w
+step_exists : (all : Bool) (own : Option Unit) (each more : ℕ) → Kind (takes_share all own) more → (w : Unit) × (after : ℕ) × Step all own each more after w
 step_exists all own each more (inl t) = (
   record { 0 = own_width own },
   more,

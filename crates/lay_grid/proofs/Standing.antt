@@ -3,7 +3,7 @@ use Rattle.std.proofs.Common.{◌≡◌, ◌⊎◌, inl, inr, ℕ, ◌+◌, ◌<
 use Rattle.std.proofs.lemmas.Bool.{cases_lt}
 use Rattle.lay_grid.specs.declared.cells.Area.{Area}
 use Rattle.lay_grid.specs.declared.cells.Cell.{Cell}
-use Rattle.lay_grid.specs.Places.{areas_of, OneOf, Covers, HasRoom, StandsLeft, StandAfter, right_edge}
+use Rattle.lay_grid.specs.Places.{areas_of, SomeCell, Covers, HasRoomForArea, StandsLeft, StandAfter, right_edge}
 use Rattle.lay_grid.specs.Pass.Known.{Known, IsCovered, AreFree, Occupied}
 use Rattle.lay_grid.proofs.Places.{one_more, old_place, last_place}
 
@@ -36,12 +36,12 @@ stands cells busy area next left k some fits = record {
   least = λ column room. fits.least column (after_next column room k.reached) (free_there column room);
 }
   where
-    after_next : (column : ℕ) → HasRoom cells area column
-        → ((next ≡ 0) ⊎ OneOf cells (λ cell. (cell.area.row ≡ area.row) × (right_edge cell ≡ next))) → next ≤ column
+    after_next : (column : ℕ) → HasRoomForArea cells area column
+        → ((next ≡ 0) ⊎ SomeCell cells (λ cell. (cell.area.row ≡ area.row) × (right_edge cell ≡ next))) → next ≤ column
     after_next column room (inl e) = omega (arith, e)
     after_next column room (inr w) = let r = room.right_of_its_row w.0 w.1 w.2 w.3.0 in let e = w.3.1 in omega (arith, r, e)
 
-    free_there : (column : ℕ) → HasRoom cells area column → AreFree busy area.row area.columns column
+    free_there : (column : ℕ) → HasRoomForArea cells area column → AreFree busy area.row area.columns column
     free_there column room c ge lt = elim (cases_lt area.row (get_or busy c 0)) [
       | inl busy_there ↦ (
           let w = k.covered area.row c (omega arith) busy_there in

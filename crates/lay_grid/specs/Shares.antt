@@ -30,9 +30,9 @@ all_own (None ∷ owns) = false
 all_own (Some width ∷ owns) = all_own owns
 
 -- a column takes a share where it has no width of its own, or where all have one
-abbrev pub takes : Bool → Option Unit → Bool
-takes all None = true
-takes all (Some width) = all
+abbrev pub takes_share : Bool → Option Unit → Bool
+takes_share all None = true
+takes_share all (Some width) = all
 
 -- the width of the column i, and what it takes beyond its own
 abbrev pub width_at : List Unit → ℕ → ℤ
@@ -45,7 +45,7 @@ abbrev pub share_at : List (Option Unit) → List Unit → ℕ → ℤ
 share_at owns widths i = width_at widths i -ℤ own_width (own_at owns i)
 
 abbrev pub takes_at : List (Option Unit) → ℕ → Bool
-takes_at owns i = takes (all_own owns) (own_at owns i)
+takes_at owns i = takes_share (all_own owns) (own_at owns i)
 
 -- an earlier share may be greater, by a unit
 abbrev pub AreEqualShares : ℤ → ℤ → Type 0

@@ -4,7 +4,7 @@ ghost use Rattle.std.specs.Prelude.{◌≡◌, ◌<◌, length, IfOk, All};
 ghost use Rattle.lay_grid.specs.Lengths.{MayBePosition};
 ghost use Rattle.lay_grid.specs.RowBaselines.{AreRowBaselines};
 ghost use Rattle.lay_grid.specs.RowsFit.{RowCellFits};
-ghost use Rattle.lay_grid.specs.Pass.Baselines.{BaselinesTo, Lowers, lower_of};
+ghost use Rattle.lay_grid.specs.Pass.Baselines.{BaselinesTo, Lowers, lower_baseline};
 
 use crate::heights::RowCell;
 use lay_units::{NoMemory, Unit};
@@ -39,7 +39,7 @@ fn lower_baseline(baselines: &mut Vec<Option<Unit>>, row: usize, baseline: Optio
 }
 
 fn lower(a: Option<Unit>, b: Option<Unit>) -> Option<Unit>
-    ensures { result ≡ lower_of a b }
+    ensures { result ≡ lower_baseline a b }
 {
     match (a, b) {
         (Some(a), Some(b)) => Some(Unit(a.0.max(b.0))),

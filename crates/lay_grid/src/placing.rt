@@ -4,10 +4,10 @@ ghost use Rattle.std.specs.Prelude.{◌≡◌, ◌+◌, ◌-◌, ◌<◌, ◌≤
 ghost use Rattle.std.specs.Prelude.{length, drop, IfOk, OnOk, All};
 ghost use Rattle.lay_grid.specs.declared.cells.Cell.{Cell};
 ghost use Rattle.lay_grid.specs.declared.cells.Span.{Span};
-ghost use Rattle.lay_grid.specs.Areas.{area_of, areas_from, rows_left};
+ghost use Rattle.lay_grid.specs.Areas.{area_of_span, areas_from, rows_left};
 ghost use Rattle.lay_grid.specs.Places.{StandAfter, areas_of};
 ghost use Rattle.lay_grid.specs.Slots.{SpanRows};
-ghost use Rattle.lay_grid.specs.Pass.Known.{AddsAreas, AddsRow, Known};
+ghost use Rattle.lay_grid.specs.Pass.Known.{AddsAreas, AddsRowCells, Known};
 
 use crate::cells::{Area, Cell, RowSpec, Span};
 use crate::scan::{free_left, occupy};
@@ -67,7 +67,7 @@ fn place_row(
     requires spans { All (λ (span : Span). 1 ≤ span.rows) spans.now }
     requires known { Known cells.old.items busy.old.items row 0 }
     ensures known { OnOk result (Known cells.new.items busy.new.items (row + 1) 0) }
-    ensures areas { OnOk result (AddsRow cells.old.items cells.new.items row end spans.now) }
+    ensures areas { OnOk result (AddsRowCells cells.old.items cells.new.items row end spans.now) }
 {
     let mut next = 0;
     for span in spans {
@@ -79,7 +79,7 @@ fn place_row(
 fn area_in(span: Span, row: usize, end: usize) -> Area
     requires order { row < end }
     requires span { 1 ≤ span.rows }
-    ensures value { result ≡ area_of row (end - row) span }
+    ensures value { result ≡ area_of_span row (end - row) span }
     ensures covers { result.row < result.end }
 {
     Area {

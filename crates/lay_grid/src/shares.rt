@@ -6,7 +6,7 @@ ghost use Rattle.std.specs.Int.{int_max};
 ghost use Rattle.lay_units.specs.declared.length.Unit.{Unit};
 ghost use Rattle.lay_units.specs.Units.{IsPosition, IsWithinPower};
 ghost use Rattle.lay_grid.specs.Lengths.{ArePositions, MayBePosition};
-ghost use Rattle.lay_grid.specs.Shares.{AreShared, all_own, own_width, sum_own, takes};
+ghost use Rattle.lay_grid.specs.Shares.{AreShared, all_own, own_width, sum_own, takes_share};
 ghost use Rattle.lay_grid.specs.Pass.Sharing.{count_takers};
 
 use lay_units::{NoMemory, Unit, UnitList};
@@ -89,7 +89,7 @@ fn takers_of(owns: &[Option<Unit>], all: bool) -> u128
 }
 
 fn takes_share(own: Option<Unit>, all: bool) -> bool
-    ensures { result ≡ takes all own }
+    ensures { result ≡ takes_share all own }
 {
     match own {
         Some(_) => all,
@@ -101,9 +101,9 @@ fn takes_share(own: Option<Unit>, all: bool) -> bool
 fn widened(own: Option<Unit>, all: bool, each: u128, more: u128) -> i128
     requires own { MayBePosition own }
     requires each { each < 2 ^ 100 }
-    ensures kept { takes all own ≡ false → result ≡ own_width own }
-    ensures greater { takes all own ≡ true → 0 < more → result ≡ (own_width own +ℤ pos (each + 1)) }
-    ensures lesser { takes all own ≡ true → more ≡ 0 → result ≡ (own_width own +ℤ pos each) }
+    ensures kept { takes_share all own ≡ false → result ≡ own_width own }
+    ensures greater { takes_share all own ≡ true → 0 < more → result ≡ (own_width own +ℤ pos (each + 1)) }
+    ensures lesser { takes_share all own ≡ true → more ≡ 0 → result ≡ (own_width own +ℤ pos each) }
 {
     let width = i128::from(width_of(own));
     if !takes_share(own, all) {
@@ -116,9 +116,9 @@ fn widened(own: Option<Unit>, all: bool, each: u128, more: u128) -> i128
 }
 
 fn left_over(own: Option<Unit>, all: bool, more: u128) -> u128
-    ensures kept { takes all own ≡ false → result ≡ more }
-    ensures less { takes all own ≡ true → 0 < more → result + 1 ≡ more }
-    ensures none { takes all own ≡ true → more ≡ 0 → result ≡ 0 }
+    ensures kept { takes_share all own ≡ false → result ≡ more }
+    ensures less { takes_share all own ≡ true → 0 < more → result + 1 ≡ more }
+    ensures none { takes_share all own ≡ true → more ≡ 0 → result ≡ 0 }
 {
     if takes_share(own, all) {
         more.saturating_sub(1)

@@ -12,7 +12,7 @@ use Rattle.lay_style.specs.declared.style.Style.{Style}
 use Rattle.lay_style.specs.ComputedStyle.{style_at}
 use Rattle.lay_hit.specs.declared.kinds.PaintKind.{PaintKind}
 use Rattle.lay_hit.specs.declared.kinds.PaintKind.TheVariants.{Stacking, Layered, Float, Atomic, Block, Inline}
-use Rattle.lay_hit.specs.PaintKinds.{is_stacking, forms_group, kind_at, level_of}
+use Rattle.lay_hit.specs.PaintKinds.{is_stacking, forms_group, kind_at, stacking_level_of}
 use Rattle.lay_hit.specs.Hits.{holds, hit_of}
 use Rattle.lay_hit.specs.Sorting.{in_order}
 use Rattle.lay_hit.specs.Pages.{Page, page_of}
@@ -21,7 +21,7 @@ use Rattle.lay_hit.specs.Ranks.{painter_at}
 use Rattle.lay_hit.specs.Wholes.{own_pieces, is_painted_under, painted_by, whole}
 use Rattle.lay_hit.specs.OrderedPages.{IsOrdered}
 use Rattle.lay_hit.specs.Questions.{AreNoted, page, seen_in}
-use Rattle.lay_hit.specs.Fronts.{IsFrontmost, front_from, later_of, greatest}
+use Rattle.lay_hit.specs.Fronts.{IsFrontmost, front_from, later_of, last_in_order}
 use Rattle.lay_hit.proofs.Orders.{lastly, last-lastly, lastly-append, lastly-counts, lastly-flat_map}
 use Rattle.lay_hit.proofs.Rising.{all-in_order, all-lastly, lastly-in_order}
 use Rattle.lay_hit.proofs.RankOrder.{rank_order}
@@ -31,7 +31,7 @@ use Rattle.lay_hit.proofs.Asked.{parent_before_in}
 use Rattle.lay_hit.proofs.PaintedBy.{all-passing, all-range, painter-before}
 use Rattle.lay_hit.proofs.WholePaint.{paint-whole, whole_is}
 
-level_flat : (k : PaintKind) (s : Style) → is_stacking k ≡ false → level_of k s ≡ pos 0
+level_flat : (k : PaintKind) (s : Style) → is_stacking k ≡ false → stacking_level_of k s ≡ pos 0
 level_flat Stacking s e = absurd cc
 level_flat Layered s e = refl
 level_flat Float s e = refl
@@ -68,12 +68,12 @@ module _ (p : Page) (o : IsOrdered p) (h : Frag → Bool) where
   mine_from n g = filter (λ k. painter_at p k == g) (range_with_len n (p.count - n))
 
   abbrev pub best : List ℕ → Option ℕ
-  best ks = greatest (is_painted_under p) has ks
+  best ks = last_in_order (is_painted_under p) has ks
 
   abbrev pub front : ℕ → ℕ → ℕ
   front n g = unwrap_or (best (mine_from n g)) 0
 
-  split_found : (g : ℕ) → g < p.count → lastly h (whole p p.count g) ≡ option_or (option_and_then (λ k. lastly h (whole p p.count k)) (greatest (is_painted_under p) (λ k. is_some (lastly h (whole p p.count k))) (mine_from 1 g))) (lastly h (own_pieces p g))
+  split_found : (g : ℕ) → g < p.count → lastly h (whole p p.count g) ≡ option_or (option_and_then (λ k. lastly h (whole p p.count k)) (last_in_order (is_painted_under p) (λ k. is_some (lastly h (whole p p.count k))) (mine_from 1 g))) (lastly h (own_pieces p g))
   split_found g within =
       ap (lastly h) (whole_is p o g within) ∙ lastly-append h (own_pieces p g) (flat_map (whole p p.count) (painted_by p g))
       ∙ ap (λ (r : Option Frag). option_or r (lastly h (own_pieces p g))) (lastly-flat_map h (whole p p.count) (painted_by p g)
@@ -84,8 +84,8 @@ module _ (p : Page) (o : IsOrdered p) (h : Frag → Bool) where
 
   seen-split : (g : ℕ) → g < p.count → seen g ≡ option_or (option_and_then seen (best (mine_from 1 g))) (own g)
   seen-split g within =
-      subst (λ (f : ℕ → Option Frag). f g ≡ option_or (option_and_then f (greatest (is_painted_under p) (λ k. is_some (f k)) (mine_from 1 g))) (own g)) same_found
-      (split_found g within ∙ ap (option_or (option_and_then (λ k. lastly h (whole p p.count k)) (greatest (is_painted_under p) (λ k. is_some (lastly h (whole p p.count k))) (mine_from 1 g)))) (sym (last-lastly h (own_pieces p g))))
+      subst (λ (f : ℕ → Option Frag). f g ≡ option_or (option_and_then f (last_in_order (is_painted_under p) (λ k. is_some (f k)) (mine_from 1 g))) (own g)) same_found
+      (split_found g within ∙ ap (option_or (option_and_then (λ k. lastly h (whole p p.count k)) (last_in_order (is_painted_under p) (λ k. is_some (lastly h (whole p p.count k))) (mine_from 1 g)))) (sym (last-lastly h (own_pieces p g))))
 
   -- the frontmost of some nodes is one of them, and has a piece that is seen
   best-has : (ks : List ℕ) (m : ℕ) → best ks ≡ Some m → has m ≡ true

@@ -14,13 +14,13 @@ use Rattle.lay_frag.specs.declared.frag.FragKind.TheVariants as frag_kind
 use Rattle.lay_hit.proofs.Cited.{take_one_more}
 use Rattle.lay_hit.specs.declared.question.Question.{Question}
 use Rattle.lay_hit.specs.declared.kinds.PaintKind.{PaintKind}
-use Rattle.lay_hit.specs.PaintKinds.{is_inline, kind_at}
+use Rattle.lay_hit.specs.PaintKinds.{is_inline_paint, kind_at}
 use Rattle.lay_hit.specs.Hits.{holds, last_holding}
 use Rattle.lay_hit.specs.Sorting.{in_order}
-use Rattle.lay_hit.specs.Pages.{is_box, is_box_or_text, is_box_of, is_box_or_text_of, id_of}
+use Rattle.lay_hit.specs.Pages.{is_box_piece, is_box_or_text, is_box_of, is_box_or_text_of, id_of}
 use Rattle.lay_hit.specs.Questions.{AreNoted, is_painted, node_of_piece, page_with}
 use Rattle.lay_hit.specs.Wholes.{own_pieces}
-use Rattle.lay_hit.specs.Fronts.{later_of, later_piece, greatest}
+use Rattle.lay_hit.specs.Fronts.{later_of, later_piece, last_in_order}
 use Rattle.lay_hit.proofs.Orders.{lastly, last-lastly}
 use Rattle.lay_hit.proofs.Rising.{IsOrder, lastly-in_order, greatest-push}
 
@@ -35,7 +35,7 @@ part_order = record {
 
 -- which pieces are painted of the node at k itself
 abbrev pub is_own : Question → ℕ → Frag → Bool
-is_own q k f = if is_inline (kind_at q.doc.now.nodes q.styles.now k) then is_box_or_text_of (id_of q.doc.now.nodes k) f else is_box_of (id_of q.doc.now.nodes k) f
+is_own q k f = if is_inline_paint (kind_at q.doc.now.nodes q.styles.now k) then is_box_or_text_of (id_of q.doc.now.nodes k) f else is_box_of (id_of q.doc.now.nodes k) f
 
 abbrev pub at_point : Question → Frag → Bool
 at_point q f = holds q.at.x.0 q.at.y.0 f
@@ -44,11 +44,11 @@ abbrev pub own_list : Question → ℕ → List Frag → List Frag
 own_list q k fs = filter (is_own q k) fs
 
 -- the last of a node's own pieces is the one of the greatest part
-pub own_greatest : (q : Question) (k : ℕ) (fs : List Frag) → last_holding q.at.x.0 q.at.y.0 (own_pieces (page_with q fs) k) ≡ greatest part_le (at_point q) (own_list q k fs)
-own_greatest q k fs = last-lastly (at_point q) (own_pieces (page_with q fs) k) ∙ by_kind (is_inline (kind_at q.doc.now.nodes q.styles.now k))
+pub own_greatest : (q : Question) (k : ℕ) (fs : List Frag) → last_holding q.at.x.0 q.at.y.0 (own_pieces (page_with q fs) k) ≡ last_in_order part_le (at_point q) (own_list q k fs)
+own_greatest q k fs = last-lastly (at_point q) (own_pieces (page_with q fs) k) ∙ by_kind (is_inline_paint (kind_at q.doc.now.nodes q.styles.now k))
   where
     by_kind : (b : Bool) → lastly (at_point q) (if b then in_order part_le (filter (is_box_or_text_of (id_of q.doc.now.nodes k)) fs) else in_order part_le (filter (is_box_of (id_of q.doc.now.nodes k)) fs))
-        ≡ greatest part_le (at_point q) (filter (λ f. if b then is_box_or_text_of (id_of q.doc.now.nodes k) f else is_box_of (id_of q.doc.now.nodes k) f) fs)
+        ≡ last_in_order part_le (at_point q) (filter (λ f. if b then is_box_or_text_of (id_of q.doc.now.nodes k) f else is_box_of (id_of q.doc.now.nodes k) f) fs)
     by_kind true = lastly-in_order part_le part_order (at_point q) (filter (is_box_or_text_of (id_of q.doc.now.nodes k)) fs)
     by_kind false = lastly-in_order part_le part_order (at_point q) (filter (is_box_of (id_of q.doc.now.nodes k)) fs)
 
@@ -61,29 +61,29 @@ filter-push {X} p (y ∷ ys) x = by_test (filter-push p ys x) (p y)
     by_test rest false = rest
 
 -- one piece more, which isn't the node's own or doesn't hold the point
-pub unchanged : (q : Question) (k : ℕ) (fs : List Frag) (f : Frag) → is_own q k f ≡ false → greatest part_le (at_point q) (own_list q k (fs ++ f ∷ [])) ≡ greatest part_le (at_point q) (own_list q k fs)
-unchanged q k fs f other = ap (greatest part_le (at_point q)) (filter-push (is_own q k) fs f ∙ ap (λ (b : Bool). own_list q k fs ++ cond b (f ∷ []) []) other ∙ append-nil (own_list q k fs))
+pub unchanged : (q : Question) (k : ℕ) (fs : List Frag) (f : Frag) → is_own q k f ≡ false → last_in_order part_le (at_point q) (own_list q k (fs ++ f ∷ [])) ≡ last_in_order part_le (at_point q) (own_list q k fs)
+unchanged q k fs f other = ap (last_in_order part_le (at_point q)) (filter-push (is_own q k) fs f ∙ ap (λ (b : Bool). own_list q k fs ++ cond b (f ∷ []) []) other ∙ append-nil (own_list q k fs))
 
 later-none' : (a : Option Frag) → later_of part_le a None ≡ a
 later-none' None = refl
 later-none' (Some x) = refl
 
-pub missed : (q : Question) (k : ℕ) (fs : List Frag) (f : Frag) → at_point q f ≡ false → greatest part_le (at_point q) (own_list q k (fs ++ f ∷ [])) ≡ greatest part_le (at_point q) (own_list q k fs)
+pub missed : (q : Question) (k : ℕ) (fs : List Frag) (f : Frag) → at_point q f ≡ false → last_in_order part_le (at_point q) (own_list q k (fs ++ f ∷ [])) ≡ last_in_order part_le (at_point q) (own_list q k fs)
 missed q k fs f off = by_test (is_own q k f) refl
   where
-    by_test : (b : Bool) → is_own q k f ≡ b → greatest part_le (at_point q) (own_list q k (fs ++ f ∷ [])) ≡ greatest part_le (at_point q) (own_list q k fs)
+    by_test : (b : Bool) → is_own q k f ≡ b → last_in_order part_le (at_point q) (own_list q k (fs ++ f ∷ [])) ≡ last_in_order part_le (at_point q) (own_list q k fs)
     by_test false is = unchanged q k fs f is
     by_test true is =
-        ap (greatest part_le (at_point q)) (filter-push (is_own q k) fs f ∙ ap (λ (b : Bool). own_list q k fs ++ cond b (f ∷ []) []) is)
-        ∙ greatest-push part_le part_order (at_point q) (own_list q k fs) f ∙ ap (λ (b : Bool). later_of part_le (greatest part_le (at_point q) (own_list q k fs)) (cond b (Some f) None)) off
-        ∙ later-none' (greatest part_le (at_point q) (own_list q k fs))
+        ap (last_in_order part_le (at_point q)) (filter-push (is_own q k) fs f ∙ ap (λ (b : Bool). own_list q k fs ++ cond b (f ∷ []) []) is)
+        ∙ greatest-push part_le part_order (at_point q) (own_list q k fs) f ∙ ap (λ (b : Bool). later_of part_le (last_in_order part_le (at_point q) (own_list q k fs)) (cond b (Some f) None)) off
+        ∙ later-none' (last_in_order part_le (at_point q) (own_list q k fs))
 
 -- and one that is and does
-pub replaced : (q : Question) (k : ℕ) (fs : List Frag) (f : Frag) → is_own q k f ≡ true → at_point q f ≡ true → greatest part_le (at_point q) (own_list q k (fs ++ f ∷ [])) ≡ Some (later_piece (greatest part_le (at_point q) (own_list q k fs)) f)
+pub replaced : (q : Question) (k : ℕ) (fs : List Frag) (f : Frag) → is_own q k f ≡ true → at_point q f ≡ true → last_in_order part_le (at_point q) (own_list q k (fs ++ f ∷ [])) ≡ Some (later_piece (last_in_order part_le (at_point q) (own_list q k fs)) f)
 replaced q k fs f own on =
-    ap (greatest part_le (at_point q)) (filter-push (is_own q k) fs f ∙ ap (λ (b : Bool). own_list q k fs ++ cond b (f ∷ []) []) own)
-    ∙ greatest-push part_le part_order (at_point q) (own_list q k fs) f ∙ ap (λ (b : Bool). later_of part_le (greatest part_le (at_point q) (own_list q k fs)) (cond b (Some f) None)) on
-    ∙ later (greatest part_le (at_point q) (own_list q k fs))
+    ap (last_in_order part_le (at_point q)) (filter-push (is_own q k) fs f ∙ ap (λ (b : Bool). own_list q k fs ++ cond b (f ∷ []) []) own)
+    ∙ greatest-push part_le part_order (at_point q) (own_list q k fs) f ∙ ap (λ (b : Bool). later_of part_le (last_in_order part_le (at_point q) (own_list q k fs)) (cond b (Some f) None)) on
+    ∙ later (last_in_order part_le (at_point q) (own_list q k fs))
   where
     later : (a : Option Frag) → later_of part_le a (Some f) ≡ Some (later_piece a f)
     later None = refl
@@ -94,18 +94,18 @@ replaced q k fs f own on =
         by_test false = refl
 
 -- a piece is a node's own just where it is painted with it
-pub painted_of : (kind : FragKind) (k : PaintKind) (same : Bool) → (if is_inline k then is_box_or_text kind && same else is_box kind && same) ≡ is_painted kind k && same
-painted_of frag_kind.Box k same = by_test (is_inline k)
+pub painted_of : (kind : FragKind) (k : PaintKind) (same : Bool) → (if is_inline_paint k then is_box_or_text kind && same else is_box_piece kind && same) ≡ is_painted kind k && same
+painted_of frag_kind.Box k same = by_test (is_inline_paint k)
   where
     by_test : (b : Bool) → (if b then same else same) ≡ same
     by_test true = refl
     by_test false = refl
-painted_of frag_kind.Line k same = by_test (is_inline k)
+painted_of frag_kind.Line k same = by_test (is_inline_paint k)
   where
     by_test : (b : Bool) → (if b then false else false) ≡ false
     by_test true = refl
     by_test false = refl
-painted_of frag_kind.Text k same = by_test (is_inline k)
+painted_of frag_kind.Text k same = by_test (is_inline_paint k)
   where
     by_test : (b : Bool) → (if b then same else false) ≡ b && same
     by_test true = refl
@@ -227,7 +227,7 @@ module _ (q : Question) (is : IsDocument q.doc.now) (f : Frag) where
 
 -- So what is noted stays true with one piece more.
 module _ (q : Question) (fs : List Frag) (f : Frag) (noted : List (Option Frag)) (before : AreNoted q fs noted) where
-  kept : (k : ℕ) → k < length q.doc.now.nodes → greatest part_le (at_point q) (own_list q k (fs ++ f ∷ [])) ≡ greatest part_le (at_point q) (own_list q k fs)
+  kept : (k : ℕ) → k < length q.doc.now.nodes → last_in_order part_le (at_point q) (own_list q k (fs ++ f ∷ [])) ≡ last_in_order part_le (at_point q) (own_list q k fs)
       → slice_index_or noted k None ≡ last_holding q.at.x.0 q.at.y.0 (own_pieces (page_with q (fs ++ f ∷ [])) k)
   kept k low e = before.each k low ∙ own_greatest q k fs ∙ sym e ∙ sym (own_greatest q k (fs ++ f ∷ []))
 

@@ -5,7 +5,7 @@ use Rattle.std.proofs.lemmas.Bool.{leb-true, and_parts}
 use Rattle.std.proofs.lemmas.Bool.Decides.{nat_tests}
 use Rattle.lay_hit.specs.declared.kinds.PaintKind.{PaintKind}
 use Rattle.lay_hit.specs.declared.kinds.PaintKind.TheVariants.{Stacking, Layered, Float, Atomic, Block, Inline}
-use Rattle.lay_hit.specs.PaintKinds.{is_stacking, is_layered, is_float, is_atomic, is_block, is_inline, forms_group}
+use Rattle.lay_hit.specs.PaintKinds.{is_stacking, is_layered, is_float_paint, is_atomic_paint, is_block_paint, is_inline_paint, forms_group}
 use Rattle.lay_hit.specs.Ranks.{is_of_owner, step_of}
 
 leb-not : (a b : ℕ) → nat_le a b ≡ not (nat_lt b a)
@@ -102,7 +102,7 @@ module _ (l : ℤ) (ow gr g : ℕ) where
       by_test false true = ap (λ (x : Bool). e && x) seven ∙ and_none e
       by_test false false = ap (λ (x : Bool). e && x) six ∙ and_none e
 
-  pub block_test : (k : PaintKind) → painted k 3 ≡ (is_block k && (gr == g))
+  pub block_test : (k : PaintKind) → painted k 3 ≡ (is_block_paint k && (gr == g))
   block_test Stacking = stacking_step (ow == g) 3 refl refl refl
   block_test Layered = and_none (ow == g)
   block_test Float = and_none (gr == g)
@@ -110,7 +110,7 @@ module _ (l : ℤ) (ow gr g : ℕ) where
   block_test Block = and_all (gr == g)
   block_test Inline = and_none (gr == g)
 
-  pub float_test : (k : PaintKind) → painted k 4 ≡ (is_float k && (gr == g))
+  pub float_test : (k : PaintKind) → painted k 4 ≡ (is_float_paint k && (gr == g))
   float_test Stacking = stacking_step (ow == g) 4 refl refl refl
   float_test Layered = and_none (ow == g)
   float_test Float = and_all (gr == g)
@@ -118,7 +118,7 @@ module _ (l : ℤ) (ow gr g : ℕ) where
   float_test Block = and_none (gr == g)
   float_test Inline = and_none (gr == g)
 
-  pub inline_test : (k : PaintKind) → painted k 5 ≡ ((is_inline k || is_atomic k) && (gr == g))
+  pub inline_test : (k : PaintKind) → painted k 5 ≡ ((is_inline_paint k || is_atomic_paint k) && (gr == g))
   inline_test Stacking = stacking_step (ow == g) 5 refl refl refl
   inline_test Layered = and_none (ow == g)
   inline_test Float = and_none (gr == g)

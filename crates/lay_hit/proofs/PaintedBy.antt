@@ -6,7 +6,7 @@ use Rattle.std.proofs.lemmas.Bool.{and_parts}
 use Rattle.std.proofs.lemmas.List.Elements.{filter_agree}
 use Rattle.lay_hit.specs.declared.kinds.PaintKind.{PaintKind}
 use Rattle.lay_hit.specs.declared.kinds.PaintKind.TheVariants.{Stacking, Layered, Float, Atomic, Block, Inline}
-use Rattle.lay_hit.specs.PaintKinds.{is_stacking, is_layered, is_float, is_atomic, is_block, is_inline, forms_group}
+use Rattle.lay_hit.specs.PaintKinds.{is_stacking, is_layered, is_float_paint, is_atomic_paint, is_block_paint, is_inline_paint, forms_group}
 use Rattle.lay_hit.specs.Sorting.{put_in_order, in_order}
 use Rattle.lay_hit.specs.Pages.{Page}
 use Rattle.lay_hit.specs.Painting.{group, owner, others, by_level, is_negative_of, is_block_of, is_float_of, is_inline_of, is_level_zero, is_zero_of, is_positive_of}
@@ -103,7 +103,7 @@ module _ (p : Page) (o : IsOrdered p) where
       → in_order levels (filter (in_step step levels n) (mine g)) ≡ filter test (others p)
   plain_step test n g same flat = ap (in_order levels) (step-nodes test n g same) ∙ one_level (filter test (others p)) (all-filter (λ k. p.level k ≡ pos 0) test flat (others p))
 
-  block_flat : (x : PaintKind) → is_block x ≡ true → is_stacking x ≡ false
+  block_flat : (x : PaintKind) → is_block_paint x ≡ true → is_stacking x ≡ false
   block_flat Block e = refl
   block_flat Stacking e = absurd cc
   block_flat Layered e = refl
@@ -111,7 +111,7 @@ module _ (p : Page) (o : IsOrdered p) where
   block_flat Atomic e = refl
   block_flat Inline e = refl
 
-  float_flat : (x : PaintKind) → is_float x ≡ true → is_stacking x ≡ false
+  float_flat : (x : PaintKind) → is_float_paint x ≡ true → is_stacking x ≡ false
   float_flat Block e = refl
   float_flat Stacking e = absurd cc
   float_flat Layered e = refl
@@ -119,7 +119,7 @@ module _ (p : Page) (o : IsOrdered p) where
   float_flat Atomic e = refl
   float_flat Inline e = refl
 
-  inline_flat : (x : PaintKind) → (is_inline x || is_atomic x) ≡ true → is_stacking x ≡ false
+  inline_flat : (x : PaintKind) → (is_inline_paint x || is_atomic_paint x) ≡ true → is_stacking x ≡ false
   inline_flat Block e = refl
   inline_flat Stacking e = absurd cc
   inline_flat Layered e = refl
@@ -142,13 +142,13 @@ module _ (p : Page) (o : IsOrdered p) where
   positives g = ap (in_order levels) (step-nodes (is_positive_of p g) 7 g (λ k. positive_test (p.level k) (owner p k) (group p k) g (p.kind k)))
 
   pub blocks : (g : ℕ) → in_order levels (filter (in_step step levels 3) (mine g)) ≡ filter (is_block_of p g) (others p)
-  blocks g = plain_step (is_block_of p g) 3 g (λ k. block_test (p.level k) (owner p k) (group p k) g (p.kind k)) (λ k e. o.level k (block_flat (p.kind k) (and_parts (is_block (p.kind k)) (group p k == g) e).0))
+  blocks g = plain_step (is_block_of p g) 3 g (λ k. block_test (p.level k) (owner p k) (group p k) g (p.kind k)) (λ k e. o.level k (block_flat (p.kind k) (and_parts (is_block_paint (p.kind k)) (group p k == g) e).0))
 
   pub floating : (g : ℕ) → in_order levels (filter (in_step step levels 4) (mine g)) ≡ filter (is_float_of p g) (others p)
-  floating g = plain_step (is_float_of p g) 4 g (λ k. float_test (p.level k) (owner p k) (group p k) g (p.kind k)) (λ k e. o.level k (float_flat (p.kind k) (and_parts (is_float (p.kind k)) (group p k == g) e).0))
+  floating g = plain_step (is_float_of p g) 4 g (λ k. float_test (p.level k) (owner p k) (group p k) g (p.kind k)) (λ k e. o.level k (float_flat (p.kind k) (and_parts (is_float_paint (p.kind k)) (group p k == g) e).0))
 
   pub inlines : (g : ℕ) → in_order levels (filter (in_step step levels 5) (mine g)) ≡ filter (is_inline_of p g) (others p)
-  inlines g = plain_step (is_inline_of p g) 5 g (λ k. inline_test (p.level k) (owner p k) (group p k) g (p.kind k)) (λ k e. o.level k (inline_flat (p.kind k) (and_parts (is_inline (p.kind k) || is_atomic (p.kind k)) (group p k == g) e).0))
+  inlines g = plain_step (is_inline_of p g) 5 g (λ k. inline_test (p.level k) (owner p k) (group p k) g (p.kind k)) (λ k e. o.level k (inline_flat (p.kind k) (and_parts (is_inline_paint (p.kind k) || is_atomic_paint (p.kind k)) (group p k == g) e).0))
 
   pub zeros : (g : ℕ) → in_order levels (filter (in_step step levels 6) (mine g)) ≡ filter (is_zero_of p g) (others p)
   zeros g = plain_step (is_zero_of p g) 6 g (λ k. zero_test (p.level k) (owner p k) (group p k) g (p.kind k)) (λ k e. zero_flat k (p.kind k) refl (and_parts (is_level_zero p k) (owner p k == g) e).0)

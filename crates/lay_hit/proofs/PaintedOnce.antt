@@ -16,7 +16,7 @@ use Rattle.lay_frag.specs.declared.frag.FragKind.{FragKind}
 use Rattle.lay_frag.specs.declared.frag.FragKind.TheVariants as frag_kind
 use Rattle.lay_frag.specs.Pieces.{frags_of}
 use Rattle.lay_hit.specs.declared.kinds.PaintKind.{PaintKind}
-use Rattle.lay_hit.specs.PaintKinds.{is_inline, kind_at, node_kind, paint_kind}
+use Rattle.lay_hit.specs.PaintKinds.{is_inline_paint, kind_at, node_kind, paint_kind}
 use Rattle.lay_hit.specs.Pages.{Page, by_part, id_of, is_box_of, is_box_or_text, is_box_or_text_of, page_of}
 use Rattle.lay_hit.specs.Painting.{painting}
 use Rattle.lay_hit.specs.Hits.{painted}
@@ -75,7 +75,7 @@ perm_each f g [] each = IsPermutation-refl []
 perm_each f g (k ∷ ks) each = IsPermutation-append (f k) (g k) (flat_map f ks) (flat_map g ks) (each k) (perm_each f g ks each)
 
 -- a text isn't the root, and is painted inline
-text_inline : (b : Bool) (k : Kind) (s : Style) → b ≡ false → is_text k ≡ true → is_inline (paint_kind b k s) ≡ true
+text_inline : (b : Bool) (k : Kind) (s : Style) → b ≡ false → is_text k ≡ true → is_inline_paint (paint_kind b k s) ≡ true
 text_inline true k s e t = absurd cc
 text_inline false (kind.Element colspan rowspan) s e t = absurd cc
 text_inline false kind.Text s e t = refl
@@ -92,12 +92,12 @@ root_not_text (n ∷ ns) e t = never_both n.kind e t
 
 module _ (d : Document) (styles : List Style) (is : IsDocument d) where
   abbrev own_test : ℕ → Frag → Bool
-  own_test k f = if is_inline (kind_at d.nodes styles k) then is_box_or_text_of (id_of d.nodes k) f else is_box_of (id_of d.nodes k) f
+  own_test k f = if is_inline_paint (kind_at d.nodes styles k) then is_box_or_text_of (id_of d.nodes k) f else is_box_of (id_of d.nodes k) f
 
   own_is : (k : ℕ) (f : Frag) → own_test k f ≡ (is_painted f.kind (kind_at d.nodes styles k) && (f.node.0 == id_of d.nodes k))
   own_is k f = painted_of f.kind (kind_at d.nodes styles k) (f.node.0 == id_of d.nodes k)
 
-  inline_at : (k : ℕ) → is_text (node_kind d.nodes k) ≡ true → is_inline (kind_at d.nodes styles k) ≡ true
+  inline_at : (k : ℕ) → is_text (node_kind d.nodes k) ≡ true → is_inline_paint (kind_at d.nodes styles k) ≡ true
   inline_at zero t = absurd (root_not_text d.nodes is.root_element t)
   inline_at (suc k) t = text_inline (suc k == 0) (node_kind d.nodes (suc k)) (style_at styles (suc k)) (ne_eqb (suc k) 0 (λ e. omega (arith, e))) t
 
@@ -116,7 +116,7 @@ module _ (d : Document) (styles : List Style) (is : IsDocument d) where
   line_not frag_kind.Line k e = refl
   line_not frag_kind.Text k e = absurd cc
 
-  shown : (x : FragKind) (k : PaintKind) → is_box_or_text x ≡ true → (is_text_piece x ≡ true → is_inline k ≡ true) → is_painted x k ≡ true
+  shown : (x : FragKind) (k : PaintKind) → is_box_or_text x ≡ true → (is_text_piece x ≡ true → is_inline_paint k ≡ true) → is_painted x k ≡ true
   shown frag_kind.Box k e h = refl
   shown frag_kind.Line k e h = absurd cc
   shown frag_kind.Text k e h = h refl
@@ -159,7 +159,7 @@ module _ (d : Document) (styles : List Style) (is : IsDocument d) where
 
   -- a node's own pieces are those, by their parts
   own_same : (fs : List Frag) (k : ℕ) → IsPermutation (kept own_test fs k) (own_pieces (page_of d.nodes styles fs) k)
-  own_same fs k = by_kind (is_inline (kind_at d.nodes styles k))
+  own_same fs k = by_kind (is_inline_paint (kind_at d.nodes styles k))
     where
       by_kind : (b : Bool) → IsPermutation (filter (λ f. if b then is_box_or_text_of (id_of d.nodes k) f else is_box_of (id_of d.nodes k) f) fs)
           (if b then by_part (filter (is_box_or_text_of (id_of d.nodes k)) fs) else by_part (filter (is_box_of (id_of d.nodes k)) fs))

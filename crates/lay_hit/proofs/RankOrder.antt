@@ -3,7 +3,7 @@ use Rattle.std.proofs.Common.{◌≡◌, ℕ, Bool, true, false, ◌&&◌, ◌||
 use Rattle.std.specs.Prelude.{int_le, nat_lt, ◌==◌}
 use Rattle.std.proofs.lemmas.Bool.Decides.{nat_tests}
 use Rattle.lay_hit.specs.Pages.{Page}
-use Rattle.lay_hit.specs.Ranks.{rank_at}
+use Rattle.lay_hit.specs.Ranks.{paint_rank_at}
 use Rattle.lay_hit.specs.Wholes.{is_painted_under}
 use Rattle.lay_hit.proofs.Rising.{IsOrder}
 
@@ -33,6 +33,6 @@ chain a b c false t u h e f = grind (arith, nat_tests)
 
 pub rank_order : (p : Page) → IsOrder (is_painted_under p)
 rank_order p = record {
-  either = λ j k e. either (rank_at p j).step (rank_at p k).step (int_le (p.level j) (p.level k)) (int_le (p.level k) (p.level j)) (le-either (p.level j) (p.level k)) e;
-  chain = λ i j k e f. chain (rank_at p i).step (rank_at p j).step (rank_at p k).step (int_le (p.level i) (p.level j)) (int_le (p.level j) (p.level k)) (int_le (p.level i) (p.level k)) (le-chain (p.level i) (p.level j) (p.level k)) e f;
+  either = λ j k e. either (paint_rank_at p j).step (paint_rank_at p k).step (int_le (p.level j) (p.level k)) (int_le (p.level k) (p.level j)) (le-either (p.level j) (p.level k)) e;
+  chain = λ i j k e f. chain (paint_rank_at p i).step (paint_rank_at p j).step (paint_rank_at p k).step (int_le (p.level i) (p.level j)) (int_le (p.level j) (p.level k)) (int_le (p.level i) (p.level k)) (le-chain (p.level i) (p.level j) (p.level k)) e f;
 }

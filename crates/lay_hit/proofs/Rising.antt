@@ -3,7 +3,7 @@ use Rattle.std.proofs.Common.{◌≡◌, Bool, true, false, cond, List, [], ◌�
 use Rattle.std.specs.List.{AllByRecursion}
 use Rattle.std.specs.Option.{option_or}
 use Rattle.lay_hit.specs.Sorting.{put_in_order, in_order}
-use Rattle.lay_hit.specs.Fronts.{later_of, if_counts, greatest}
+use Rattle.lay_hit.specs.Fronts.{later_of, if_counts, last_in_order}
 use Rattle.lay_hit.proofs.Orders.{lastly}
 
 -- of two one stands before the other, and so do those between
@@ -98,7 +98,7 @@ module _ {X : Type 0} (le : X → X → Bool) where
         by_test rest true is = first is (lastly p (y ∷ ys)) refl
         by_test rest false is = ap (λ (r : Option X). option_or r (if_counts p y)) rest ∙ second is (lastly p ys)
 
-    pub lastly-in_order : (p : X → Bool) (xs : List X) → lastly p (in_order le xs) ≡ greatest le p xs
+    pub lastly-in_order : (p : X → Bool) (xs : List X) → lastly p (in_order le xs) ≡ last_in_order le p xs
     lastly-in_order p [] = refl
     lastly-in_order p (x ∷ xs) = lastly-put p x (in_order le xs) (rises-in_order xs) ∙ ap (later_of le (if_counts p x)) (lastly-in_order p xs)
 
@@ -120,6 +120,6 @@ module _ {X : Type 0} (le : X → X → Bool) where
         by_tests false false true xy yz xz = never (le y z) (o.chain y x z (o.either x y xy) xz) yz
         by_tests false false false xy yz xz = rw (xy, xz) refl
 
-    pub greatest-push : (p : X → Bool) (xs : List X) (x : X) → greatest le p (xs ++ x ∷ []) ≡ later_of le (greatest le p xs) (if_counts p x)
+    pub greatest-push : (p : X → Bool) (xs : List X) (x : X) → last_in_order le p (xs ++ x ∷ []) ≡ later_of le (last_in_order le p xs) (if_counts p x)
     greatest-push p [] x = later-none (if_counts p x)
-    greatest-push p (y ∷ ys) x = ap (later_of le (if_counts p y)) (greatest-push p ys x) ∙ sym (later-chain (if_counts p y) (greatest le p ys) (if_counts p x))
+    greatest-push p (y ∷ ys) x = ap (later_of le (if_counts p y)) (greatest-push p ys x) ∙ sym (later-chain (if_counts p y) (last_in_order le p ys) (if_counts p x))

@@ -11,7 +11,7 @@ use Rattle.lay_hit.specs.declared.rank.Rank.{Rank}
 use Rattle.lay_hit.specs.PaintKinds.{is_stacking, is_layered, forms_group}
 use Rattle.lay_hit.specs.Pages.{Page, page_of}
 use Rattle.lay_hit.specs.Painting.{group, owner, others}
-use Rattle.lay_hit.specs.Ranks.{is_of_owner, step_of, rank_at, is_under, painter_at}
+use Rattle.lay_hit.specs.Ranks.{is_of_owner, step_of, paint_rank_at, is_under, painter_at}
 use Rattle.lay_hit.specs.Wholes.{is_painted_under, painted_by}
 use Rattle.lay_hit.specs.OrderedPages.{IsOrdered}
 use Rattle.lay_hit.specs.Stacking.{IsIn, itself, inner, IsContextOf, IsChildContext, IsContentOf, IsBehind, IsStacked}
@@ -276,7 +276,7 @@ module _ (p : Page) (o : IsOrdered p) where
       (λ e. other (siblings g j k a first second u (subst (λ z. Under k z) (sym e) v)))
       (ahead_parts g j k a b first second other unsorted u v)
 
-  step_is : (j : ℕ) → is_stacking (p.kind j) ≡ true → (rank_at p j).step ≡ step_of Stacking (p.level j)
+  step_is : (j : ℕ) → is_stacking (p.kind j) ≡ true → (paint_rank_at p j).step ≡ step_of Stacking (p.level j)
   step_is j s = ap (λ (x : PaintKind). step_of x (p.level j)) (stacks (p.kind j) s)
 
   by_level_lem : (g j k a b : ℕ) → IsChildContext p g j → IsChildContext p g k → p.level j <ℤ p.level k → IsIn p.parent j a → IsIn p.parent k b → IsBehind order a b
@@ -291,7 +291,7 @@ module _ (p : Page) (o : IsOrdered p) where
           let rises = steps_rise (p.level j) (p.level k) less in
           let sj = step_is j first.makes in
           let sk = step_is k second.makes in
-          let not_so = later_level (rank_at p k) (rank_at p j) (omega (arith, rises, sj, sk)) less in
+          let not_so = later_level (paint_rank_at p k) (paint_rank_at p j) (omega (arith, rises, sj, sk)) less in
           true≢false (sym r.is ∙ not_so)
 
   in_document_order_lem : (g j k a b : ℕ) → IsChildContext p g j → IsChildContext p g k → p.level j ≡ p.level k → j < k → IsIn p.parent j a → IsIn p.parent k b → IsBehind order a b
@@ -302,8 +302,8 @@ module _ (p : Page) (o : IsOrdered p) where
       unsorted r =
           let sj = step_is j first.makes in
           let sk = step_is k second.makes in
-          let steps : (rank_at p j).step ≡ (rank_at p k).step = sj ∙ ap (step_of Stacking) same ∙ sym sk in
-          let t = r.tie (same_rank (rank_at p j) (rank_at p k) steps same) in
+          let steps : (paint_rank_at p j).step ≡ (paint_rank_at p k).step = sj ∙ ap (step_of Stacking) same ∙ sym sk in
+          let t = r.tie (same_rank (paint_rank_at p j) (paint_rank_at p k) steps same) in
           omega (arith, t, less)
 
   -- the node that g paints and in which content of its stacking context is painted makes none
@@ -348,7 +348,7 @@ module _ (p : Page) (o : IsOrdered p) where
           let sj = step_is j child.makes in
           let two : step_of Stacking (p.level j) ≡ 2 = negative_step (p.level j) less in
           let steps = plain_steps (p.kind q.part) (p.level q.part) q.plain in
-          let not_so = later_step (rank_at p q.part) (rank_at p j) (omega (arith, sj, two, steps.0)) in
+          let not_so = later_step (paint_rank_at p q.part) (paint_rank_at p j) (omega (arith, sj, two, steps.0)) in
           true≢false (sym r.is ∙ not_so)
 
   positive_in_front_lem : (g j k a : ℕ) → IsChildContext p g j → IsContentOf p g k → pos 0 <ℤ p.level j → IsIn p.parent j a → IsBehind order k a
@@ -361,7 +361,7 @@ module _ (p : Page) (o : IsOrdered p) where
           let sj = step_is j child.makes in
           let seven : step_of Stacking (p.level j) ≡ 7 = positive_step (p.level j) more in
           let steps = plain_steps (p.kind q.part) (p.level q.part) q.plain in
-          let not_so = later_step (rank_at p j) (rank_at p q.part) (omega (arith, sj, seven, steps.1)) in
+          let not_so = later_step (paint_rank_at p j) (paint_rank_at p q.part) (omega (arith, sj, seven, steps.1)) in
           true≢false (sym r.is ∙ not_so)
 
   context_behind_lem : (g a : ℕ) → is_stacking (p.kind g) ≡ true → g < p.count → (a ≡ g → ⊥) → IsIn p.parent g a → IsBehind order g a

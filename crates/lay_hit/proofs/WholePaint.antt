@@ -8,7 +8,7 @@ use Rattle.std.specs.List.{filter, flat_map, AllByRecursion}
 use Rattle.lay_frag.specs.declared.frag.Frag.{Frag}
 use Rattle.lay_hit.specs.declared.kinds.PaintKind.{PaintKind}
 use Rattle.lay_hit.specs.declared.kinds.PaintKind.TheVariants.{Stacking, Layered, Float, Atomic, Block, Inline}
-use Rattle.lay_hit.specs.PaintKinds.{is_stacking, is_layered, is_float, is_atomic, is_block, is_inline, forms_group}
+use Rattle.lay_hit.specs.PaintKinds.{is_stacking, is_layered, is_float_paint, is_atomic_paint, is_block_paint, is_inline_paint, forms_group}
 use Rattle.lay_hit.specs.Sorting.{in_order}
 use Rattle.lay_hit.specs.Pages.{Page}
 use Rattle.lay_hit.specs.Painting.{group, owner, others, by_level, is_negative_of, is_block_of, is_float_of, is_inline_of, is_level_zero, is_zero_of, is_positive_of, negative_layers, block_boxes, floats, inline_content, zero_layers, positive_layers, paint}
@@ -44,13 +44,13 @@ module _ (p : Page) (o : IsOrdered p) where
   leaf zero k some plain = absurd (omega arith)
   leaf (suc turns) k some plain = ap (λ (ks : List ℕ). own_pieces p k ++ flat_map (whole p turns) ks) (paints_none k plain) ∙ append-nil (own_pieces p k)
 
-  boxes_of : (k : ℕ) → is_inline (p.kind k) ≡ false → own_pieces p k ≡ p.boxes k
+  boxes_of : (k : ℕ) → is_inline_paint (p.kind k) ≡ false → own_pieces p k ≡ p.boxes k
   boxes_of k e = ap (λ (b : Bool). if b then p.boxes_and_texts k else p.boxes k) e
 
-  texts_of : (k : ℕ) → is_inline (p.kind k) ≡ true → own_pieces p k ≡ p.boxes_and_texts k
+  texts_of : (k : ℕ) → is_inline_paint (p.kind k) ≡ true → own_pieces p k ≡ p.boxes_and_texts k
   texts_of k e = ap (λ (b : Bool). if b then p.boxes_and_texts k else p.boxes k) e
 
-  group_plain : (x : PaintKind) → forms_group x ≡ true → is_inline x ≡ false
+  group_plain : (x : PaintKind) → forms_group x ≡ true → is_inline_paint x ≡ false
   group_plain Stacking e = refl
   group_plain Layered e = refl
   group_plain Float e = refl
@@ -58,7 +58,7 @@ module _ (p : Page) (o : IsOrdered p) where
   group_plain Block e = refl
   group_plain Inline e = absurd cc
 
-  block_plain : (x : PaintKind) → is_block x ≡ true → (forms_group x ≡ false) × (is_inline x ≡ false)
+  block_plain : (x : PaintKind) → is_block_paint x ≡ true → (forms_group x ≡ false) × (is_inline_paint x ≡ false)
   block_plain Stacking e = absurd cc
   block_plain Layered e = absurd cc
   block_plain Float e = absurd cc
@@ -66,7 +66,7 @@ module _ (p : Page) (o : IsOrdered p) where
   block_plain Block e = (refl, refl)
   block_plain Inline e = absurd cc
 
-  float_forms : (x : PaintKind) → is_float x ≡ true → forms_group x ≡ true
+  float_forms : (x : PaintKind) → is_float_paint x ≡ true → forms_group x ≡ true
   float_forms Stacking e = refl
   float_forms Layered e = refl
   float_forms Float e = refl
@@ -74,7 +74,7 @@ module _ (p : Page) (o : IsOrdered p) where
   float_forms Block e = absurd cc
   float_forms Inline e = absurd cc
 
-  atomic_forms : (x : PaintKind) → is_atomic x ≡ true → forms_group x ≡ true
+  atomic_forms : (x : PaintKind) → is_atomic_paint x ≡ true → forms_group x ≡ true
   atomic_forms Stacking e = refl
   atomic_forms Layered e = refl
   atomic_forms Float e = refl
@@ -82,7 +82,7 @@ module _ (p : Page) (o : IsOrdered p) where
   atomic_forms Block e = absurd cc
   atomic_forms Inline e = absurd cc
 
-  inline_plain : (x : PaintKind) → is_atomic x ≡ false → (is_inline x || is_atomic x) ≡ true → (forms_group x ≡ false) × (is_inline x ≡ true)
+  inline_plain : (x : PaintKind) → is_atomic_paint x ≡ false → (is_inline_paint x || is_atomic_paint x) ≡ true → (forms_group x ≡ false) × (is_inline_paint x ≡ true)
   inline_plain Stacking e f = absurd cc
   inline_plain Layered e f = absurd cc
   inline_plain Float e f = absurd cc
@@ -157,24 +157,24 @@ module _ (p : Page) (o : IsOrdered p) where
     float_part =
         same_nodes (filter (is_float_of p g) (others p))
         (all-of (λ k. paint p turns k ≡ whole p turns k) (is_float_of p g)
-        (λ k other e. let a = and_parts (is_float (p.kind k)) (group p k == g) e in of_group k other a.1 (float_forms (p.kind k) a.0)))
+        (λ k other e. let a = and_parts (is_float_paint (p.kind k)) (group p k == g) e in of_group k other a.1 (float_forms (p.kind k) a.0)))
         ∙ ap (flat_map (whole p turns)) (sym (floating p o g))
 
     block_part : block_boxes p g ≡ flat_map (whole p turns) (in_order (levels p o) (filter (in_step (step p o) (levels p o) 3) (mine p o g)))
     block_part =
         flat_map-same p.boxes (whole p turns) (filter (is_block_of p g) (others p))
         (all-of (λ k. p.boxes k ≡ whole p turns k) (is_block_of p g)
-        (λ k other e. let a = and_parts (is_block (p.kind k)) (group p k == g) e in let b = block_plain (p.kind k) a.0 in sym (leaf turns k (turns_left k other a.1) b.0 ∙ boxes_of k b.1)))
+        (λ k other e. let a = and_parts (is_block_paint (p.kind k)) (group p k == g) e in let b = block_plain (p.kind k) a.0 in sym (leaf turns k (turns_left k other a.1) b.0 ∙ boxes_of k b.1)))
         ∙ ap (flat_map (whole p turns)) (sym (blocks p o g))
 
     inline_part : inline_content p (paint p turns) g ≡ flat_map (whole p turns) (in_order (levels p o) (filter (in_step (step p o) (levels p o) 5) (mine p o g)))
     inline_part =
-        flat_map-same (λ k. if is_atomic (p.kind k) then paint p turns k else p.boxes_and_texts k) (whole p turns) (filter (is_inline_of p g) (others p))
-        (all-of (λ k. (if is_atomic (p.kind k) then paint p turns k else p.boxes_and_texts k) ≡ whole p turns k) (is_inline_of p g)
-        (λ k other e. let a = and_parts (is_inline (p.kind k) || is_atomic (p.kind k)) (group p k == g) e in by_test k other a.0 a.1 (is_atomic (p.kind k)) refl))
+        flat_map-same (λ k. if is_atomic_paint (p.kind k) then paint p turns k else p.boxes_and_texts k) (whole p turns) (filter (is_inline_of p g) (others p))
+        (all-of (λ k. (if is_atomic_paint (p.kind k) then paint p turns k else p.boxes_and_texts k) ≡ whole p turns k) (is_inline_of p g)
+        (λ k other e. let a = and_parts (is_inline_paint (p.kind k) || is_atomic_paint (p.kind k)) (group p k == g) e in by_test k other a.0 a.1 (is_atomic_paint (p.kind k)) refl))
         ∙ ap (flat_map (whole p turns)) (sym (inlines p o g))
       where
-        by_test : (k : ℕ) → IsOther k → (is_inline (p.kind k) || is_atomic (p.kind k)) ≡ true → (group p k == g) ≡ true → (b : Bool) → is_atomic (p.kind k) ≡ b → (if b then paint p turns k else p.boxes_and_texts k) ≡ whole p turns k
+        by_test : (k : ℕ) → IsOther k → (is_inline_paint (p.kind k) || is_atomic_paint (p.kind k)) ≡ true → (group p k == g) ≡ true → (b : Bool) → is_atomic_paint (p.kind k) ≡ b → (if b then paint p turns k else p.boxes_and_texts k) ≡ whole p turns k
         by_test k other plain mine true is = of_group k other mine (atomic_forms (p.kind k) is)
         by_test k other plain mine false is = let b = inline_plain (p.kind k) is plain in sym (leaf turns k (turns_left k other mine) b.0 ∙ texts_of k b.1)
 

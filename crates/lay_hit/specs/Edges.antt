@@ -2,7 +2,7 @@
 use Rattle.std.specs.Prelude.{ℤ, pos, ◌≡◌, ◌≤ℤ◌, ◌+ℤ◌, ◌-ℤ◌, ◌⊎◌, ◌||◌, true, false}
 use Rattle.lay_units.specs.declared.records.Rect.{Rect}
 use Rattle.lay_frag.specs.declared.frag.Frag.{Frag}
-use Rattle.lay_hit.specs.Hits.{holds, is_in}
+use Rattle.lay_hit.specs.Hits.{holds, is_in_rect}
 
 -- of two pieces one ends where the other begins, or before that
 abbrev pub AreApart : Rect → Rect → Type 0
@@ -31,8 +31,8 @@ lower_part cut r = record r { y = record { 0 = r.y.0 +ℤ cut }; h = record { 0 
 
 -- each point of a rectangle is in one of its parts, and they hold no other
 pub record HoldTogether (x y : ℤ) (r : Rect) (cut : ℤ) : Type 0 where
-  pub beside : cut ≤ℤ r.w.0 → is_in x y r ≡ (is_in x y (left_part cut r) || is_in x y (right_part cut r))
-  pub below : cut ≤ℤ r.h.0 → is_in x y r ≡ (is_in x y (upper_part cut r) || is_in x y (lower_part cut r))
+  pub beside : cut ≤ℤ r.w.0 → is_in_rect x y r ≡ (is_in_rect x y (left_part cut r) || is_in_rect x y (right_part cut r))
+  pub below : cut ≤ℤ r.h.0 → is_in_rect x y r ≡ (is_in_rect x y (upper_part cut r) || is_in_rect x y (lower_part cut r))
 
 abbrev pub PartsHoldAll : Type 0
 PartsHoldAll = (x y : ℤ) (r : Rect) (cut : ℤ) → pos 0 ≤ℤ cut → HoldTogether x y r cut

@@ -23,9 +23,9 @@ abbrev pub if_counts : {X : Type 0} → (X → Bool) → X → Option X
 if_counts counts x = if counts x then Some x else None
 
 -- the last in order of those that count
-abbrev pub greatest : {X : Type 0} → (X → X → Bool) → (X → Bool) → List X → Option X
-greatest le counts [] = None
-greatest le counts (x ∷ xs) = later_of le (if_counts counts x) (greatest le counts xs)
+abbrev pub last_in_order : {X : Type 0} → (X → X → Bool) → (X → Bool) → List X → Option X
+last_in_order le counts [] = None
+last_in_order le counts (x ∷ xs) = later_of le (if_counts counts x) (last_in_order le counts xs)
 
 -- the piece that is painted later, of one that may have been noted and another of the same node
 abbrev pub later_piece : Option Frag → Frag → Frag
@@ -36,7 +36,7 @@ later_piece (Some g) f = if nat_le g.part f.part then f else g
 abbrev pub front_from : Question → ℕ → ℕ → ℕ
 front_from q n g =
     unwrap_or
-    (greatest (is_painted_under (page q)) (λ k. is_some (seen_in q k))
+    (last_in_order (is_painted_under (page q)) (λ k. is_some (seen_in q k))
     (filter (λ k. painter_at (page q) k == g) (range_with_len n (length q.doc.now.nodes - n)))) 0
 
 -- the node at j is painted no later than that at k, and stands first if they are of equal rank

@@ -14,11 +14,11 @@ use Rattle.lay_hit.specs.Painting.{painting}
 abbrev pub is_from : ℤ → ℤ → ℤ → Bool
 is_from edge length v = int_le edge v && int_lt v (edge +ℤ length)
 
-abbrev pub is_in : ℤ → ℤ → Rect → Bool
-is_in x y r = is_from r.x.0 r.w.0 x && is_from r.y.0 r.h.0 y
+abbrev pub is_in_rect : ℤ → ℤ → Rect → Bool
+is_in_rect x y r = is_from r.x.0 r.w.0 x && is_from r.y.0 r.h.0 y
 
 abbrev pub holds : ℤ → ℤ → Frag → Bool
-holds x y f = is_in x y f.rect
+holds x y f = is_in_rect x y f.rect
 
 -- the last of these that holds the point
 abbrev pub last_holding : ℤ → ℤ → List Frag → Option Frag

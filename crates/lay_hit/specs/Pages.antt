@@ -20,10 +20,10 @@ pub record Page : Type 0 where
   pub boxes : ℕ → List Frag
   pub boxes_and_texts : ℕ → List Frag
 
-abbrev pub is_box : FragKind → Bool
-is_box frag_kind.Box = true
-is_box frag_kind.Line = false
-is_box frag_kind.Text = false
+abbrev pub is_box_piece : FragKind → Bool
+is_box_piece frag_kind.Box = true
+is_box_piece frag_kind.Line = false
+is_box_piece frag_kind.Text = false
 
 abbrev pub is_box_or_text : FragKind → Bool
 is_box_or_text frag_kind.Box = true
@@ -31,7 +31,7 @@ is_box_or_text frag_kind.Line = false
 is_box_or_text frag_kind.Text = true
 
 abbrev pub is_box_of : ℕ → Frag → Bool
-is_box_of id f = is_box f.kind && (f.node.0 == id)
+is_box_of id f = is_box_piece f.kind && (f.node.0 == id)
 
 abbrev pub is_box_or_text_of : ℕ → Frag → Bool
 is_box_or_text_of id f = is_box_or_text f.kind && (f.node.0 == id)

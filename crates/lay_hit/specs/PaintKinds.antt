@@ -65,21 +65,21 @@ abbrev pub is_layered : PaintKind → Bool
 is_layered Layered = true
 is_layered _ = false
 
-abbrev pub is_float : PaintKind → Bool
-is_float Float = true
-is_float _ = false
+abbrev pub is_float_paint : PaintKind → Bool
+is_float_paint Float = true
+is_float_paint _ = false
 
-abbrev pub is_atomic : PaintKind → Bool
-is_atomic Atomic = true
-is_atomic _ = false
+abbrev pub is_atomic_paint : PaintKind → Bool
+is_atomic_paint Atomic = true
+is_atomic_paint _ = false
 
-abbrev pub is_block : PaintKind → Bool
-is_block Block = true
-is_block _ = false
+abbrev pub is_block_paint : PaintKind → Bool
+is_block_paint Block = true
+is_block_paint _ = false
 
-abbrev pub is_inline : PaintKind → Bool
-is_inline Inline = true
-is_inline _ = false
+abbrev pub is_inline_paint : PaintKind → Bool
+is_inline_paint Inline = true
+is_inline_paint _ = false
 
 -- it is painted as a whole, with what is in it
 abbrev pub forms_group : PaintKind → Bool
@@ -91,8 +91,8 @@ forms_group Block = false
 forms_group Inline = false
 
 -- the level of a stacking context; other nodes have 0
-abbrev pub level_of : PaintKind → Style → ℤ
-level_of k s = if is_stacking k then unwrap_or (stack_level s.position s.z_index) (pos 0) else pos 0
+abbrev pub stacking_level_of : PaintKind → Style → ℤ
+stacking_level_of k s = if is_stacking k then unwrap_or (stack_level s.position s.z_index) (pos 0) else pos 0
 
 -- those of the node at a place
 abbrev pub node_kind : List Node → ℕ → Kind
@@ -102,4 +102,4 @@ abbrev pub kind_at : List Node → List Style → ℕ → PaintKind
 kind_at nodes styles k = paint_kind (k == 0) (node_kind nodes k) (style_at styles k)
 
 abbrev pub level_at : List Node → List Style → ℕ → ℤ
-level_at nodes styles k = level_of (kind_at nodes styles k) (style_at styles k)
+level_at nodes styles k = stacking_level_of (kind_at nodes styles k) (style_at styles k)

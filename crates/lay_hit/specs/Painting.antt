@@ -6,7 +6,7 @@ use Rattle.std.specs.Prelude.{ℕ, zero, suc, ◌-◌, pos, int_lt, int_le, Bool
 use Rattle.std.specs.Prelude.{◌==◌, List, [], ◌++◌, filter, flat_map, if◌then◌else◌}
 use Rattle.std.specs.List.{range_with_len}
 use Rattle.lay_frag.specs.declared.frag.Frag.{Frag}
-use Rattle.lay_hit.specs.PaintKinds.{is_stacking, is_layered, is_float, is_atomic, is_block, is_inline, forms_group}
+use Rattle.lay_hit.specs.PaintKinds.{is_stacking, is_layered, is_float_paint, is_atomic_paint, is_block_paint, is_inline_paint, forms_group}
 use Rattle.lay_hit.specs.Groups.{nearest_around}
 use Rattle.lay_hit.specs.Sorting.{in_order}
 use Rattle.lay_hit.specs.Pages.{Page}
@@ -30,13 +30,13 @@ abbrev pub is_negative_of : Page → ℕ → ℕ → Bool
 is_negative_of p g k = is_stacking (p.kind k) && (int_lt (p.level k) (pos 0) && (owner p k == g))
 
 abbrev pub is_block_of : Page → ℕ → ℕ → Bool
-is_block_of p g k = is_block (p.kind k) && (group p k == g)
+is_block_of p g k = is_block_paint (p.kind k) && (group p k == g)
 
 abbrev pub is_float_of : Page → ℕ → ℕ → Bool
-is_float_of p g k = is_float (p.kind k) && (group p k == g)
+is_float_of p g k = is_float_paint (p.kind k) && (group p k == g)
 
 abbrev pub is_inline_of : Page → ℕ → ℕ → Bool
-is_inline_of p g k = (is_inline (p.kind k) || is_atomic (p.kind k)) && (group p k == g)
+is_inline_of p g k = (is_inline_paint (p.kind k) || is_atomic_paint (p.kind k)) && (group p k == g)
 
 abbrev pub is_level_zero : Page → ℕ → Bool
 is_level_zero p k = is_layered (p.kind k) || (is_stacking (p.kind k) && (int_le (pos 0) (p.level k) && int_le (p.level k) (pos 0)))
@@ -48,8 +48,8 @@ abbrev pub is_positive_of : Page → ℕ → ℕ → Bool
 is_positive_of p g k = is_stacking (p.kind k) && (int_lt (pos 0) (p.level k) && (owner p k == g))
 
 -- Step 1 (1 and 2, or 4 and 7 where it is no stacking context): backgrounds and borders of g.
-abbrev pub own_boxes : Page → ℕ → List Frag
-own_boxes p g = p.boxes g
+abbrev pub own_page_boxes : Page → ℕ → List Frag
+own_page_boxes p g = p.boxes g
 
 -- Step 2 (3): stacking contexts of negative level. `whole` paints a node as a whole.
 abbrev pub negative_layers : Page → (whole : ℕ → List Frag) → ℕ → List Frag
@@ -66,7 +66,7 @@ floats p whole g = flat_map whole (filter (is_float_of p g) (others p))
 -- Step 5 (6 and 7): inline boxes, texts, and what is atomic among them.
 abbrev pub inline_content : Page → (whole : ℕ → List Frag) → ℕ → List Frag
 inline_content p whole g =
-    flat_map (λ k. if is_atomic (p.kind k) then whole k else p.boxes_and_texts k) (filter (is_inline_of p g) (others p))
+    flat_map (λ k. if is_atomic_paint (p.kind k) then whole k else p.boxes_and_texts k) (filter (is_inline_of p g) (others p))
 
 -- Step 6 (8): positioned nodes that make no stacking context, and stacking contexts of level 0.
 abbrev pub zero_layers : Page → (whole : ℕ → List Frag) → ℕ → List Frag
@@ -80,7 +80,7 @@ positive_layers p whole g = if is_stacking (p.kind g) then flat_map whole (by_le
 abbrev pub paint : Page → (turns : ℕ) → ℕ → List Frag
 paint p zero g = []
 paint p (suc turns) g =
-    own_boxes p g
+    own_page_boxes p g
     ++ (negative_layers p (paint p turns) g
     ++ (block_boxes p g
     ++ (floats p (paint p turns) g

@@ -9,7 +9,7 @@ use Rattle.lay_frag.specs.declared.frag.FragKind.TheVariants as frag_kind
 use Rattle.lay_frag.specs.Pieces.{frags_of}
 use Rattle.lay_hit.specs.declared.kinds.PaintKind.{PaintKind}
 use Rattle.lay_hit.specs.declared.question.Question.{Question}
-use Rattle.lay_hit.specs.PaintKinds.{is_inline, kind_at}
+use Rattle.lay_hit.specs.PaintKinds.{is_inline_paint, kind_at}
 use Rattle.lay_hit.specs.Hits.{last_holding}
 use Rattle.lay_hit.specs.Pages.{Page, page_of}
 use Rattle.lay_hit.specs.Wholes.{own_pieces, whole}
@@ -26,7 +26,7 @@ page q = page_with q (frags_of q.tree.now)
 abbrev pub is_painted : FragKind → PaintKind → Bool
 is_painted frag_kind.Box k = true
 is_painted frag_kind.Line k = false
-is_painted frag_kind.Text k = is_inline k
+is_painted frag_kind.Text k = is_inline_paint k
 
 abbrev pub node_of_piece : Question → Frag → Option ℕ
 node_of_piece q f =

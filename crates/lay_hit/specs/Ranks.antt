@@ -17,8 +17,8 @@ step_of Atomic level = 5
 step_of Block level = 3
 step_of Inline level = 5
 
-abbrev pub rank_at : Page → ℕ → Rank
-rank_at p k = record { step = step_of (p.kind k) (p.level k); level = p.level k }
+abbrev pub paint_rank_at : Page → ℕ → Rank
+paint_rank_at p k = record { step = step_of (p.kind k) (p.level k); level = p.level k }
 
 -- a is painted no later than b
 abbrev pub is_under : Rank → Rank → Bool

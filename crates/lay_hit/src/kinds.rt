@@ -4,8 +4,8 @@ ghost use Rattle.std.specs.Prelude.{◌≡◌, ◌<◌, length, true, false};
 ghost use Rattle.lay_style.specs.Positions.{is_positioned};
 ghost use Rattle.lay_doc.specs.NewNodes.{is_text};
 ghost use Rattle.lay_boxgen.specs.Display.{used_display_of};
-ghost use Rattle.lay_hit.specs.PaintKinds.{stack_level, kind_in_flow, is_stacking, forms_group, is_inline};
-ghost use Rattle.lay_hit.specs.PaintKinds.{is_replaced, is_out_of_flow, paint_kind, kind_at, level_of};
+ghost use Rattle.lay_hit.specs.PaintKinds.{stack_level, kind_in_flow, is_stacking, forms_group, is_inline_paint};
+ghost use Rattle.lay_hit.specs.PaintKinds.{is_replaced, is_out_of_flow, paint_kind, kind_at, stacking_level_of};
 
 use lay_boxgen::used_display_of;
 use lay_doc::{Kind, Node};
@@ -44,7 +44,7 @@ impl PaintKind {
 
     /// Whether it is an inline box or a text.
     pub(crate) fn is_inline(self) -> bool
-        ensures { result ≡ is_inline self }
+        ensures { result ≡ is_inline_paint self }
     {
         matches!(self, PaintKind::Inline)
     }
@@ -136,7 +136,7 @@ pub(crate) fn kind_at(nodes: &[Node], styles: &[Style], place: usize) -> PaintKi
 
 /// The level of a node that is painted so.
 pub(crate) fn level_of(kind: PaintKind, style: &Style) -> i64
-    ensures { result ≡ level_of kind style.now }
+    ensures { result ≡ stacking_level_of kind style.now }
 {
     if !kind.is_stacking() {
         return 0;

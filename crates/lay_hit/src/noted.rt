@@ -6,7 +6,7 @@ ghost use Rattle.lay_doc.specs.Document.{IsDocument};
 ghost use Rattle.lay_frag.specs.declared.frag.Frag.{Frag};
 ghost use Rattle.lay_frag.specs.Pieces.{IsContextInRange, frags_of, page_pieces};
 ghost use Rattle.lay_hit.specs.Hits.{holds};
-ghost use Rattle.lay_hit.specs.PaintKinds.{is_inline};
+ghost use Rattle.lay_hit.specs.PaintKinds.{is_inline_paint};
 ghost use Rattle.lay_hit.specs.Questions.{AreNoted, is_painted, node_of_piece};
 
 use crate::kinds::{PaintKind, kind_at};

@@ -3,7 +3,7 @@
 ghost use Rattle.std.specs.Prelude.{◌≡◌, ◌<◌, Some, length, slice_get, IfSome};
 ghost use Rattle.lay_units.specs.Units.{IsPosition};
 ghost use Rattle.lay_frag.specs.Pieces.{page_pieces, moved, IsContextInRange, IsRectInRange};
-ghost use Rattle.lay_hit.specs.Hits.{holds, is_from, is_in};
+ghost use Rattle.lay_hit.specs.Hits.{holds, is_from, is_in_rect};
 ghost use Rattle.lay_hit.specs.MovedPieces.{AreMoved};
 
 use lay_frag::{Frag, Placed, further};
@@ -63,7 +63,7 @@ fn is_in_moved(at: Point, piece: &Frag, right: Unit, down: Unit) -> bool
 /// Whether a rectangle holds the point.
 fn is_in(at: Point, rect: Rect) -> bool
     requires { IsRectInRange rect }
-    ensures { result ≡ is_in at.x.0 at.y.0 rect }
+    ensures { result ≡ is_in_rect at.x.0 at.y.0 rect }
 {
     is_from(rect.x, rect.w, at.x) && is_from(rect.y, rect.h, at.y)
 }

@@ -1,7 +1,7 @@
 //! Where a node is painted among those that the same node paints.
 
 ghost use Rattle.std.specs.Prelude.{◌≡◌, ◌<◌, length};
-ghost use Rattle.lay_hit.specs.Ranks.{is_of_owner, is_under, rank_at, step_of};
+ghost use Rattle.lay_hit.specs.Ranks.{is_of_owner, is_under, paint_rank_at, step_of};
 ghost use Rattle.lay_hit.specs.Fronts.{is_behind};
 ghost use Rattle.lay_hit.specs.Questions.{page};
 
@@ -42,7 +42,7 @@ fn step_of(kind: PaintKind, level: i64) -> u8
 fn rank_at(q: &Question<'_>, place: usize) -> Rank
     requires styles { length q.now.styles.now ≡ length q.now.doc.now.nodes }
     requires place { place < length q.now.doc.now.nodes }
-    ensures { result ≡ rank_at (page q.now) place }
+    ensures { result ≡ paint_rank_at (page q.now) place }
 {
     let kind = kind_at(q.doc.nodes(), q.styles, place);
     let level = level_of(kind, &q.styles[place]);

@@ -18,10 +18,10 @@ use Rattle.lay_style.specs.LengthValues.{px, offset_of, size_or_auto_of, size_me
 use Rattle.lay_style.specs.InitialStyle.{initial_style}
 use Rattle.lay_style.specs.ComputedStyle.{HasStyles, font_size, offsets, margins, paddings, width_of_style, border_styles, border_widths, sizing, text_style, styled, computed_style, style_at, parent_style, declarations_at}
 use Rattle.lay_doc.specs.Tree.{IsTree}
-use Rattle.lay_inherit.specs.StylesFit.{SizeFits, LengthFits, OffsetFits, SizeOrAutoFits, SizeMeasureFits, SizeOrNoneFits, IndentFits, LineHeightFits, VerticalAlignFits, SpacingFits, EdgesFit, SizingFits, TextFits, StyleFits, StylesFit}
+use Rattle.lay_inherit.specs.StylesFit.{UsedSizeFits, LengthFits, OffsetFits, SizeOrAutoFits, SizeMeasureFits, SizeOrNoneFits, IndentFits, LineHeightFits, VerticalAlignFits, SpacingFits, SidesFit, SizingFits, TextFits, StyleFits, StylesFit}
 use Rattle.lay_inherit.proofs.ValuesFit.{cascaded_fits, offset_fits, size_or_auto_fits, size_measure_fits, size_or_none_fits, indent_fits, spacing_fits, border_width_fits, font_size_fits, line_height_fits, vertical_align_fits, border_spacing_fits}
 
-px_fits : (n : ℕ) → n ≤ 16 → SizeFits (px n)
+px_fits : (n : ℕ) → n ≤ 16 → UsedSizeFits (px n)
 px_fits n le = (omega (arith, ints), omega (arith, ints))
 
 initial_fits : StyleFits initial_style
@@ -35,7 +35,7 @@ initial_fits = record {
   border_spacing = record { horizontal = px_fits 0 (omega arith); vertical = px_fits 0 (omega arith) };
 }
 
-offsets_fit : (font : Length) (parent initial : Edges LengthPercentageOrAuto) (ds : List Declaration) → EdgesFit OffsetFits parent → EdgesFit OffsetFits initial → EdgesFit OffsetFits (offsets font parent initial ds)
+offsets_fit : (font : Length) (parent initial : Edges LengthPercentageOrAuto) (ds : List Declaration) → SidesFit OffsetFits parent → SidesFit OffsetFits initial → SidesFit OffsetFits (offsets font parent initial ds)
 offsets_fit font parent initial ds of_parent of_initial = record {
   top = cascaded_fits OffsetFits Top ds parent.top initial.top (offset_of font) of_parent.top of_initial.top (offset_fits font);
   right = cascaded_fits OffsetFits Right ds parent.right initial.right (offset_of font) of_parent.right of_initial.right (offset_fits font);
@@ -43,7 +43,7 @@ offsets_fit font parent initial ds of_parent of_initial = record {
   left = cascaded_fits OffsetFits Left ds parent.left initial.left (offset_of font) of_parent.left of_initial.left (offset_fits font);
 }
 
-margins_fit : (font : Length) (parent initial : Edges LengthPercentageOrAuto) (ds : List Declaration) → EdgesFit OffsetFits parent → EdgesFit OffsetFits initial → EdgesFit OffsetFits (margins font parent initial ds)
+margins_fit : (font : Length) (parent initial : Edges LengthPercentageOrAuto) (ds : List Declaration) → SidesFit OffsetFits parent → SidesFit OffsetFits initial → SidesFit OffsetFits (margins font parent initial ds)
 margins_fit font parent initial ds of_parent of_initial = record {
   top = cascaded_fits OffsetFits MarginTop ds parent.top initial.top (offset_of font) of_parent.top of_initial.top (offset_fits font);
   right = cascaded_fits OffsetFits MarginRight ds parent.right initial.right (offset_of font) of_parent.right of_initial.right (offset_fits font);
@@ -51,7 +51,7 @@ margins_fit font parent initial ds of_parent of_initial = record {
   left = cascaded_fits OffsetFits MarginLeft ds parent.left initial.left (offset_of font) of_parent.left of_initial.left (offset_fits font);
 }
 
-paddings_fit : (font : Length) (parent initial : Edges LengthPercentage) (ds : List Declaration) → EdgesFit SizeMeasureFits parent → EdgesFit SizeMeasureFits initial → EdgesFit SizeMeasureFits (paddings font parent initial ds)
+paddings_fit : (font : Length) (parent initial : Edges LengthPercentage) (ds : List Declaration) → SidesFit SizeMeasureFits parent → SidesFit SizeMeasureFits initial → SidesFit SizeMeasureFits (paddings font parent initial ds)
 paddings_fit font parent initial ds of_parent of_initial = record {
   top = cascaded_fits SizeMeasureFits PaddingTop ds parent.top initial.top (size_measure_of font) of_parent.top of_initial.top (size_measure_fits font);
   right = cascaded_fits SizeMeasureFits PaddingRight ds parent.right initial.right (size_measure_of font) of_parent.right of_initial.right (size_measure_fits font);
@@ -59,20 +59,20 @@ paddings_fit font parent initial ds of_parent of_initial = record {
   left = cascaded_fits SizeMeasureFits PaddingLeft ds parent.left initial.left (size_measure_of font) of_parent.left of_initial.left (size_measure_fits font);
 }
 
-none_fits : SizeFits (px 0)
+none_fits : UsedSizeFits (px 0)
 none_fits = px_fits 0 (omega arith)
 
-of_style_fits : (style : BorderStyle) (w : Length) → SizeFits w → SizeFits (width_of_style style w)
+of_style_fits : (style : BorderStyle) (w : Length) → UsedSizeFits w → UsedSizeFits (width_of_style style w)
 of_style_fits border.None w of_width = none_fits
 of_style_fits border.Hidden w of_width = none_fits
 of_style_fits _ w of_width = of_width
 
-border_widths_fit : (font : Length) (style : Edges BorderStyle) (parent initial : Edges Length) (ds : List Declaration) → EdgesFit SizeFits parent → EdgesFit SizeFits initial → EdgesFit SizeFits (border_widths font style parent initial ds)
+border_widths_fit : (font : Length) (style : Edges BorderStyle) (parent initial : Edges Length) (ds : List Declaration) → SidesFit UsedSizeFits parent → SidesFit UsedSizeFits initial → SidesFit UsedSizeFits (border_widths font style parent initial ds)
 border_widths_fit font style parent initial ds of_parent of_initial = record {
-  top = of_style_fits style.top (cascaded BorderTopWidth ds parent.top initial.top (border_width_of font)) (cascaded_fits SizeFits BorderTopWidth ds parent.top initial.top (border_width_of font) of_parent.top of_initial.top (border_width_fits font));
-  right = of_style_fits style.right (cascaded BorderRightWidth ds parent.right initial.right (border_width_of font)) (cascaded_fits SizeFits BorderRightWidth ds parent.right initial.right (border_width_of font) of_parent.right of_initial.right (border_width_fits font));
-  bottom = of_style_fits style.bottom (cascaded BorderBottomWidth ds parent.bottom initial.bottom (border_width_of font)) (cascaded_fits SizeFits BorderBottomWidth ds parent.bottom initial.bottom (border_width_of font) of_parent.bottom of_initial.bottom (border_width_fits font));
-  left = of_style_fits style.left (cascaded BorderLeftWidth ds parent.left initial.left (border_width_of font)) (cascaded_fits SizeFits BorderLeftWidth ds parent.left initial.left (border_width_of font) of_parent.left of_initial.left (border_width_fits font));
+  top = of_style_fits style.top (cascaded BorderTopWidth ds parent.top initial.top (border_width_of font)) (cascaded_fits UsedSizeFits BorderTopWidth ds parent.top initial.top (border_width_of font) of_parent.top of_initial.top (border_width_fits font));
+  right = of_style_fits style.right (cascaded BorderRightWidth ds parent.right initial.right (border_width_of font)) (cascaded_fits UsedSizeFits BorderRightWidth ds parent.right initial.right (border_width_of font) of_parent.right of_initial.right (border_width_fits font));
+  bottom = of_style_fits style.bottom (cascaded BorderBottomWidth ds parent.bottom initial.bottom (border_width_of font)) (cascaded_fits UsedSizeFits BorderBottomWidth ds parent.bottom initial.bottom (border_width_of font) of_parent.bottom of_initial.bottom (border_width_fits font));
+  left = of_style_fits style.left (cascaded BorderLeftWidth ds parent.left initial.left (border_width_of font)) (cascaded_fits UsedSizeFits BorderLeftWidth ds parent.left initial.left (border_width_of font) of_parent.left of_initial.left (border_width_fits font));
 }
 
 sizing_fits : (font : Length) (parent initial : Sizing) (ds : List Declaration) → SizingFits parent → SizingFits initial → SizingFits (sizing font parent initial ds)
@@ -85,7 +85,7 @@ sizing_fits font parent initial ds of_parent of_initial = record {
   max_height = cascaded_fits SizeOrNoneFits MaxHeight ds parent.max_height initial.max_height (size_or_none_of font) of_parent.max_height of_initial.max_height (size_or_none_fits font);
 }
 
-text_fits : (font : Length) (parent initial : TextStyle) (ds : List Declaration) → SizeFits font → TextFits parent → TextFits initial → TextFits (text_style font parent initial ds)
+text_fits : (font : Length) (parent initial : TextStyle) (ds : List Declaration) → UsedSizeFits font → TextFits parent → TextFits initial → TextFits (text_style font parent initial ds)
 text_fits font parent initial ds of_font of_parent of_initial = record {
   font_size = of_font;
   line_height = cascaded_fits LineHeightFits LineHeight ds parent.line_height initial.line_height (line_height_of font) of_parent.line_height of_initial.line_height (line_height_fits font);
@@ -95,7 +95,7 @@ text_fits font parent initial ds of_font of_parent of_initial = record {
   vertical_align = cascaded_fits VerticalAlignFits VerticalAlign ds parent.vertical_align initial.vertical_align (vertical_align_of font) of_parent.vertical_align of_initial.vertical_align (vertical_align_fits font);
 }
 
-styled_fits : (font : Length) (parent initial : Style) (ds : List Declaration) → SizeFits font → StyleFits parent → StyleFits initial → StyleFits (styled font parent initial ds)
+styled_fits : (font : Length) (parent initial : Style) (ds : List Declaration) → UsedSizeFits font → StyleFits parent → StyleFits initial → StyleFits (styled font parent initial ds)
 styled_fits font parent initial ds of_font of_parent of_initial = record {
   offset = offsets_fit font parent.offset initial.offset ds of_parent.offset of_initial.offset;
   sizing = sizing_fits font parent.sizing initial.sizing ds of_parent.sizing of_initial.sizing;
@@ -108,7 +108,7 @@ styled_fits font parent initial ds of_font of_parent of_initial = record {
 
 computed_fits : (parent : Style) (ds : List Declaration) → StyleFits parent → StyleFits (computed_style parent ds)
 computed_fits parent ds of_parent =
-    let of_font : SizeFits (font_size parent.text.font_size ds) = cascaded_fits SizeFits FontSize ds parent.text.font_size (px 16) (font_size_of parent.text.font_size) of_parent.text.font_size (px_fits 16 (omega arith)) (font_size_fits parent.text.font_size) in
+    let of_font : UsedSizeFits (font_size parent.text.font_size ds) = cascaded_fits UsedSizeFits FontSize ds parent.text.font_size (px 16) (font_size_of parent.text.font_size) of_parent.text.font_size (px_fits 16 (omega arith)) (font_size_fits parent.text.font_size) in
     styled_fits (font_size parent.text.font_size ds) parent initial_style ds of_font of_parent initial_fits
 
 parent_fits : (parents : List ℕ) (styles : List Style) → IsTree parents → (k : ℕ) → k < length parents → ((j : ℕ) → j < k → StyleFits (style_at styles j)) → StyleFits (parent_style parents styles k)

@@ -11,9 +11,9 @@ use Rattle.lay_style.specs.declared.property.Given.{Given}
 use Rattle.lay_style.specs.declared.property.Given.TheVariants as given
 use Rattle.lay_style.specs.Values.{Declaration}
 use Rattle.lay_style.specs.Declarations.{declared_value}
-use Rattle.lay_style.specs.Inheritance.{is_inherited, value_from, cascaded}
+use Rattle.lay_style.specs.Inheritance.{is_inherited, computed_or_inherited, cascaded}
 use Rattle.lay_style.specs.LengthValues.{ems_of, percents_of, offset_of, size_or_auto_of, size_measure_of, size_or_none_of, indent_of, spacing_of, border_width_of, font_size_of, line_height_of, vertical_align_of, one_spacing_of, border_spacing_of}
-use Rattle.lay_inherit.specs.StylesFit.{LengthFits, SizeFits, OffsetFits, SizeOrAutoFits, SizeMeasureFits, SizeOrNoneFits, IndentFits, LineHeightFits, VerticalAlignFits, SpacingFits}
+use Rattle.lay_inherit.specs.StylesFit.{LengthFits, UsedSizeFits, OffsetFits, SizeOrAutoFits, SizeMeasureFits, SizeOrNoneFits, IndentFits, LineHeightFits, VerticalAlignFits, SpacingFits}
 
 length_fits : (v : ℤ) → IsUsed (clamp_of v)
 length_fits v = (omega (arith, ints, clamps), omega (arith, ints, clamps))
@@ -22,7 +22,7 @@ size_fits : (v : ℤ) → IsUsedSize (clamp_size_of v)
 size_fits v = (omega (arith, ints, clamps), omega (arith, ints, clamps))
 
 -- what a value comes from fits, and so does the value
-from_fits : {A : Type 0} (Fits : A → Type 0) (g : Option Given) (inherited : Bool) (parent initial : A) (computed : Given → A) → Fits parent → Fits initial → ((v : Given) → Fits (computed v)) → Fits (value_from g inherited parent initial computed)
+from_fits : {A : Type 0} (Fits : A → Type 0) (g : Option Given) (inherited : Bool) (parent initial : A) (computed : Given → A) → Fits parent → Fits initial → ((v : Given) → Fits (computed v)) → Fits (computed_or_inherited g inherited parent initial computed)
 from_fits Fits None true parent initial computed of_parent of_initial of_given = of_parent
 from_fits Fits None false parent initial computed of_parent of_initial of_given = of_initial
 from_fits Fits (Some (given.Keyword w)) inherited parent initial computed of_parent of_initial of_given = of_given (given.Keyword w)
@@ -68,14 +68,14 @@ spacing_fits font (given.Length u) = length_fits u.0
 spacing_fits font (given.Em e) = length_fits (ems_of e font)
 spacing_fits font _ = (omega (arith, ints), omega (arith, ints))
 
-pub border_width_fits : (font : Length) (v : Given) → SizeFits (border_width_of font v)
+pub border_width_fits : (font : Length) (v : Given) → UsedSizeFits (border_width_of font v)
 border_width_fits font (given.Keyword word.Thin) = (omega (arith, ints), omega (arith, ints))
 border_width_fits font (given.Keyword word.Thick) = (omega (arith, ints), omega (arith, ints))
 border_width_fits font (given.Length u) = size_fits u.0
 border_width_fits font (given.Em e) = size_fits (ems_of e font)
 border_width_fits font _ = (omega (arith, ints), omega (arith, ints))
 
-pub font_size_fits : (parent : Length) (v : Given) → SizeFits (font_size_of parent v)
+pub font_size_fits : (parent : Length) (v : Given) → UsedSizeFits (font_size_of parent v)
 font_size_fits parent (given.Keyword word.Larger) = size_fits (floor_div (pos 6 *ℤ parent.0) 5)
 font_size_fits parent (given.Keyword word.Smaller) = size_fits (floor_div (pos 5 *ℤ parent.0) 6)
 font_size_fits parent (given.Length u) = size_fits u.0
@@ -101,7 +101,7 @@ vertical_align_fits font (given.Length u) = length_fits u.0
 vertical_align_fits font (given.Em e) = length_fits (ems_of e font)
 vertical_align_fits font _ = tt
 
-one_spacing_fits : (font : Length) (v : OneLength) → SizeFits (one_spacing_of font v)
+one_spacing_fits : (font : Length) (v : OneLength) → UsedSizeFits (one_spacing_of font v)
 one_spacing_fits font (one.Length u) = size_fits u.0
 one_spacing_fits font (one.Em e) = size_fits (ems_of e font)
 

@@ -26,8 +26,8 @@ use Rattle.lay_doc.specs.Tree.{IsTree}
 abbrev pub LengthFits : Length → Type 0
 LengthFits u = IsUsed u.0
 
-abbrev pub SizeFits : Length → Type 0
-SizeFits u = IsUsedSize u.0
+abbrev pub UsedSizeFits : Length → Type 0
+UsedSizeFits u = IsUsedSize u.0
 
 -- an offset or a margin
 abbrev pub OffsetFits : LengthPercentageOrAuto → Type 0
@@ -36,17 +36,17 @@ OffsetFits _ = ⊤
 
 -- a width or a height
 abbrev pub SizeOrAutoFits : LengthPercentageOrAuto → Type 0
-SizeOrAutoFits (or_auto.Length u) = SizeFits u
+SizeOrAutoFits (or_auto.Length u) = UsedSizeFits u
 SizeOrAutoFits _ = ⊤
 
 -- a padding or a least size
 abbrev pub SizeMeasureFits : LengthPercentage → Type 0
-SizeMeasureFits (measure.Length u) = SizeFits u
+SizeMeasureFits (measure.Length u) = UsedSizeFits u
 SizeMeasureFits _ = ⊤
 
 -- a greatest size
 abbrev pub SizeOrNoneFits : LengthPercentageOrNone → Type 0
-SizeOrNoneFits (or_none.Length u) = SizeFits u
+SizeOrNoneFits (or_none.Length u) = UsedSizeFits u
 SizeOrNoneFits _ = ⊤
 
 abbrev pub IndentFits : LengthPercentage → Type 0
@@ -54,7 +54,7 @@ IndentFits (measure.Length u) = LengthFits u
 IndentFits _ = ⊤
 
 abbrev pub LineHeightFits : LineHeight → Type 0
-LineHeightFits (line.Length u) = SizeFits u
+LineHeightFits (line.Length u) = UsedSizeFits u
 LineHeightFits _ = ⊤
 
 abbrev pub VerticalAlignFits : VerticalAlign → Type 0
@@ -62,7 +62,7 @@ VerticalAlignFits (vertical.Length u) = LengthFits u
 VerticalAlignFits _ = ⊤
 
 -- each side's value fits
-pub record EdgesFit {A : Type 0} (Fits : A → Type 0) (e : Edges A) : Type 0 where
+pub record SidesFit {A : Type 0} (Fits : A → Type 0) (e : Edges A) : Type 0 where
   pub top : Fits e.top
   pub right : Fits e.right
   pub bottom : Fits e.bottom
@@ -77,7 +77,7 @@ pub record SizingFits (s : Sizing) : Type 0 where
   pub max_height : SizeOrNoneFits s.max_height
 
 pub record TextFits (t : TextStyle) : Type 0 where
-  pub font_size : SizeFits t.font_size
+  pub font_size : UsedSizeFits t.font_size
   pub line_height : LineHeightFits t.line_height
   pub text_indent : IndentFits t.text_indent
   pub letter_spacing : LengthFits t.letter_spacing
@@ -85,15 +85,15 @@ pub record TextFits (t : TextStyle) : Type 0 where
   pub vertical_align : VerticalAlignFits t.vertical_align
 
 pub record SpacingFits (b : BorderSpacing) : Type 0 where
-  pub horizontal : SizeFits b.horizontal
-  pub vertical : SizeFits b.vertical
+  pub horizontal : UsedSizeFits b.horizontal
+  pub vertical : UsedSizeFits b.vertical
 
 pub record StyleFits (s : Style) : Type 0 where
-  pub offset : EdgesFit OffsetFits s.offset
+  pub offset : SidesFit OffsetFits s.offset
   pub sizing : SizingFits s.sizing
-  pub margin : EdgesFit OffsetFits s.margin
-  pub padding : EdgesFit SizeMeasureFits s.padding
-  pub border : EdgesFit SizeFits s.border.width
+  pub margin : SidesFit OffsetFits s.margin
+  pub padding : SidesFit SizeMeasureFits s.padding
+  pub border : SidesFit UsedSizeFits s.border.width
   pub text : TextFits s.text
   pub border_spacing : SpacingFits s.table.border_spacing
 

@@ -14,7 +14,7 @@ use Rattle.lay_inlines.specs.AtomicBoxes.{atomic_box, atomic_boxes, atomic_piece
 use Rattle.lay_inlines.specs.Laws.{EachAtomicBoxHasOnePiece}
 use Rattle.lay_inlines.specs.LinePieces.{piece_of, baseline_of, origin_of, blank_of, content_end, line_spans, line_strokes}
 use Rattle.lay_inlines.specs.Raises.{RaisesValue, raise_of, raises_after, raises_of, behind_strut}
-use Rattle.lay_inlines.specs.Spans.{edge_at, is_text, open_spans, right_edges, span_of, spans_of, with_shown, with_text}
+use Rattle.lay_inlines.specs.Spans.{edge_at, is_text, open_spans, ended_right_edges, span_of, spans_of, with_shown, with_text_span}
 use Rattle.lay_inlines.specs.Strokes.{begin_of, end_of, has_content, shown_of, stays, stroke_of, strokes}
 
 abbrev atomic_spans : List Span → List ℕ
@@ -42,7 +42,7 @@ beside_text t n raise r f u from to on_line.Text true ss = refl
 beside_text t n raise r f u from to on_line.Text false ss = refl
 beside_text t n raise r f u from to on_line.Atomic same ss = refl
 
-behind_text : (t : ℕ) (raise : Unit) (from to : ℤ) (ss : List Span) → atomic_spans (with_text t raise from to ss) ≡ atomic_spans ss
+behind_text : (t : ℕ) (raise : Unit) (from to : ℤ) (ss : List Span) → atomic_spans (with_text_span t raise from to ss) ≡ atomic_spans ss
 behind_text t raise from to [] = refl
 behind_text t raise from to (s ∷ ss) = beside_text t s.node raise s.raise s.from s.to from to s.kind (s.node == t) ss
 
@@ -64,13 +64,13 @@ spans_of_parts areas end fr p r (x ∷ xs) =
     let s = stroke_of x (raise_of r x) p (over fr p x) in
     let ss = strokes fr (over fr p x) (raises_after r x) xs in
     let followed = has_content ss in
-    behind_part areas x (stays s followed) s.raise (begin_of s followed) (end_of s followed) (edge_at (right_edges areas ss) 0 end) (spans_of areas end ss)
+    behind_part areas x (stays s followed) s.raise (begin_of s followed) (end_of s followed) (edge_at (ended_right_edges areas ss) 0 end) (spans_of areas end ss)
     ∙ ap (λ (ns : List ℕ). atomic_box x ++ ns) (spans_of_parts areas end fr (over fr p x) (raises_after r x) xs)
 
 pub one_piece_lem : EachAtomicBoxHasOnePiece
 one_piece_lem c areas fr row ns xs =
     let end = content_end fr row xs in
-    let edges = right_edges areas (line_strokes fr row ns xs) in
+    let edges = ended_right_edges areas (line_strokes fr row ns xs) in
     let spans = spans_of areas end (line_strokes fr row ns xs) in
     pieces_of_spans areas (origin_of c row end) (baseline_of row) (line_spans areas fr row ns xs)
     ∙ behind_open (start_of fr row.reach.start.0) end edges (behind_strut row.shifts) ns spans

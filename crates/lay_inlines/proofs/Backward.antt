@@ -9,21 +9,21 @@ use Rattle.lay_inlines.specs.declared.strokes.Stroke.{Stroke}
 use Rattle.lay_inlines.specs.declared.line_piece.LinePieceKind.TheVariants.{Inline}
 use Rattle.lay_inlines.specs.Raises.{raise_at}
 use Rattle.lay_inlines.specs.Strokes.{has_content, begin_of, end_of, stays, shown_of}
-use Rattle.lay_inlines.specs.Spans.{right_edges, edges_before, edge_at, with_shown, spans_of, span_of, open_spans, unit}
+use Rattle.lay_inlines.specs.Spans.{ended_right_edges, edges_before, edge_at, with_shown, spans_of, span_of, open_spans, unit}
 
 -- one element more, from the end
 pub drop_before : {X : Type 0} → (xs : List X) (n m : ℕ) (x : X) → m + n + 1 ≡ length xs → x ≡ get_or xs m x → drop m xs ≡ x ∷ drop (m + 1) xs
 drop_before {X} xs n m x lt e = drop_more xs m x (omega arith) ∙ ap (λ (y : X). y ∷ drop (m + 1) xs) (sym e)
 
 pub spans_step : (areas : List InlineArea) (end : ℤ) (s : Stroke) (ss : List Stroke) (f : Bool) (edges : List Unit) (spans new : List Span)
-    → f ≡ has_content ss → edges ≡ right_edges areas ss → spans ≡ spans_of areas end ss
+    → f ≡ has_content ss → edges ≡ ended_right_edges areas ss → spans ≡ spans_of areas end ss
     → new ≡ with_shown areas (shown_of s.part (stays s f)) s.raise (begin_of s f) (end_of s f) (edge_at edges 0 end) spans
     → new ≡ spans_of areas end (s ∷ ss)
 spans_step areas end s ss f edges spans new p q r e =
     e ∙ (λ i. with_shown areas (shown_of s.part (stays s (p i))) s.raise (begin_of s (p i)) (end_of s (p i)) (edge_at (q i) 0 end) (r i))
 
 pub edges_step : (areas : List InlineArea) (s : Stroke) (ss : List Stroke) (f : Bool) (edges new : List Unit)
-    → f ≡ has_content ss → edges ≡ right_edges areas ss → new ≡ edges_before areas (shown_of s.part (stays s f)) (end_of s f) edges → new ≡ right_edges areas (s ∷ ss)
+    → f ≡ has_content ss → edges ≡ ended_right_edges areas ss → new ≡ edges_before areas (shown_of s.part (stays s f)) (end_of s f) edges → new ≡ ended_right_edges areas (s ∷ ss)
 edges_step areas s ss f edges new p q e = e ∙ (λ i. edges_before areas (shown_of s.part (stays s (p i))) (end_of s (p i)) (q i))
 
 -- the edges of the open boxes are taken one after the other, and their raises from the last one on

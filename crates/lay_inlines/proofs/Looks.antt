@@ -7,7 +7,7 @@ use Rattle.lay_lines.specs.declared.content.content.InlineArea.{InlineArea}
 use Rattle.lay_inlines.specs.declared.strokes.Stroke.{Stroke}
 use Rattle.lay_inlines.specs.Bounds.{StrokeWithin}
 use Rattle.lay_inlines.specs.Looks.{LookAs}
-use Rattle.lay_inlines.specs.Spans.{edge_at, edges_before, right_edges, spans_of, with_shown}
+use Rattle.lay_inlines.specs.Spans.{edge_at, edges_before, ended_right_edges, spans_of, with_shown}
 use Rattle.lay_inlines.specs.Strokes.{begin_of, end_of, has_content, is_content, shown_of, stays}
 
 pub looks_same : (ss : List Stroke) → LookAs ss ss
@@ -37,7 +37,7 @@ all_both (x ∷ xs) ys a b = All-cons StrokeWithin x (xs ++ ys) (All-head Stroke
 pub looks_behind : (xs ys ss : List Stroke) → LookAs xs ys → LookAs (xs ++ ss) (ys ++ ss)
 looks_behind xs ys ss l = record {
   content = λ rest. ap has_content (append_assoc xs ss rest) ∙ l.content (ss ++ rest) ∙ ap has_content (sym (append_assoc ys ss rest));
-  edges = λ areas rest. ap (right_edges areas) (append_assoc xs ss rest) ∙ l.edges areas (ss ++ rest) ∙ ap (right_edges areas) (sym (append_assoc ys ss rest));
+  edges = λ areas rest. ap (ended_right_edges areas) (append_assoc xs ss rest) ∙ l.edges areas (ss ++ rest) ∙ ap (ended_right_edges areas) (sym (append_assoc ys ss rest));
   spans = λ areas end rest. ap (spans_of areas end) (append_assoc xs ss rest) ∙ l.spans areas end (ss ++ rest) ∙ ap (spans_of areas end) (sym (append_assoc ys ss rest));
   within = λ is. all_both xs ss (l.within (all_front ys ss is)) (all_back ys ss is);
 }
@@ -57,8 +57,8 @@ looks_after [] xs ys l = l
 looks_after (s ∷ ss) xs ys l = looks_after_one s (ss ++ xs) (ss ++ ys) (looks_after ss xs ys l)
 
 -- with nothing behind them
-pub same_edges : (xs ys : List Stroke) (areas : List InlineArea) → LookAs xs ys → right_edges areas xs ≡ right_edges areas ys
-same_edges xs ys areas l = ap (right_edges areas) (sym (append-nil xs)) ∙ l.edges areas [] ∙ ap (right_edges areas) (append-nil ys)
+pub same_edges : (xs ys : List Stroke) (areas : List InlineArea) → LookAs xs ys → ended_right_edges areas xs ≡ ended_right_edges areas ys
+same_edges xs ys areas l = ap (ended_right_edges areas) (sym (append-nil xs)) ∙ l.edges areas [] ∙ ap (ended_right_edges areas) (append-nil ys)
 
 pub same_spans : (xs ys : List Stroke) (areas : List InlineArea) (end : ℤ) → LookAs xs ys → spans_of areas end xs ≡ spans_of areas end ys
 same_spans xs ys areas end l = ap (spans_of areas end) (sym (append-nil xs)) ∙ l.spans areas end [] ∙ ap (spans_of areas end) (append-nil ys)

@@ -23,7 +23,7 @@ use Rattle.lay_inlines.specs.Laws.{EachInlineBoxHasOnePiece, EachTextOnALineHasA
 use Rattle.lay_inlines.specs.LinePieces.{piece_of, baseline_of, origin_of, blank_of, content_end, line_pieces_of, line_spans, line_strokes}
 use Rattle.lay_inlines.specs.NamedPieces.{EachOnce, TextsAreWhole, is_among, is_inline, pieces_of_kind, started_box, started_boxes, staying_texts, text_of}
 use Rattle.lay_inlines.specs.Raises.{RaisesValue, raise_of, raises_after, raises_of, behind_strut}
-use Rattle.lay_inlines.specs.Spans.{edge_at, is_text, open_spans, right_edges, span_of, spans_of, with_shown, with_text}
+use Rattle.lay_inlines.specs.Spans.{edge_at, is_text, open_spans, ended_right_edges, span_of, spans_of, with_shown, with_text_span}
 use Rattle.lay_inlines.specs.Strokes.{begin_of, end_of, has_content, is_content, shown_of, stays, stroke_of, strokes}
 
 abbrev spans_of_kind : (LinePieceKind → Bool) → List Span → List ℕ
@@ -63,7 +63,7 @@ beside_text t n raise r f u from to on_line.Text true ss = refl
 beside_text t n raise r f u from to on_line.Text false ss = refl
 beside_text t n raise r f u from to on_line.Atomic same ss = refl
 
-behind_text : (t : ℕ) (raise : Unit) (from to : ℤ) (ss : List Span) → boxes (with_text t raise from to ss) ≡ boxes ss
+behind_text : (t : ℕ) (raise : Unit) (from to : ℤ) (ss : List Span) → boxes (with_text_span t raise from to ss) ≡ boxes ss
 behind_text t raise from to [] = refl
 behind_text t raise from to (s ∷ ss) = beside_text t s.node raise s.raise s.from s.to from to s.kind (s.node == t) ss
 
@@ -84,13 +84,13 @@ boxes_of_parts areas end fr p r (x ∷ xs) =
     let s = stroke_of x (raise_of r x) p (over fr p x) in
     let ss = strokes fr (over fr p x) (raises_after r x) xs in
     let followed = has_content ss in
-    boxes_more areas x (stays s followed) s.raise (begin_of s followed) (end_of s followed) (edge_at (right_edges areas ss) 0 end) (spans_of areas end ss)
+    boxes_more areas x (stays s followed) s.raise (begin_of s followed) (end_of s followed) (edge_at (ended_right_edges areas ss) 0 end) (spans_of areas end ss)
     ∙ ap (λ (ns : List ℕ). started_box x ++ ns) (boxes_of_parts areas end fr (over fr p x) (raises_after r x) xs)
 
 pub each_inline_box_lem : EachInlineBoxHasOnePiece
 each_inline_box_lem c areas fr row ns xs =
     let end = content_end fr row xs in
-    let edges = right_edges areas (line_strokes fr row ns xs) in
+    let edges = ended_right_edges areas (line_strokes fr row ns xs) in
     let spans = spans_of areas end (line_strokes fr row ns xs) in
     pieces_of_spans is_inline areas (origin_of c row end) (baseline_of row) (line_spans areas fr row ns xs)
     ∙ open_boxes (start_of fr row.reach.start.0) end edges (behind_strut row.shifts) ns spans
@@ -106,7 +106,7 @@ texts_of_line : (c : Container) (areas : List InlineArea) (fr : Frame) (row : En
     → pieces_of_kind is_text (line_pieces_of c areas fr row ns xs) ≡ texts (spans_of areas (content_end fr row xs) (line_strokes fr row ns xs))
 texts_of_line c areas fr row ns xs =
     let end = content_end fr row xs in
-    let edges = right_edges areas (line_strokes fr row ns xs) in
+    let edges = ended_right_edges areas (line_strokes fr row ns xs) in
     pieces_of_spans is_text areas (origin_of c row end) (baseline_of row) (line_spans areas fr row ns xs)
     ∙ open_texts (start_of fr row.reach.start.0) end edges (behind_strut row.shifts) ns (spans_of areas end (line_strokes fr row ns xs))
 
@@ -144,7 +144,7 @@ among_joined q t n raise r f u from to on_line.Text true ss e =
 among_joined q t n raise r f u from to on_line.Text false ss e = refl
 among_joined q t n raise r f u from to on_line.Atomic same ss e = refl
 
-among_text : (q t : ℕ) (raise : Unit) (from to : ℤ) (ss : List Span) → is_among q (texts (with_text t raise from to ss)) ≡ ((q == t) || is_among q (texts ss))
+among_text : (q t : ℕ) (raise : Unit) (from to : ℤ) (ss : List Span) → is_among q (texts (with_text_span t raise from to ss)) ≡ ((q == t) || is_among q (texts ss))
 among_text q t raise from to [] = refl
 among_text q t raise from to (s ∷ ss) = among_joined q t s.node raise s.raise s.from s.to from to s.kind (s.node == t) ss (λ e. eqb-true s.node t e)
 
@@ -185,7 +185,7 @@ among_spans q areas end fr p r (x ∷ xs) =
     let behind = staying_texts (p.started || is_content x) xs in
     let front = staying x (stays s followed) ∙ ap (λ (b : Bool). if is_content x || (p.started && b) then text_of x else []) (followed_is fr (over fr p x) (raises_after r x) xs) in
     let later = among_spans q areas end fr (over fr p x) (raises_after r x) xs ∙ ap (λ (b : Bool). is_among q (staying_texts b xs)) (started_is fr p x) in
-    among_shown q areas (shown_of x (stays s followed)) s.raise (begin_of s followed) (end_of s followed) (edge_at (right_edges areas ss) 0 end) rest
+    among_shown q areas (shown_of x (stays s followed)) s.raise (begin_of s followed) (end_of s followed) (edge_at (ended_right_edges areas ss) 0 end) rest
     ∙ ap (λ (ns : List ℕ). is_among q ns || is_among q (texts rest)) front
     ∙ ap (λ (b : Bool). is_among q (if is_content x || (p.started && list_any is_content xs) then text_of x else []) || b) later
     ∙ sym (list_any-append (λ (m : ℕ). q == m) (if is_content x || (p.started && list_any is_content xs) then text_of x else []) behind)
@@ -242,7 +242,7 @@ abbrev first_of : List ℕ → ℕ
 first_of [] = 0
 first_of (n ∷ ns) = n
 
-start_text : (t u : ℕ) (raise : Unit) (from to : ℤ) (ss : List Span) → u ∷ [] ≡ t ∷ [] → IsTrue (starts_with t (with_text u raise from to ss))
+start_text : (t u : ℕ) (raise : Unit) (from to : ℤ) (ss : List Span) → u ∷ [] ≡ t ∷ [] → IsTrue (starts_with t (with_text_span u raise from to ss))
 start_text t u raise from to [] e = eq-eqb u t (ap first_of e)
 start_text t u raise from to (s ∷ ss) e = start_joined t u raise from to (is_text s.kind && (s.node == u)) s ss (ap first_of e)
 
@@ -306,7 +306,7 @@ starts t areas end fr p r (y ∷ ys) behind h =
     let rest = spans_of areas end ss in
     let from = begin_of s followed in
     let to = end_of s followed in
-    let edge = edge_at (right_edges areas ss) 0 end in
+    let edge = edge_at (ended_right_edges areas ss) 0 end in
     let shown = shown_of y (stays s followed) in
     elim (cases_Bool (is_among t (texts rest))) [
       | inl some ↦ (let w = found t (over fr p y).started ys (sym (among_spans t areas end fr (over fr p y) (raises_after r y) ys) ∙ some) in
@@ -333,7 +333,7 @@ once_joined t n raise r f u from to on_line.Atomic same ss e once (inr none) = (
 abbrev AtStart : ℕ → List Span → Type 0
 AtStart t ss = IsTrue (starts_with t ss) ⊎ IsFalse (is_among t (texts ss))
 
-once_text : (t : ℕ) (raise : Unit) (from to : ℤ) (ss : List Span) → EachOnce (texts ss) → AtStart t ss → EachOnce (texts (with_text t raise from to ss))
+once_text : (t : ℕ) (raise : Unit) (from to : ℤ) (ss : List Span) → EachOnce (texts ss) → AtStart t ss → EachOnce (texts (with_text_span t raise from to ss))
 once_text t raise from to [] once own = (refl, tt)
 once_text t raise from to (s ∷ ss) once own = once_joined t s.node raise s.raise s.from s.to from to s.kind (s.node == t) ss (λ e. eqb-true s.node t e) once own
 
@@ -357,7 +357,7 @@ once_spans areas end fr p r (x ∷ xs) whole =
     let followed = has_content ss in
     let rest = spans_of areas end ss in
     let behind = once_spans areas end fr (over fr p x) (raises_after r x) xs (λ i j k a b c t lt less e f g of too. whole (suc i) (suc j) (suc k) a b c t (omega (arith, lt)) (omega (arith, less)) e f g of too) in
-    once_shown areas x (stays s followed) s.raise (begin_of s followed) (end_of s followed) (edge_at (right_edges areas ss) 0 end) rest behind
+    once_shown areas x (stays s followed) s.raise (begin_of s followed) (end_of s followed) (edge_at (ended_right_edges areas ss) 0 end) rest behind
     (λ t of. elim (cases_Bool (is_among t (texts rest))) [
       | inl some ↦ inl (starts t areas end fr (over fr p x) (raises_after r x) xs (λ j k y z lt e f too. whole 0 (suc j) (suc k) x y z t (omega arith) (omega (arith, lt)) refl e f of too) some)
       | inr none ↦ inr none

@@ -14,7 +14,7 @@ use Rattle.lay_inlines.specs.declared.spans.Span.{Span}
 use Rattle.lay_inlines.specs.Laws.{ContentEndsWithItsPen, SpacesAtTheEndAreRemoved}
 use Rattle.lay_inlines.specs.LinePieces.{line_box, piece_of, baseline_of, origin_of, blank_of, content_end, line_spans}
 use Rattle.lay_inlines.specs.Raises.{RaisesValue, raise_of, raises_after, raises_of, behind_strut}
-use Rattle.lay_inlines.specs.Spans.{right_edges, edges_before, edge_at, with_shown, spans_of, open_spans}
+use Rattle.lay_inlines.specs.Spans.{ended_right_edges, edges_before, edge_at, with_shown, spans_of, open_spans}
 use Rattle.lay_inlines.specs.Strokes.{parts_of, strokes, stroke_of, is_content, has_content, begin_of, end_of, stays, shown_of}
 use Rattle.lay_inlines.proofs.Content.{over_all-append}
 
@@ -51,7 +51,7 @@ content_without fr p r [] w = refl
 content_without fr p r (x ∷ xs) w = ap (λ (b : Bool). is_content x || b) (content_without fr (over fr p x) (raises_after r x) xs w)
 
 edges_without : (areas : List InlineArea) (fr : Frame) (p : Pen) (r : RaisesValue) (xs : List Part) (w : Advance)
-    → right_edges areas (strokes fr p r (xs ++ Space w ∷ [])) ≡ right_edges areas (strokes fr p r xs)
+    → ended_right_edges areas (strokes fr p r (xs ++ Space w ∷ [])) ≡ ended_right_edges areas (strokes fr p r xs)
 edges_without areas fr p r [] w =
     ap (λ (b : Bool). edges_before areas (shown_of (Space w) b) (end_of (stroke_of (Space w) (raise_of r (Space w)) p (over fr p (Space w))) false) []) (or_not p.started)
 edges_without areas fr p r (x ∷ xs) w =
@@ -80,7 +80,7 @@ line_spans_without areas fr row ns xs w =
     let edges = edges_without areas fr p r xs w in
     let spans = spans_without areas (content_end fr row xs) fr p r xs w in
     (λ i. open_spans (start_of fr row.reach.start.0) (end i) (edges i) (behind_strut row.shifts) ns ++ spans_of areas (end i) (strokes fr p r (xs ++ Space w ∷ [])))
-    ∙ ap (λ (ys : List Span). open_spans (start_of fr row.reach.start.0) (content_end fr row xs) (right_edges areas (strokes fr p r xs)) (behind_strut row.shifts) ns ++ ys) spans
+    ∙ ap (λ (ys : List Span). open_spans (start_of fr row.reach.start.0) (content_end fr row xs) (ended_right_edges areas (strokes fr p r xs)) (behind_strut row.shifts) ns ++ ys) spans
 
 pub spaces_at_the_end_lem : SpacesAtTheEndAreRemoved
 spaces_at_the_end_lem c areas fr row ns xs w =

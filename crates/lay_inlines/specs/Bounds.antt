@@ -15,8 +15,8 @@ use Rattle.lay_inlines.specs.declared.strokes.Stroke.{Stroke}
 use Rattle.lay_inlines.specs.Raises.{RaisesValue}
 
 -- an extent of a line, or a margin
-abbrev pub IsReach : ℤ → Type 0
-IsReach v = IsWithin (pos (2 ^ 59)) v
+abbrev pub IsLineExtent : ℤ → Type 0
+IsLineExtent v = IsWithin (pos (2 ^ 59)) v
 
 -- a shift of a part of a line
 abbrev pub RaiseWithin : Unit → Type 0
@@ -26,15 +26,15 @@ pub record RowWithin (row : Ended) : Type 0 where
   pub top : IsWithin (pos (2 ^ 61)) row.top.0
   pub start : IsWithin (pos (2 ^ 61)) row.reach.start.0
   pub end : IsWithin (pos (2 ^ 61)) row.reach.end.0
-  pub above : IsReach row.extent.above.0
-  pub below : IsReach row.extent.below.0
+  pub above : IsLineExtent row.extent.above.0
+  pub below : IsLineExtent row.extent.below.0
   pub shifts : All RaiseWithin row.shifts
 
 pub record AreaWithin (a : InlineArea) : Type 0 where
   pub above : IsWithin (pos (2 ^ 60)) a.above.0
   pub below : IsWithin (pos (2 ^ 60)) a.below.0
-  pub margin_left : IsReach a.margin_left.0
-  pub margin_right : IsReach a.margin_right.0
+  pub margin_left : IsLineExtent a.margin_left.0
+  pub margin_right : IsLineExtent a.margin_right.0
 
 pub record GeometryWithin (c : Container) (rs : List Ended) (bs : List InlineArea) : Type 0 where
   pub left : IsWithin (pos (2 ^ 50)) c.left.0
@@ -76,11 +76,11 @@ pub record SpanWithin (s : Span) : Type 0 where
 abbrev pub IsOrigin : ℤ → Type 0
 IsOrigin v = IsWithin (pos (2 ^ 62 + 2 ^ 59 + 2 ^ 52)) v
 
-abbrev pub IsBaseline : ℤ → Type 0
-IsBaseline v = IsWithin (pos (2 ^ 61 + 2 ^ 59)) v
+abbrev pub IsLineBaseline : ℤ → Type 0
+IsLineBaseline v = IsWithin (pos (2 ^ 61 + 2 ^ 59)) v
 
-abbrev pub IsRaised : ℤ → Type 0
-IsRaised v = IsWithin (pos (2 ^ 61 + 2 ^ 60 + 2 ^ 59)) v
+abbrev pub IsRaise : ℤ → Type 0
+IsRaise v = IsWithin (pos (2 ^ 61 + 2 ^ 60 + 2 ^ 59)) v
 
 pub record LineWithin (c : Container) (fr : Frame) (r : Ended) (bs : List InlineArea) : Type 0 where
   pub left : IsWithin (pos (2 ^ 50)) c.left.0

@@ -25,24 +25,24 @@ use Rattle.lay_inlines.specs.declared.lines.Container.{Container}
 use Rattle.lay_inlines.specs.declared.spans.Span.{Span}
 use Rattle.lay_inlines.specs.Strokes.{parts_of, strokes}
 use Rattle.lay_inlines.specs.declared.strokes.Stroke.{Stroke}
-use Rattle.lay_inlines.specs.Spans.{unit, area_at, right_edges, spans_of, open_spans}
+use Rattle.lay_inlines.specs.Spans.{unit, area_at, ended_right_edges, spans_of, open_spans}
 use Rattle.lay_inlines.specs.Raises.{behind_strut, raises_of}
 use Rattle.lay_inlines.specs.OpenBoxes.{open_after}
 
 -- how far content moves that leaves this width of its line free (16.2): nowhere where it leaves none
-abbrev pub shift_of : Align → ℤ → ℤ
-shift_of Left free = pos 0
-shift_of Right free = int_max (pos 0) free
-shift_of Center free = half_of (int_max (pos 0) free)
+abbrev pub aligned_shift : Align → ℤ → ℤ
+aligned_shift Left free = pos 0
+aligned_shift Right free = int_max (pos 0) free
+aligned_shift Center free = half_of (int_max (pos 0) free)
 
-abbrev pub rect_of : ℤ → ℤ → ℤ → ℤ → Rect
-rect_of x y w h = record { x = unit x; y = unit y; w = unit w; h = unit h }
+abbrev pub unit_rect : ℤ → ℤ → ℤ → ℤ → Rect
+unit_rect x y w h = record { x = unit x; y = unit y; w = unit w; h = unit h }
 
 abbrev pub line_box : ℕ → Ended → LinePiece
 line_box node row = record {
   kind = Line;
   node = node;
-  rect = rect_of row.reach.start.0 row.top.0 (row.reach.end.0 -ℤ row.reach.start.0) (row.extent.above.0 +ℤ row.extent.below.0);
+  rect = unit_rect row.reach.start.0 row.top.0 (row.reach.end.0 -ℤ row.reach.start.0) (row.extent.above.0 +ℤ row.extent.below.0);
 }
 
 -- what a span shows, with the pen's place 0 at `origin`, on a line with this baseline
@@ -50,7 +50,7 @@ abbrev pub piece_of : List InlineArea → ℤ → ℤ → Span → LinePiece
 piece_of areas origin baseline s = record {
   kind = s.kind;
   node = s.node;
-  rect = rect_of (origin +ℤ s.from.0) ((baseline -ℤ s.raise.0) -ℤ (area_at areas s.node).above.0) (s.to.0 -ℤ s.from.0)
+  rect = unit_rect (origin +ℤ s.from.0) ((baseline -ℤ s.raise.0) -ℤ (area_at areas s.node).above.0) (s.to.0 -ℤ s.from.0)
       ((area_at areas s.node).above.0 +ℤ (area_at areas s.node).below.0);
 }
 
@@ -59,7 +59,7 @@ baseline_of row = row.top.0 +ℤ row.extent.above.0
 
 -- where the pen's place 0 is on a line whose content ends at `end`
 abbrev pub origin_of : Container → Ended → ℤ → ℤ
-origin_of c row end = c.left.0 +ℤ shift_of c.align ((row.reach.end.0 -ℤ c.left.0) -ℤ end)
+origin_of c row end = c.left.0 +ℤ aligned_shift c.align ((row.reach.end.0 -ℤ c.left.0) -ℤ end)
 
 -- before the content of a line
 abbrev pub blank_of : Frame → Ended → Pen
@@ -76,7 +76,7 @@ line_strokes fr row ns xs = strokes fr (blank_of fr row) (raises_of row.shifts (
 -- and its boxes and texts
 abbrev pub line_spans : List InlineArea → Frame → Ended → List ℕ → List Part → List Span
 line_spans areas fr row ns xs =
-    open_spans (start_of fr row.reach.start.0) (content_end fr row xs) (right_edges areas (line_strokes fr row ns xs))
+    open_spans (start_of fr row.reach.start.0) (content_end fr row xs) (ended_right_edges areas (line_strokes fr row ns xs))
     (behind_strut row.shifts) ns
     ++ spans_of areas (content_end fr row xs) (line_strokes fr row ns xs)
 

@@ -41,9 +41,9 @@ abbrev pub shown_before : Stroke → List Stroke → Shown
 shown_before s ss = shown_of s.part (stays s (has_content ss))
 
 -- where the inline boxes end that are open before these parts, as far as they end among them, innermost first
-abbrev pub right_edges : List InlineArea → List Stroke → List Unit
-right_edges areas [] = []
-right_edges areas (s ∷ ss) = edges_before areas (shown_before s ss) (end_of s (has_content ss)) (right_edges areas ss)
+abbrev pub ended_right_edges : List InlineArea → List Stroke → List Unit
+ended_right_edges areas [] = []
+ended_right_edges areas (s ∷ ss) = edges_before areas (shown_before s ss) (end_of s (has_content ss)) (ended_right_edges areas ss)
 
 -- that of the box which this many open ones are in: the end of the line's content, where its own end isn't on the line
 abbrev pub edge_at : List Unit → ℕ → ℤ → ℤ
@@ -56,9 +56,9 @@ is_text Text = true
 is_text Atomic = false
 
 -- a bit of a text before these, of which the first is what is left of the text on its line
-abbrev pub with_text : ℕ → Unit → ℤ → ℤ → List Span → List Span
-with_text t raise from to [] = span_of Text t raise from to ∷ []
-with_text t raise from to (s ∷ ss) =
+abbrev pub with_text_span : ℕ → Unit → ℤ → ℤ → List Span → List Span
+with_text_span t raise from to [] = span_of Text t raise from to ∷ []
+with_text_span t raise from to (s ∷ ss) =
     if is_text s.kind && (s.node == t) then span_of Text t raise from s.to.0 ∷ ss
     else span_of Text t raise from to ∷ s ∷ ss
 
@@ -72,7 +72,7 @@ atomic_span areas n raise from to =
 
 -- what a part shows, before the spans of the parts behind it
 abbrev pub with_shown : List InlineArea → Shown → Unit → ℤ → ℤ → ℤ → List Span → List Span
-with_shown areas (OfText t) raise from to edge spans = with_text t raise from to spans
+with_shown areas (OfText t) raise from to edge spans = with_text_span t raise from to spans
 with_shown areas (OfAtomic n) raise from to edge spans = atomic_span areas n raise from to ∷ spans
 with_shown areas (Opens n) raise from to edge spans = inline_span areas n raise from edge ∷ spans
 with_shown areas (Closes n) raise from to edge spans = spans
@@ -83,7 +83,7 @@ abbrev pub spans_of : List InlineArea → ℤ → List Stroke → List Span
 spans_of areas end [] = []
 spans_of areas end (s ∷ ss) =
     with_shown areas (shown_before s ss) s.raise (begin_of s (has_content ss)) (end_of s (has_content ss))
-    (edge_at (right_edges areas ss) 0 end)
+    (edge_at (ended_right_edges areas ss) 0 end)
     (spans_of areas end ss)
 
 -- the boxes that are open where the line's content begins, outermost first, and how far they are raised

@@ -2,7 +2,7 @@
 
 ghost use Rattle.std.specs.Prelude.{◌≡◌, ◌≤ℤ◌, pos};
 ghost use Rattle.std.specs.Int.{int_max};
-ghost use Rattle.lay_inlines.specs.LinePieces.{shift_of};
+ghost use Rattle.lay_inlines.specs.LinePieces.{aligned_shift};
 
 use lay_units::{Unit, half};
 
@@ -16,7 +16,7 @@ pub enum Align {
 
 /// How far content moves that leaves this width free: nowhere where it leaves none.
 pub fn shift_of(align: Align, free: Unit) -> Unit
-    ensures shift { result.0 ≡ shift_of align free.0 }
+    ensures shift { result.0 ≡ aligned_shift align free.0 }
     ensures low { pos 0 ≤ℤ result.0 }
     ensures high { result.0 ≤ℤ int_max (pos 0) free.0 }
 {

@@ -2,7 +2,7 @@
 
 ghost use Rattle.std.specs.Prelude.{◌≡◌, ◌++◌, ◌-ℤ◌, [], All, map, reverse, OnOk};
 ghost use Rattle.lay_inlines.specs.Bounds.{IsPlace, RowWithin, AreaWithin, PensWithin, SpanWithin};
-ghost use Rattle.lay_inlines.specs.Bounds.{IsOrigin, IsBaseline, IsRaised, RaiseWithin, LineWithin};
+ghost use Rattle.lay_inlines.specs.Bounds.{IsOrigin, IsLineBaseline, IsRaise, RaiseWithin, LineWithin};
 ghost use Rattle.lay_inlines.specs.LinePieces.{line_box, piece_of, baseline_of, origin_of, blank_of, line_pieces_of};
 ghost use Rattle.lay_inlines.specs.Strokes.{parts_of};
 
@@ -102,7 +102,7 @@ impl Line<'_> {
         ensures x { result.x.0 ≡ origin_of self.now.container self.now.row.now end.0 }
         ensures y { result.y.0 ≡ baseline_of self.now.row.now }
         ensures x_within { IsOrigin result.x.0 }
-        ensures y_within { IsBaseline result.y.0 }
+        ensures y_within { IsLineBaseline result.y.0 }
     {
         let room = minus(self.row.reach.end, self.container.left);
         let shift = shift_of(self.container.align, minus(room, end));
@@ -139,7 +139,7 @@ fn write(
     requires spans { All SpanWithin spans.old.items }
     requires areas { All AreaWithin areas.now }
     requires x { IsOrigin origin.x.0 }
-    requires y { IsBaseline origin.y.0 }
+    requires y { IsLineBaseline origin.y.0 }
     ensures { OnOk result (out.new.items
         ≡ out.old.items ++ map (piece_of areas.now origin.x.0 origin.y.0) (reverse spans.old.items)) }
 {
@@ -153,7 +153,7 @@ fn piece_of(span: &Span, areas: &[InlineArea], origin: Origin) -> LinePiece
     requires span { SpanWithin span.now }
     requires areas { All AreaWithin areas.now }
     requires x { IsOrigin origin.x.0 }
-    requires y { IsBaseline origin.y.0 }
+    requires y { IsLineBaseline origin.y.0 }
     ensures { result ≡ piece_of areas.now origin.x.0 origin.y.0 span.now }
 {
     let area = area_at(areas, span.node);
@@ -171,10 +171,10 @@ fn piece_of(span: &Span, areas: &[InlineArea], origin: Origin) -> LinePiece
 
 /// The baseline that stands so far above another.
 fn raised(baseline: Unit, raise: Unit) -> Unit
-    requires baseline { IsBaseline baseline.0 }
+    requires baseline { IsLineBaseline baseline.0 }
     requires raise { RaiseWithin raise }
     ensures value { result.0 ≡ baseline.0 -ℤ raise.0 }
-    ensures within { IsRaised result.0 }
+    ensures within { IsRaise result.0 }
 {
     minus(baseline, raise)
 }

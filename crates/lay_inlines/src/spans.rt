@@ -4,7 +4,7 @@
 ghost use Rattle.std.specs.Prelude.{◌≡◌, ◌||◌, ◌&&◌, ◌++◌, ◌∷◌, [], All, drop, reverse, OnOk};
 ghost use Rattle.lay_inlines.specs.Bounds.{IsPlace, AreaWithin, RaiseWithin, StrokeWithin, SpanWithin};
 ghost use Rattle.lay_inlines.specs.Behind.{BehindWithin, Within};
-ghost use Rattle.lay_inlines.specs.Spans.{area_at, edge_at, edges_before, right_edges, is_text, with_text};
+ghost use Rattle.lay_inlines.specs.Spans.{area_at, edge_at, edges_before, ended_right_edges, is_text, with_text_span};
 ghost use Rattle.lay_inlines.specs.Spans.{with_shown, span_of, inline_span, atomic_span, spans_of, open_spans};
 ghost use Rattle.lay_inlines.specs.Strokes.{is_content, stays, shown_of, begin_of, end_of, has_content};
 
@@ -86,7 +86,7 @@ impl Behind {
         requires start { IsPlace ends.start.0 }
         requires end { IsPlace ends.end.0 }
         ensures spans { OnOk result (reverse self.new.spans.items
-            ≡ open_spans ends.start.0 ends.end.0 (right_edges areas.now strokes.now) open_boxes.now.raises.now
+            ≡ open_spans ends.start.0 ends.end.0 (ended_right_edges areas.now strokes.now) open_boxes.now.raises.now
             open_boxes.now.nodes.now ++ spans_of areas.now ends.end.0 strokes.now) }
         ensures within { OnOk result (All SpanWithin self.new.spans.items) }
     {
@@ -111,7 +111,7 @@ impl Behind {
         requires strokes { All StrokeWithin strokes.now }
         requires end { IsPlace end.0 }
         ensures spans { OnOk result (reverse self.new.spans.items ≡ spans_of areas.now end.0 strokes.now) }
-        ensures edges { OnOk result (reverse self.new.edges.items ≡ right_edges areas.now strokes.now) }
+        ensures edges { OnOk result (reverse self.new.edges.items ≡ ended_right_edges areas.now strokes.now) }
         ensures within { OnOk result (BehindWithin self.new) }
     {
         for done in 0..strokes.len() {
@@ -190,7 +190,7 @@ impl Behind {
         requires from { IsPlace standing.from.0 }
         requires to { IsPlace standing.to.0 }
         ensures spans { OnOk result (reverse self.new.spans.items
-            ≡ with_text text standing.raise standing.from.0 standing.to.0 (reverse self.old.spans.items)) }
+            ≡ with_text_span text standing.raise standing.from.0 standing.to.0 (reverse self.old.spans.items)) }
         ensures edges { self.new.edges.items ≡ self.old.edges.items }
         ensures followed { self.new.followed ≡ self.old.followed }
         ensures within { OnOk result (BehindWithin self.new) }

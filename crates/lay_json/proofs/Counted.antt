@@ -14,7 +14,7 @@ use Rattle.lay_doc.specs.Edits.{insert_fault, after_insert, last_index, root_fau
 use Rattle.lay_json.specs.declared.fault.InputFault.{InputFault}
 use Rattle.lay_json.specs.declared.fault.InputFault.TheVariants.{BadNode}
 use Rattle.lay_json.specs.Fields.{then_read}
-use Rattle.lay_json.specs.Nodes.{without_fault, node_at, root_of, put_last}
+use Rattle.lay_json.specs.Nodes.{without_fault, node_at, document_of_root, put_last}
 use Rattle.lay_json.specs.Laws.{NodesAreCounted}
 
 no_fault : (k : ℕ) (o : Option EditFault) (d e : Document) → without_fault k o d ≡ Ok e → (o ≡ None) × (d ≡ e)
@@ -39,7 +39,7 @@ puts d e (Ok (parent, new)) is =
     let put = no_fault (length d.nodes) (insert_fault d parent.0 index new) (after_insert d parent.0 index new) e is in
     ap (λ (x : Document). length x.nodes) (sym put.1) ∙ inserts d parent.0 index new (place_of parent.0 (ids_of d.nodes)) refl put.0
 
-roots : (viewport : ℕ × ℕ) (root : NodeId × NewNodeValue) (d : Document) → root_of viewport root ≡ Ok d → length d.nodes ≡ 1
+roots : (viewport : ℕ × ℕ) (root : NodeId × NewNodeValue) (d : Document) → document_of_root viewport root ≡ Ok d → length d.nodes ≡ 1
 roots viewport (parent, root) d is = by_parent (parent.0 == 0) is
   where
     by_parent : (b : Bool) → (if b then without_fault 0 (root_fault root) (root_document viewport.0 viewport.1 root) else Err (BadNode 0 NoNode)) ≡ Ok d → length d.nodes ≡ 1

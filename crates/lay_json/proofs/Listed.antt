@@ -26,10 +26,10 @@ use Rattle.lay_json.specs.declared.fault.InputFault.TheVariants.{Missing, BadNod
 use Rattle.lay_json.specs.declared.node_form.KindName.{KindName}
 use Rattle.lay_json.specs.declared.node_form.NodeForm.{NodeForm}
 use Rattle.lay_json.specs.Fields.{then_read, map_read, value_in, object_of, whole_within, number_of, required_number}
-use Rattle.lay_json.specs.NodeForms.{kind_name, form_named, node_form, node_with, new_node, text_in, declarations_of}
-use Rattle.lay_json.specs.Nodes.{declared_or, node_at, without_fault, root_of, put_last, put_node, put_nodes}
+use Rattle.lay_json.specs.NodeForms.{kind_name, node_kind_named, node_form, node_with, new_node, text_in, declarations_in}
+use Rattle.lay_json.specs.Nodes.{declared_or, node_at, without_fault, document_of_root, put_last, put_node, put_nodes}
 use Rattle.lay_run.specs.Runs.{IsListed}
-use Rattle.lay_json.specs.Listing.{id_in, ids_in, IsListOf}
+use Rattle.lay_json.specs.Listing.{id_in, ids_in, IsNodeListing}
 
 -- a number that was read is the whole number that the field has
 number_read : (low high n : ℕ) (f : Field) (place : Spot) (d : Data) → required_number low high f place d ≡ Ok n → whole_within low high (value_in f d) ≡ Some n
@@ -57,15 +57,15 @@ form_id place d form is =
     fourth id parent (Ok kind) e = let same : record { id = record { 0 = id }; parent = record { 0 = parent }; kind = kind } ≡ form = cc in ap (λ (f : NodeForm). f.id.0) same
     fourth id parent (Err fault) e = absurd cc
 
-    third : (id parent : ℕ) (name : Result KindName InputFault) → then_read name (λ n. then_read (form_named place d n) (λ k. Ok (record { id = record { 0 = id }; parent = record { 0 = parent }; kind = k }))) ≡ Ok form → id ≡ form.id.0
-    third id parent (Ok name) e = fourth id parent (form_named place d name) e
+    third : (id parent : ℕ) (name : Result KindName InputFault) → then_read name (λ n. then_read (node_kind_named place d n) (λ k. Ok (record { id = record { 0 = id }; parent = record { 0 = parent }; kind = k }))) ≡ Ok form → id ≡ form.id.0
+    third id parent (Ok name) e = fourth id parent (node_kind_named place d name) e
     third id parent (Err fault) e = absurd cc
 
-    second : (id : ℕ) (parent : Result ℕ InputFault) → then_read parent (λ p. then_read (kind_name place d) (λ n. then_read (form_named place d n) (λ k. Ok (record { id = record { 0 = id }; parent = record { 0 = p }; kind = k })))) ≡ Ok form → id ≡ form.id.0
+    second : (id : ℕ) (parent : Result ℕ InputFault) → then_read parent (λ p. then_read (kind_name place d) (λ n. then_read (node_kind_named place d n) (λ k. Ok (record { id = record { 0 = id }; parent = record { 0 = p }; kind = k })))) ≡ Ok form → id ≡ form.id.0
     second id (Ok parent) e = third id parent (kind_name place d) e
     second id (Err fault) e = absurd cc
 
-    first : (id : Result ℕ InputFault) → then_read id (λ i. then_read (required_number 0 4294967295 Parent place d) (λ p. then_read (kind_name place d) (λ n. then_read (form_named place d n) (λ k. Ok (record { id = record { 0 = i }; parent = record { 0 = p }; kind = k }))))) ≡ Ok form → id ≡ Ok form.id.0
+    first : (id : Result ℕ InputFault) → then_read id (λ i. then_read (required_number 0 4294967295 Parent place d) (λ p. then_read (kind_name place d) (λ n. then_read (node_kind_named place d n) (λ k. Ok (record { id = record { 0 = i }; parent = record { 0 = p }; kind = k }))))) ≡ Ok form → id ≡ Ok form.id.0
     first (Ok id) e = ap Ok (second id (required_number 0 4294967295 Parent place d) e)
     first (Err fault) e = absurd cc
 
@@ -81,9 +81,9 @@ node_id id parent kind d new is = of_kind kind is
     mapped form e (Err bad) r = absurd cc
 
     of_kind : (k : Kind) → new_node (record { id = id; parent = parent; kind = k }) d ≡ Ok new → new.id ≡ id
-    of_kind (Element colspan rowspan) r = mapped (record { id = id; parent = parent; kind = Element colspan rowspan }) refl (declarations_of d) r
+    of_kind (Element colspan rowspan) r = mapped (record { id = id; parent = parent; kind = Element colspan rowspan }) refl (declarations_in d) r
     of_kind Text r = of_node (node_with (record { id = id; parent = parent; kind = Text }) (text_in (value_in in_text d)) []) _ refl r refl
-    of_kind (Replaced w h) r = mapped (record { id = id; parent = parent; kind = Replaced w h }) refl (declarations_of d) r
+    of_kind (Replaced w h) r = mapped (record { id = id; parent = parent; kind = Replaced w h }) refl (declarations_in d) r
 
 -- so a node of the list has the id that its object has
 id_at : (k : ℕ) (d : Data) (node : NodeId × NewNodeValue) → node_at k d ≡ Ok node → node.1.id ≡ id_in d
@@ -148,10 +148,10 @@ put_nodes_listed d e (item x xs) listed is put = first (λ f. put_nodes_listed f
     first after (Err fault) was p = absurd cc
 
 -- the ids of the nodes that give a document are those of its nodes
-pub document_listed : (first : Data) (rest : Items) → IsListOf first rest (id_in first ∷ ids_in rest)
+pub document_listed : (first : Data) (rest : Items) → IsNodeListing first rest (id_in first ∷ ids_in rest)
 document_listed first rest = λ viewport e is. root_read viewport e (node_at 0 first) refl is
   where
-    root_listed : (viewport : ℕ × ℕ) (d : Document) (root : NodeId × NewNodeValue) → node_at 0 first ≡ Ok root → root_of viewport root ≡ Ok d → IsListed d (id_in first ∷ [])
+    root_listed : (viewport : ℕ × ℕ) (d : Document) (root : NodeId × NewNodeValue) → node_at 0 first ≡ Ok root → document_of_root viewport root ≡ Ok d → IsListed d (id_in first ∷ [])
     root_listed viewport d root was is = of_parent (root.0.0 == 0) is
       where
         no_fault : (fault : Option EditFault) → without_fault 0 fault (root_document viewport.0 viewport.1 root.1) ≡ Ok d → root_document viewport.0 viewport.1 root.1 ≡ d
@@ -165,10 +165,10 @@ document_listed first rest = λ viewport e is. root_read viewport e (node_at 0 f
             rw (← same, id) (IsPermutation-refl _)
         of_parent false e = absurd cc
 
-    rest_put : (viewport : ℕ × ℕ) (e : Document) (root : NodeId × NewNodeValue) → node_at 0 first ≡ Ok root → (d : Result Document InputFault) → root_of viewport root ≡ d → then_read d (λ f. put_nodes f rest) ≡ Ok e → IsListed e (id_in first ∷ ids_in rest)
+    rest_put : (viewport : ℕ × ℕ) (e : Document) (root : NodeId × NewNodeValue) → node_at 0 first ≡ Ok root → (d : Result Document InputFault) → document_of_root viewport root ≡ d → then_read d (λ f. put_nodes f rest) ≡ Ok e → IsListed e (id_in first ∷ ids_in rest)
     rest_put viewport e root was (Ok d) made p = put_nodes_listed d e rest (id_in first ∷ []) (root_listed viewport d root was made) p
     rest_put viewport e root was (Err fault) made p = absurd cc
 
-    root_read : (viewport : ℕ × ℕ) (e : Document) (root : Result (NodeId × NewNodeValue) InputFault) → node_at 0 first ≡ root → then_read root (λ r. then_read (root_of viewport r) (λ d. put_nodes d rest)) ≡ Ok e → IsListed e (id_in first ∷ ids_in rest)
-    root_read viewport e (Ok root) was p = rest_put viewport e root was (root_of viewport root) refl p
+    root_read : (viewport : ℕ × ℕ) (e : Document) (root : Result (NodeId × NewNodeValue) InputFault) → node_at 0 first ≡ root → then_read root (λ r. then_read (document_of_root viewport r) (λ d. put_nodes d rest)) ≡ Ok e → IsListed e (id_in first ∷ ids_in rest)
+    root_read viewport e (Ok root) was p = rest_put viewport e root was (document_of_root viewport root) refl p
     root_read viewport e (Err fault) was p = absurd cc

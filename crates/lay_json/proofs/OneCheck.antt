@@ -14,7 +14,7 @@ use Rattle.lay_json.specs.declared.sheet_in.SheetIn.{SheetIn}
 use Rattle.lay_json.specs.Fields.{then_read, map_read, text_of}
 use Rattle.lay_json.specs.SheetNames.{input_of}
 use Rattle.lay_json.specs.CheckDocuments.{check_of, report_in, run_in}
-use Rattle.lay_json.specs.Reading.{HoldsBoth, IsInput, IsReading, too_long, bad_json, json, no_run, with_run, check_too_long, check_bad_json, check_json}
+use Rattle.lay_json.specs.Reading.{HoldsBoth, IsInput, IsRunReading, too_long, bad_json, json, no_run, with_run, check_too_long, check_bad_json, check_json}
 use Rattle.lay_json.specs.Laws.{OneCheck, RunsReadBesideReports}
 use Rattle.lay_json.proofs.OneInput.{input_read, one_in}
 use Rattle.lay_json.proofs.OneReading.{no_json, one-some}
@@ -56,7 +56,7 @@ refusal-run : (run : Run) (fault : InputFault) → Ok run ≡ Err fault → ⊥
 refusal-run run fault e = absurd cc
 
 -- bytes that say a run aren't too many
-few_read : (bytes : List ℕ) (run : Run) → IsReading bytes (Ok run) → length bytes ≤ 16777216
+few_read : (bytes : List ℕ) (run : Run) → IsRunReading bytes (Ok run) → length bytes ≤ 16777216
 few_read bytes run (too_long l p) = absurd (refusal-run run TooLong p)
 few_read bytes run (bad_json l n p) = l
 few_read bytes run (json v l i p) = l

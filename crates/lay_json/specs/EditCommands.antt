@@ -20,7 +20,7 @@ use Rattle.lay_json.specs.declared.fault.InputFault.TheVariants.{WrongKind}
 use Rattle.lay_json.specs.declared.edit.Change.{Change}
 use Rattle.lay_json.specs.declared.edit.Change.TheVariants.{Set, Clear, Text, Insert, Remove}
 use Rattle.lay_json.specs.Fields.{then_read, map_read, object_of, required_text, required_number}
-use Rattle.lay_json.specs.NodeForms.{node_form, new_node, declaration_of}
+use Rattle.lay_json.specs.NodeForms.{node_form, new_node, declaration_of_texts}
 
 -- the edit that a text of `do` names
 abbrev pub change_named : List ℕ → Option Change
@@ -48,7 +48,7 @@ set_command place d =
     then_read (named_node place d) (λ node.
     then_read (required_text a_property place d) (λ property.
     then_read (required_text a_value place d) (λ value.
-    Ok (style_set node (declaration_of property value)))))
+    Ok (style_set node (declaration_of_texts property value)))))
 
 -- what a node declares for a property is taken away; where there is no such property, the edit is a bad one
 abbrev pub style_cleared : NodeId → Option Property → Edit

@@ -24,13 +24,13 @@ abbrev pub within_limits : List (List Cmd) → List Cmd → Cmd → Result Cmd I
 within_limits before own c = if is_past before own c then Err TooManyCommands else Ok c
 
 -- the command that a value is, after these scripts and these commands of its own script
-abbrev pub next_command : List (List Cmd) → List Cmd → Data → Result Cmd InputFault
-next_command before own d =
+abbrev pub next_script_command : List (List Cmd) → List Cmd → Data → Result Cmd InputFault
+next_script_command before own d =
     then_read (command_of (length before + 1) (length own) d) (within_limits before own)
 
 -- the own commands with the one that a value is
 abbrev pub with_command : List (List Cmd) → List Cmd → Data → Result (List Cmd) InputFault
-with_command before own d = map_read (λ c. own ++ c ∷ []) (next_command before own d)
+with_command before own d = map_read (λ c. own ++ c ∷ []) (next_script_command before own d)
 
 -- the script of these commands and those of the items
 abbrev pub script_from : List (List Cmd) → List Cmd → Items → Result (List Cmd) InputFault
@@ -39,12 +39,12 @@ script_from before own (item d ds) =
     then_read (with_command before own d) (λ longer. script_from before longer ds)
 
 -- the script of the editor that follows these
-abbrev pub script_of : List (List Cmd) → Data → Result (List Cmd) InputFault
-script_of before d = then_read (list_of Editors in_run d) (script_from before [])
+abbrev pub script_after : List (List Cmd) → Data → Result (List Cmd) InputFault
+script_after before d = then_read (list_of Editors in_run d) (script_from before [])
 
 -- the scripts with the one that a value is
 abbrev pub with_script : List (List Cmd) → Data → Result (List (List Cmd)) InputFault
-with_script before d = map_read (λ script. before ++ script ∷ []) (script_of before d)
+with_script before d = map_read (λ script. before ++ script ∷ []) (script_after before d)
 
 -- these scripts and those of the items
 abbrev pub scripts_from : List (List Cmd) → Items → Result (List (List Cmd)) InputFault

@@ -16,38 +16,38 @@ use Rattle.lay_json.specs.declared.fault.InputFault.{InputFault}
 use Rattle.lay_json.specs.declared.fault.InputFault.TheVariants.{Missing, WrongKind, BadNumber, NoMemory}
 
 -- the name of a field, as the run document writes it
-abbrev pub name_of : Field → List ℕ
-name_of Run = codes "run"
-name_of Viewport = codes "viewport"
-name_of Face = codes "face"
-name_of Advance = codes "advance"
-name_of Default = codes "default"
-name_of Ascent = codes "ascent"
-name_of Descent = codes "descent"
-name_of XHeight = codes "xheight"
-name_of Normal = codes "normal"
-name_of Nodes = codes "nodes"
-name_of Editors = codes "editors"
-name_of Id = codes "id"
-name_of Parent = codes "parent"
-name_of Kind = codes "kind"
-name_of Style = codes "style"
-name_of Colspan = codes "colspan"
-name_of Rowspan = codes "rowspan"
-name_of Text = codes "text"
-name_of Natural = codes "natural"
-name_of Do = codes "do"
-name_of Node = codes "node"
-name_of Property = codes "property"
-name_of Value = codes "value"
-name_of Index = codes "index"
-name_of Edits = codes "edits"
-name_of Sheet = codes "sheet"
-name_of Tag = codes "tag"
-name_of Label = codes "label"
-name_of Classes = codes "classes"
-name_of Check = codes "check"
-name_of Report = codes "report"
+abbrev pub field_name : Field → List ℕ
+field_name Run = codes "run"
+field_name Viewport = codes "viewport"
+field_name Face = codes "face"
+field_name Advance = codes "advance"
+field_name Default = codes "default"
+field_name Ascent = codes "ascent"
+field_name Descent = codes "descent"
+field_name XHeight = codes "xheight"
+field_name Normal = codes "normal"
+field_name Nodes = codes "nodes"
+field_name Editors = codes "editors"
+field_name Id = codes "id"
+field_name Parent = codes "parent"
+field_name Kind = codes "kind"
+field_name Style = codes "style"
+field_name Colspan = codes "colspan"
+field_name Rowspan = codes "rowspan"
+field_name Text = codes "text"
+field_name Natural = codes "natural"
+field_name Do = codes "do"
+field_name Node = codes "node"
+field_name Property = codes "property"
+field_name Value = codes "value"
+field_name Index = codes "index"
+field_name Edits = codes "edits"
+field_name Sheet = codes "sheet"
+field_name Tag = codes "tag"
+field_name Label = codes "label"
+field_name Classes = codes "classes"
+field_name Check = codes "check"
+field_name Report = codes "report"
 
 -- what the next part of a document gives, or the fault of the part before it
 abbrev pub then_read : {A B E : Type 0} → Result A E → (A → Result B E) → Result B E
@@ -71,7 +71,7 @@ Changes (Err fault) new read = fault ≢ NoMemory → read ≡ Err fault
 
 -- the value of a field, where the object has it
 abbrev pub value_in : Field → Data → Option Data
-value_in f d = get (name_of f) d
+value_in f d = get (field_name f) d
 
 -- the value of a field that must be there
 abbrev pub required : Field → Spot → Data → Result Data InputFault
@@ -87,13 +87,13 @@ list_of f place d = ok_or (as_array d) (WrongKind f place)
 abbrev pub text_of : Field → Spot → Data → Result (List ℕ) InputFault
 text_of f place d = ok_or (as_str d) (WrongKind f place)
 
-abbrev pub count_of : Items → ℕ
-count_of no_items = 0
-count_of (item d ds) = suc (count_of ds)
+abbrev pub count_of_items : Items → ℕ
+count_of_items no_items = 0
+count_of_items (item d ds) = suc (count_of_items ds)
 
 -- whether a list has at most so many items
 abbrev pub has_at_most : ℕ → Items → Bool
-has_at_most most ds = nat_le (count_of ds) most
+has_at_most most ds = nat_le (count_of_items ds) most
 
 -- the whole number that a value is, where it is one from low to high
 abbrev pub whole_within : ℕ → ℕ → Option Data → Option ℕ

@@ -5,20 +5,20 @@ use Rattle.lay_doc.specs.declared.node.NodeId.{NodeId}
 use Rattle.lay_doc.specs.NewNodes.{NewNodeValue}
 use Rattle.lay_doc.specs.Document.{Document}
 use Rattle.lay_json.specs.declared.fault.InputFault.{InputFault}
-use Rattle.lay_json.specs.Nodes.{root_of, put_node}
+use Rattle.lay_json.specs.Nodes.{document_of_root, put_node}
 use Rattle.lay_run.specs.Runs.{Run}
 use Rattle.lay_json.specs.declared.sheet_in.SheetIn.{SheetIn}
 use Rattle.lay_json.specs.declared.check_in.CheckIn.{CheckIn}
-use Rattle.lay_json.specs.Reading.{IsReading, AreNames, IsInput, IsCheck, HoldsBoth}
+use Rattle.lay_json.specs.Reading.{IsRunReading, AreNames, IsInput, IsCheck, HoldsBoth}
 
 -- bytes have one reading
 abbrev pub OneReading : Type 0
-OneReading = (bytes : List ℕ) (a b : Result Run InputFault) → IsReading bytes a → IsReading bytes b → a ≡ b
+OneReading = (bytes : List ℕ) (a b : Result Run InputFault) → IsRunReading bytes a → IsRunReading bytes b → a ≡ b
 
 -- there is one node after the first is read, and one more after each later one
 abbrev pub NodesAreCounted : Type 0
 NodesAreCounted =
-    ((viewport : ℕ × ℕ) (root : NodeId × NewNodeValue) (d : Document) → root_of viewport root ≡ Ok d → length d.nodes ≡ 1)
+    ((viewport : ℕ × ℕ) (root : NodeId × NewNodeValue) (d : Document) → document_of_root viewport root ≡ Ok d → length d.nodes ≡ 1)
     × ((d e : Document) (x : Data) → put_node d x ≡ Ok e → length e.nodes ≡ length d.nodes + 1)
 
 -- and one reading with a sheet and names

@@ -17,5 +17,5 @@ ids_in no_items = []
 ids_in (item d ds) = id_in d ∷ ids_in ds
 
 -- where the nodes give a document, the ids are those of its nodes
-abbrev pub IsListOf : Data → Items → List NodeId → Type 0
-IsListOf first rest listed = (viewport : ℕ × ℕ) (d : Document) → document_of viewport first rest ≡ Ok d → IsListed d listed
+abbrev pub IsNodeListing : Data → Items → List NodeId → Type 0
+IsNodeListing first rest listed = (viewport : ℕ × ℕ) (d : Document) → document_of viewport first rest ≡ Ok d → IsListed d listed

@@ -54,32 +54,32 @@ style_of place d = given_or_none (value_in Style d)
     given_or_none (Some style) = texts_of place style
 
 -- so many px
-abbrev pub px : ℕ → Unit
-px n = record { 0 = pos (64 * n) }
+abbrev pub px_unit : ℕ → Unit
+px_unit n = record { 0 = pos (64 * n) }
 
 -- an element: its style, and its spans of 1 to 64, which are 1 where they are absent
-abbrev pub element_form : Spot → Data → Result NodeKind InputFault
-element_form place d =
+abbrev pub element_kind_of : Spot → Data → Result NodeKind InputFault
+element_kind_of place d =
     then_read (style_of place d) (λ style.
     then_read (number_or 1 1 64 Colspan place d) (λ colspan.
     then_read (number_or 1 1 64 Rowspan place d) (λ rowspan.
     Ok (Element colspan rowspan))))
 
 -- a text
-abbrev pub text_form : Spot → Data → Result NodeKind InputFault
-text_form place d = then_read (required_text Text place d) (λ text. Ok text_kind)
+abbrev pub text_kind_of : Spot → Data → Result NodeKind InputFault
+text_kind_of place d = then_read (required_text Text place d) (λ text. Ok text_kind)
 
 -- a replaced element: its style and its natural size
-abbrev pub replaced_form : Spot → Data → Result NodeKind InputFault
-replaced_form place d =
+abbrev pub replaced_kind_of : Spot → Data → Result NodeKind InputFault
+replaced_kind_of place d =
     then_read (style_of place d) (λ style.
     then_read (required_sides Natural place d) (λ size.
-    Ok (Replaced (px size.0) (px size.1))))
+    Ok (Replaced (px_unit size.0) (px_unit size.1))))
 
-abbrev pub form_named : Spot → Data → KindName → Result NodeKind InputFault
-form_named place d an_element = element_form place d
-form_named place d a_text = text_form place d
-form_named place d a_replaced = replaced_form place d
+abbrev pub node_kind_named : Spot → Data → KindName → Result NodeKind InputFault
+node_kind_named place d an_element = element_kind_of place d
+node_kind_named place d a_text = text_kind_of place d
+node_kind_named place d a_replaced = replaced_kind_of place d
 
 -- the forms of all fields of a node, in their order: its id, its parent's id and its kind
 abbrev pub node_form : Spot → Data → Result NodeForm InputFault
@@ -87,7 +87,7 @@ node_form place d =
     then_read (required_number 1 4294967295 Id place d) (λ id.
     then_read (required_number 0 4294967295 Parent place d) (λ parent.
     then_read (kind_name place d) (λ name.
-    then_read (form_named place d name) (λ kind.
+    then_read (node_kind_named place d name) (λ kind.
     Ok (record { id = record { 0 = id }; parent = record { 0 = parent }; kind = kind })))))
 
 -- why a name and a text give no declaration
@@ -95,13 +95,13 @@ abbrev pub bad_declaration : ValueFault → BadDeclaration
 bad_declaration BadProperty = no_property
 bad_declaration _ = no_value
 
-abbrev pub declared : Result Declaration ValueFault → Result Declaration BadDeclaration
-declared (Ok decl) = Ok decl
-declared (Err fault) = Err (bad_declaration fault)
+abbrev pub judged_declaration : Result Declaration ValueFault → Result Declaration BadDeclaration
+judged_declaration (Ok decl) = Ok decl
+judged_declaration (Err fault) = Err (bad_declaration fault)
 
 -- the declaration of a property's name and the text of its value
-abbrev pub declaration_of : List ℕ → List ℕ → Result Declaration BadDeclaration
-declaration_of name text = declared (read_declaration name text)
+abbrev pub declaration_of_texts : List ℕ → List ℕ → Result Declaration BadDeclaration
+declaration_of_texts name text = judged_declaration (read_declaration name text)
 
 -- a value that is a text, after its form was judged
 abbrev pub text_in : Option Data → List ℕ
@@ -116,10 +116,10 @@ style_members d = unwrap_or (option_and_then as_object (value_in Style d)) no_me
 abbrev pub declarations_from : List Declaration → Members → Result (List Declaration) BadDeclaration
 declarations_from decls no_members = Ok decls
 declarations_from decls (member name d ms) =
-    then_read (declaration_of name (text_in (Some d))) (λ decl. declarations_from (with_declaration decl decls) ms)
+    then_read (declaration_of_texts name (text_in (Some d))) (λ decl. declarations_from (with_declaration decl decls) ms)
 
-abbrev pub declarations_of : Data → Result (List Declaration) BadDeclaration
-declarations_of d = declarations_from [] (style_members d)
+abbrev pub declarations_in : Data → Result (List Declaration) BadDeclaration
+declarations_in d = declarations_from [] (style_members d)
 
 -- a node of this form with these declarations and this text
 abbrev pub node_with : NodeForm → List ℕ → List Declaration → NewNodeValue
@@ -131,6 +131,6 @@ abbrev pub new_node : NodeForm → Data → Result NewNodeValue BadDeclaration
 new_node form d = of_kind form.kind
   where
     of_kind : NodeKind → Result NewNodeValue BadDeclaration
-    of_kind (Element colspan rowspan) = map_read (node_with form []) (declarations_of d)
+    of_kind (Element colspan rowspan) = map_read (node_with form []) (declarations_in d)
     of_kind text_kind = Ok (node_with form (text_in (value_in Text d)) [])
-    of_kind (Replaced w h) = map_read (node_with form []) (declarations_of d)
+    of_kind (Replaced w h) = map_read (node_with form []) (declarations_in d)

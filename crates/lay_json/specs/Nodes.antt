@@ -41,8 +41,8 @@ without_fault k None d = Ok d
 without_fault k (Some fault) d = Err (BadNode k fault)
 
 -- the document of the first node, which has no parent
-abbrev pub root_of : ℕ × ℕ → NodeId × NewNodeValue → Result Document InputFault
-root_of viewport (parent, root) =
+abbrev pub document_of_root : ℕ × ℕ → NodeId × NewNodeValue → Result Document InputFault
+document_of_root viewport (parent, root) =
     if parent.0 == 0 then without_fault 0 (root_fault root) (root_document viewport.0 viewport.1 root)
     else Err (BadNode 0 NoNode)
 
@@ -63,5 +63,5 @@ put_nodes d (item x xs) = then_read (put_node d x) (λ e. put_nodes e xs)
 abbrev pub document_of : ℕ × ℕ → Data → Items → Result Document InputFault
 document_of viewport first rest =
     then_read (node_at 0 first) (λ root.
-    then_read (root_of viewport root) (λ d.
+    then_read (document_of_root viewport root) (λ d.
     put_nodes d rest))

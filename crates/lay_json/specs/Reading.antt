@@ -23,10 +23,10 @@ abbrev pub IsNoJson : List ℕ → Type 0
 IsNoJson bytes = IsUtf8 bytes → read bytes ≡ None
 
 -- the bytes say this run, or have this first fault
-pub data IsReading (bytes : List ℕ) (outcome : Result Run InputFault) : Type 0 where
-  too_long : 16777216 < length bytes → outcome ≡ Err TooLong → IsReading bytes outcome
-  bad_json : length bytes ≤ 16777216 → IsNoJson bytes → outcome ≡ Err BadJson → IsReading bytes outcome
-  json : (value : Data) → length bytes ≤ 16777216 → IsJson bytes value → outcome ≡ run_of value → IsReading bytes outcome
+pub data IsRunReading (bytes : List ℕ) (outcome : Result Run InputFault) : Type 0 where
+  too_long : 16777216 < length bytes → outcome ≡ Err TooLong → IsRunReading bytes outcome
+  bad_json : length bytes ≤ 16777216 → IsNoJson bytes → outcome ≡ Err BadJson → IsRunReading bytes outcome
+  json : (value : Data) → length bytes ≤ 16777216 → IsJson bytes value → outcome ≡ run_of value → IsRunReading bytes outcome
 
 -- the bytes say this sheet with these names, or have this first fault of theirs
 pub data AreNames (bytes : List ℕ) (outcome : Result SheetIn InputFault) : Type 0 where
@@ -36,8 +36,8 @@ pub data AreNames (bytes : List ℕ) (outcome : Result SheetIn InputFault) : Typ
 
 -- the bytes say this run with this sheet, or have this first fault: all faults of the run come before those of the sheet
 pub data IsInput (bytes : List ℕ) (outcome : Result (Run × SheetIn) InputFault) : Type 0 where
-  no_run : (fault : InputFault) → IsReading bytes (Err fault) → outcome ≡ Err fault → IsInput bytes outcome
-  with_run : (run : Run) (names : Result SheetIn InputFault) → IsReading bytes (Ok run) → AreNames bytes names →
+  no_run : (fault : InputFault) → IsRunReading bytes (Err fault) → outcome ≡ Err fault → IsInput bytes outcome
+  with_run : (run : Run) (names : Result SheetIn InputFault) → IsRunReading bytes (Ok run) → AreNames bytes names →
       outcome ≡ map_read (λ sheet. (run, sheet)) names → IsInput bytes outcome
 
 -- the bytes are of an object that holds the run document which other bytes are of, and this report

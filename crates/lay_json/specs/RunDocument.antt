@@ -31,15 +31,15 @@ editor_list run = given_or_none (value_in Editors run)
     given_or_none (Some d) = list_of Editors in_run d
 
 -- the viewport's width and height
-abbrev pub viewport_of : Data → Result (ℕ × ℕ) InputFault
-viewport_of run = required_sides Viewport in_run run
+abbrev pub viewport_sides : Data → Result (ℕ × ℕ) InputFault
+viewport_sides run = required_sides Viewport in_run run
 
 -- the run of a run document, or its first fault: the fields in their order, the nodes one after the other,
 -- and the editors
 abbrev pub run_of : Data → Result Run InputFault
 run_of run =
     then_read (object_of run_field in_run run) (λ members.
-    then_read (viewport_of run) (λ viewport.
+    then_read (viewport_sides run) (λ viewport.
     then_read (run_face run) (λ face.
     then_read (node_list run) (λ nodes.
     then_read (editor_list run) (λ editors.

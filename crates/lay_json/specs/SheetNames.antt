@@ -72,15 +72,15 @@ names_from before no_items = Ok before
 names_from before (item d ds) = then_read (with_names before d) (λ longer. names_from longer ds)
 
 -- a run's nodes, after their forms were judged
-abbrev pub items_in : Data → Items
-items_in d = unwrap_or (as_array d) no_items
+abbrev pub items_or_none : Data → Items
+items_or_none d = unwrap_or (as_array d) no_items
 
 abbrev pub nodes_in : Data → Items
 nodes_in run = given_or_none (value_in Nodes run)
   where
     given_or_none : Option Data → Items
     given_or_none None = no_items
-    given_or_none (Some d) = items_in d
+    given_or_none (Some d) = items_or_none d
 
 -- the text of a sheet, with what the run's nodes are called
 abbrev pub with_sheet : Data → Data → Result SheetIn InputFault

@@ -4,7 +4,7 @@ ghost use Rattle.std.specs.Prelude.{◌≡◌, ◌≤◌, ◌<◌, ◌+◌, ◌+
 ghost use Rattle.serde_json.specs.View.{view, items_view};
 ghost use Rattle.lay_json.specs.Fields.{Gives, Changes};
 ghost use Rattle.lay_run.specs.Scripts.{is_read, reads_of, command_count, read_count};
-ghost use Rattle.lay_json.specs.Editors.{is_past, next_command, with_command, script_from};
+ghost use Rattle.lay_json.specs.Editors.{is_past, next_script_command, with_command, script_from};
 ghost use Rattle.lay_json.specs.Editors.{with_script, scripts_from, are_lists, scripts_of};
 
 use crate::command::command_of;
@@ -112,7 +112,7 @@ fn next_command(
     value: &Value,
 ) -> Result<Cmd, InputFault>
     requires { editor ≡ length before.now + 1 }
-    ensures value { Gives result (next_command before.now own.now (view value.now)) }
+    ensures value { Gives result (next_script_command before.now own.now (view value.now)) }
     ensures within { IfOk result (λ c. is_past before.now own.now c ≡ false) }
 {
     let index = own.len() as u32;

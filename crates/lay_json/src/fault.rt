@@ -1,7 +1,7 @@
 //! Faults of a run document.
 
 ghost use Rattle.std.specs.Prelude.{◌≡◌};
-ghost use Rattle.lay_json.specs.Fields.{name_of};
+ghost use Rattle.lay_json.specs.Fields.{field_name};
 
 use lay_doc::EditFault;
 use lay_units::NoMemory;
@@ -46,7 +46,7 @@ pub enum Field {
 impl Field {
     /// Its name, as the run document writes it.
     pub fn name(self) -> &'static str
-        ensures { result.now ≡ name_of self }
+        ensures { result.now ≡ field_name self }
     {
         match self {
             Field::Run => "run",

@@ -2,7 +2,7 @@
 
 ghost use Rattle.std.specs.Prelude.{◌≡◌, ◌∷◌, IfOk};
 ghost use Rattle.serde_json.specs.View.{view, items_view};
-ghost use Rattle.lay_json.specs.Listing.{id_in, ids_in, IsListOf};
+ghost use Rattle.lay_json.specs.Listing.{id_in, ids_in, IsNodeListing};
 
 use crate::fault::Field;
 use crate::fields::{IDS, value_in, whole_within};
@@ -23,7 +23,7 @@ fn id_in(node: &Value) -> NodeId
 /// The ids of a first node and of those after it, in this order, after their forms were judged.
 pub(crate) fn listed_in(alloc: Global, first: &Value, rest: &[Value]) -> Result<NodeList, NoMemory>
     ensures value { IfOk result (λ l. l ≡ id_in (view first.now) ∷ ids_in (items_view rest.now)) }
-    ensures listed { IfOk result (λ l. IsListOf (view first.now) (items_view rest.now) l) }
+    ensures listed { IfOk result (λ l. IsNodeListing (view first.now) (items_view rest.now) l) }
 {
     let mut listed = NodeList::new(alloc);
     listed.push(id_in(first))?;

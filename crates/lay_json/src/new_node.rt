@@ -4,8 +4,8 @@ ghost use Rattle.std.specs.Prelude.{◌≡◌, [], IfOk, option_map};
 ghost use Rattle.serde_json.specs.View.{view, members_view};
 ghost use Rattle.lay_doc.specs.NewNodes.{IsNodeForm};
 ghost use Rattle.lay_json.specs.Fields.{map_read, value_in};
-ghost use Rattle.lay_json.specs.NodeForms.{bad_declaration, declaration_of, text_in};
-ghost use Rattle.lay_json.specs.NodeForms.{declarations_from, declarations_of, node_with, new_node};
+ghost use Rattle.lay_json.specs.NodeForms.{bad_declaration, declaration_of_texts, text_in};
+ghost use Rattle.lay_json.specs.NodeForms.{declarations_from, declarations_in, node_with, new_node};
 
 use crate::fault::Field;
 use crate::fields::value_in;
@@ -28,7 +28,7 @@ fn bad_declaration(fault: ValueFault) -> BadDeclaration
 
 /// The declaration of a property's name and the text of its value.
 pub(crate) fn declaration_of(alloc: Global, name: &str, text: &str) -> Result<Decl, BadDeclaration>
-    ensures { result ≡ declaration_of name.now text.now }
+    ensures { result ≡ declaration_of_texts name.now text.now }
 {
     match read(alloc, name, text) {
         Ok(decl) => Ok(decl),
@@ -65,7 +65,7 @@ fn declarations_in(
 
 /// The declarations of a node's `style`, after its form was judged.
 fn declarations_of(alloc: Global, object: &Value) -> Result<Result<Decls, BadDeclaration>, NoMemory>
-    ensures { IfOk result (λ r. r ≡ declarations_of (view object.now)) }
+    ensures { IfOk result (λ r. r ≡ declarations_in (view object.now)) }
 {
     let Some(style) = value_in(object, Field::Style) else {
         return Ok(Ok(Decls::new(alloc)));
@@ -85,7 +85,7 @@ fn element(
 ) -> Result<Result<NewNode, BadDeclaration>, NoMemory>
     requires kind { form.now.kind ≡ Kind.Element colspan rowspan }
     requires form { IsNodeForm form.now.kind [] [] }
-    ensures { IfOk result (λ r. r ≡ map_read (node_with form.now []) (declarations_of (view object.now))) }
+    ensures { IfOk result (λ r. r ≡ map_read (node_with form.now []) (declarations_in (view object.now))) }
 {
     match declarations_of(alloc, object)? {
         Ok(decls) => Ok(Ok(NewNode::element(alloc, form.id, colspan, rowspan, decls))),
@@ -110,7 +110,7 @@ fn replaced(
 ) -> Result<Result<NewNode, BadDeclaration>, NoMemory>
     requires kind { form.now.kind ≡ Kind.Replaced w h }
     requires form { IsNodeForm form.now.kind [] [] }
-    ensures { IfOk result (λ r. r ≡ map_read (node_with form.now []) (declarations_of (view object.now))) }
+    ensures { IfOk result (λ r. r ≡ map_read (node_with form.now []) (declarations_in (view object.now))) }
 {
     match declarations_of(alloc, object)? {
         Ok(decls) => Ok(Ok(NewNode::replaced(alloc, form.id, w, h, decls))),

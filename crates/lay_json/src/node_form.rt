@@ -4,8 +4,8 @@ ghost use Rattle.std.specs.Prelude.{◌≡◌, ◌≤◌, [], IfOk};
 ghost use Rattle.serde_json.specs.View.{view, members_view};
 ghost use Rattle.lay_doc.specs.NewNodes.{IsNodeForm};
 ghost use Rattle.lay_json.specs.Fields.{map_read};
-ghost use Rattle.lay_json.specs.NodeForms.{kind_named, kind_name, are_texts, texts_of, style_of, px};
-ghost use Rattle.lay_json.specs.NodeForms.{element_form, text_form, replaced_form, form_named, node_form};
+ghost use Rattle.lay_json.specs.NodeForms.{kind_named, kind_name, are_texts, texts_of, style_of, px_unit};
+ghost use Rattle.lay_json.specs.NodeForms.{element_kind_of, text_kind_of, replaced_kind_of, node_kind_named, node_form};
 
 use crate::fault::{Field, InputFault, Spot};
 use crate::fields::{
@@ -94,13 +94,13 @@ fn check_style(object: &Value, place: Spot) -> Result<(), InputFault>
 
 fn px(n: u64) -> Unit
     requires { n ≤ 1000000 }
-    ensures { result ≡ px n }
+    ensures { result ≡ px_unit n }
 {
     Unit(64 * n as i64)
 }
 
 fn element_form(object: &Value, place: Spot) -> Result<Kind, InputFault>
-    ensures value { result ≡ element_form place (view object.now) }
+    ensures value { result ≡ element_kind_of place (view object.now) }
     ensures form { IfOk result (λ k. IsNodeForm k [] []) }
 {
     check_style(object, place)?;
@@ -113,7 +113,7 @@ fn element_form(object: &Value, place: Spot) -> Result<Kind, InputFault>
 }
 
 fn text_form(object: &Value, place: Spot) -> Result<Kind, InputFault>
-    ensures value { result ≡ text_form place (view object.now) }
+    ensures value { result ≡ text_kind_of place (view object.now) }
     ensures form { IfOk result (λ k. IsNodeForm k [] []) }
 {
     required_text(object, Field::Text, place)?;
@@ -121,7 +121,7 @@ fn text_form(object: &Value, place: Spot) -> Result<Kind, InputFault>
 }
 
 fn replaced_form(object: &Value, place: Spot) -> Result<Kind, InputFault>
-    ensures value { result ≡ replaced_form place (view object.now) }
+    ensures value { result ≡ replaced_kind_of place (view object.now) }
     ensures form { IfOk result (λ k. IsNodeForm k [] []) }
 {
     check_style(object, place)?;
@@ -130,7 +130,7 @@ fn replaced_form(object: &Value, place: Spot) -> Result<Kind, InputFault>
 }
 
 fn form_named(object: &Value, place: Spot, name: KindName) -> Result<Kind, InputFault>
-    ensures value { result ≡ form_named place (view object.now) name }
+    ensures value { result ≡ node_kind_named place (view object.now) name }
     ensures form { IfOk result (λ k. IsNodeForm k [] []) }
 {
     match name {

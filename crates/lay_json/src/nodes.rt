@@ -3,7 +3,7 @@
 ghost use Rattle.std.specs.Prelude.{◌≡◌, ◌≤◌, ◌<◌, length};
 ghost use Rattle.serde_json.specs.View.{view, items_view};
 ghost use Rattle.lay_json.specs.Fields.{Gives, Changes};
-ghost use Rattle.lay_json.specs.Nodes.{bad_decl, node_at, root_of, put_last, put_node, put_nodes, document_of};
+ghost use Rattle.lay_json.specs.Nodes.{bad_decl, node_at, document_of_root, put_last, put_node, put_nodes, document_of};
 
 use crate::fault::{Field, InputFault, Spot};
 use crate::fields::object_of;
@@ -45,7 +45,7 @@ fn root_of(
 ) -> Result<Gathered, InputFault>
     requires low { (1 ≤ viewport.0) × (1 ≤ viewport.1) }
     requires high { (viewport.0 ≤ 1000000) × (viewport.1 ≤ 1000000) }
-    ensures { Gives result (root_of viewport (parent, root)) }
+    ensures { Gives result (document_of_root viewport (parent, root)) }
 {
     if parent.0 != 0 {
         return Err(InputFault::BadNode {

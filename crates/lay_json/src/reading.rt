@@ -4,7 +4,7 @@ ghost use Rattle.std.specs.Prelude.{◌≢◌, Err};
 ghost use Rattle.serde_json.specs.View.{view};
 ghost use Rattle.lay_json.specs.Fields.{Gives};
 ghost use Rattle.lay_json.specs.SheetNames.{input_of};
-ghost use Rattle.lay_json.specs.Reading.{IsReading, IsInput, IsCheck};
+ghost use Rattle.lay_json.specs.Reading.{IsRunReading, IsInput, IsCheck};
 
 use crate::check::check_of;
 use crate::check_in::CheckIn;
@@ -20,7 +20,7 @@ const MOST_BYTES: usize = 16777216;
 
 /// The run that the bytes of a run document say, or their first fault.
 pub fn read_run(alloc: Global, bytes: &[u8]) -> Result<RunDoc, InputFault>
-    ensures { result ≢ Err InputFault.NoMemory → IsReading bytes.now result }
+    ensures { result ≢ Err InputFault.NoMemory → IsRunReading bytes.now result }
 {
     if bytes.len() > MOST_BYTES {
         return Err(InputFault::TooLong);

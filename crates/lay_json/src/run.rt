@@ -3,7 +3,7 @@
 ghost use Rattle.std.specs.Prelude.{◌≡◌, ◌≤◌, IfOk};
 ghost use Rattle.serde_json.specs.View.{view, items_view};
 ghost use Rattle.lay_json.specs.Fields.{map_read, Gives};
-ghost use Rattle.lay_json.specs.RunDocument.{some_nodes, node_list, editor_list, viewport_of, run_of};
+ghost use Rattle.lay_json.specs.RunDocument.{some_nodes, node_list, editor_list, viewport_sides, run_of};
 
 use crate::editors::scripts_of;
 use crate::face_fields::run_face;
@@ -20,7 +20,7 @@ use std::sync::Arc;
 
 /// The viewport's width and height, in px.
 fn viewport_of(run: &Value) -> Result<(u32, u32), InputFault>
-    ensures value { result ≡ viewport_of (view run.now) }
+    ensures value { result ≡ viewport_sides (view run.now) }
     ensures low { IfOk result (λ s. (1 ≤ s.0) × (1 ≤ s.1)) }
     ensures high { IfOk result (λ s. (s.0 ≤ 1000000) × (s.1 ≤ 1000000)) }
 {

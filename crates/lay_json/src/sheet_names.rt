@@ -5,7 +5,7 @@ ghost use Rattle.serde_json.specs.View.{view, items_view};
 ghost use Rattle.lay_json.specs.Fields.{map_read, Gives, Changes};
 ghost use Rattle.lay_json.specs.NodeForms.{text_in};
 ghost use Rattle.lay_json.specs.SheetNames.{text_or_empty, items_are_texts, texts_in, class_items, names_of, is_a_text};
-ghost use Rattle.lay_json.specs.SheetNames.{names_at, with_names, names_from, items_in, nodes_in, with_sheet, sheet_of};
+ghost use Rattle.lay_json.specs.SheetNames.{names_at, with_names, names_from, items_or_none, nodes_in, with_sheet, sheet_of};
 
 use crate::fault::{Field, InputFault, Spot};
 use crate::fields::{list_of, text_of, value_in};
@@ -150,7 +150,7 @@ fn nodes_in(run: &Value) -> &[Value]
 }
 
 fn items_in(nodes: &Value) -> &[Value]
-    ensures { items_view result.now ≡ items_in (view nodes.now) }
+    ensures { items_view result.now ≡ items_or_none (view nodes.now) }
 {
     match nodes.as_array() {
         Some(items) => items.as_slice(),

@@ -4,7 +4,7 @@ use Rattle.std.proofs.Common.{◌≡◌, ◌∙◌, ℕ, ◌+◌, ◌<◌, Bool,
 use Rattle.std.specs.Str.{IsCharBoundary}
 use Rattle.lay_units.specs.declared.records.ClusterWidth.{ClusterWidth}
 use Rattle.lay_space.specs.Tokens.{next_place}
-use Rattle.lay_line_items.specs.GatheredWidths.{gathered, gathered_after, goes_on, stands_alone, with_cluster}
+use Rattle.lay_line_items.specs.GatheredWidths.{gathered, gathered_after, joins_cluster, stands_alone, with_cluster}
 use Rattle.lay_line_items.proofs.Words.{IsWord, StandInOrder, is_word, joined_words, one_stands}
 
 -- where a word begins that stands before this place, if there is one
@@ -35,7 +35,7 @@ next_gathered text None [] = refl
 next_gathered text (Some v) [] = refl
 next_gathered text before (w ∷ ws) =
     next_by text before w ws (next_gathered text (Some (with_cluster before w)) ws) (next_gathered text (Some w) ws)
-    (stands_alone text w.place (next_place text ws)) (goes_on before w)
+    (stands_alone text w.place (next_place text ws)) (joins_cluster before w)
 
 module _ (text : List ℕ) {Pen : Type 0} (step : Pen → ClusterWidth → ℕ → Pen) (forward : Pen → ℤ → Pen)
     (words : (p : Pen) (w : ClusterWidth) (to : ℕ) → IsWord text w.place to → step p w to ≡ forward p w.width.0)
@@ -87,7 +87,7 @@ module _ (text : List ℕ) {Pen : Type 0} (step : Pen → ClusterWidth → ℕ �
   run_gathered p None [] is stand = refl
   run_gathered p (Some v) [] is stand = run_flushed p (Some v) [] is
   run_gathered p before (w ∷ ws) is (one_stands _ _ some seam more) =
-      run_by p before w ws is some seam (λ q o b. run_gathered q o ws b more) (stands_alone text w.place (next_place text ws)) refl (goes_on before w)
+      run_by p before w ws is some seam (λ q o b. run_gathered q o ws b more) (stands_alone text w.place (next_place text ws)) refl (joins_cluster before w)
 
   pub gathered_is_as_far : (p : Pen) (ws : List ClusterWidth) → StandInOrder text ws → run p (gathered text ws) ≡ run p ws
   gathered_is_as_far p ws stand = run_gathered p None ws tt stand

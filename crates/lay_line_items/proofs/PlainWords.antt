@@ -14,7 +14,7 @@ use Rattle.lay_space.specs.CleanTexts.{IsClean}
 use Rattle.lay_space.specs.declared.item.Mode.TheVariants.{Pre}
 use Rattle.lay_space.specs.declared.tokens.ClusterKind.TheVariants.{Linefeed, Tab, Other}
 use Rattle.lay_space.specs.Tokens.{next_place, space_kind}
-use Rattle.lay_line_items.specs.GatheredWidths.{gathered, gathered_after, goes_on, with_cluster, stands_alone, is_more, is_small}
+use Rattle.lay_line_items.specs.GatheredWidths.{gathered, gathered_after, joins_cluster, with_cluster, stands_alone, is_more, is_small}
 use Rattle.lay_line_items.specs.PlainWords.{is_in_word, parts_words}
 
 same_place : (k : ℕ) → (k + 1 == k + 1) ≡ true
@@ -50,7 +50,7 @@ gathered_from face s text before k = gathered_after text before (plain_widths fa
 pub gathered_step : (face : FaceValue) (s : Setting) (text : List ℕ) (before : Option ClusterWidth) (k : ℕ) → k < length text
     → gathered_from face s text before k
     ≡ (if parts_words (slice_index text k) then option_to_list before ++ width_at face s text k ∷ gathered_from face s text None (k + 1)
-    else (if goes_on before (width_at face s text k) then gathered_from face s text (Some (with_cluster before (width_at face s text k))) (k + 1)
+    else (if joins_cluster before (width_at face s text k) then gathered_from face s text (Some (with_cluster before (width_at face s text k))) (k + 1)
     else option_to_list before ++ gathered_from face s text (Some (width_at face s text k)) (k + 1)))
 gathered_step face s text before k below =
     at_drop_more (λ bs. gathered_after text before (plain_widths face s k bs)) text k 0 below

@@ -27,9 +27,9 @@ is_small (pos n) = nat_lt n (2 ^ 61)
 is_small (negsuc n) = nat_lt n (2 ^ 61)
 
 -- a cluster goes on what stands before it, if there is anything
-abbrev pub goes_on : Option ClusterWidth → ClusterWidth → Bool
-goes_on None w = true
-goes_on (Some v) w = is_small v.width.0 && is_small w.width.0
+abbrev pub joins_cluster : Option ClusterWidth → ClusterWidth → Bool
+joins_cluster None w = true
+joins_cluster (Some v) w = is_small v.width.0 && is_small w.width.0
 
 abbrev pub with_cluster : Option ClusterWidth → ClusterWidth → ClusterWidth
 with_cluster None w = w
@@ -40,7 +40,7 @@ abbrev pub gathered_after : List ℕ → Option ClusterWidth → List ClusterWid
 gathered_after text before [] = option_to_list before
 gathered_after text before (w ∷ ws) =
     if stands_alone text w.place (next_place text ws) then option_to_list before ++ w ∷ gathered_after text None ws
-    else (if goes_on before w then gathered_after text (Some (with_cluster before w)) ws
+    else (if joins_cluster before w then gathered_after text (Some (with_cluster before w)) ws
     else option_to_list before ++ gathered_after text (Some w) ws)
 
 -- the clusters of a text

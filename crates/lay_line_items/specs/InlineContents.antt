@@ -10,9 +10,9 @@ use Rattle.lay_line_items.specs.InlineSegments.{segments_in}
 abbrev pub KeptSegments : Type 0
 KeptSegments = List (Option (List Segment))
 
-abbrev pub kept_or_none : {Z : Type 0} → Option (Arc KeptSegments Z) → KeptSegments
-kept_or_none None = []
-kept_or_none (Some kept) = arc_value kept
+abbrev pub kept_segments_or_none : {Z : Type 0} → Option (Arc KeptSegments Z) → KeptSegments
+kept_segments_or_none None = []
+kept_segments_or_none (Some kept) = arc_value kept
 
 -- what is kept of the box at k
 abbrev pub kept_at : KeptSegments → ℕ → Option (List Segment)

@@ -17,13 +17,13 @@ use Rattle.lay_line_items.specs.GatheredWidths.{gathered}
 use Rattle.lay_line_items.specs.InlineItems.{items_of}
 
 -- the font size and the spacings that a text of this style is set in: used lengths, held within their bounds
-abbrev pub setting_of : TextStyle → Setting
-setting_of s = record { size = size_of s.font_size.0; letter = length_of s.letter_spacing.0; word = length_of s.word_spacing.0 }
+abbrev pub setting_of_text : TextStyle → Setting
+setting_of_text s = record { size = size_of s.font_size.0; letter = length_of s.letter_spacing.0; word = length_of s.word_spacing.0 }
 
 -- the widths of the clusters of a text of this box, those of a word together
 abbrev pub widths_in : FaceValue → Option BoxNode → List ℕ → List ClusterWidth
 widths_in face None text = []
-widths_in face (Some b) text = gathered text (widths_of face (setting_of b.style.text) text)
+widths_in face (Some b) text = gathered text (widths_of face (setting_of_text b.style.text) text)
 
 -- this item, with widths where it is a text
 abbrev pub measured_item : FaceValue → List BoxNode → Item → Item

@@ -2,7 +2,7 @@
 
 ghost use Rattle.std.specs.Prelude.{◌≡◌, ◌+ℤ◌, ◌&&◌, ◌∷◌, ◌++◌, true, option_to_list, IfOk, OnOk};
 ghost use Rattle.lay_space.specs.Tokens.{next_place};
-ghost use Rattle.lay_line_items.specs.GatheredWidths.{gathered, gathered_after, goes_on, is_small, stands_alone, with_cluster};
+ghost use Rattle.lay_line_items.specs.GatheredWidths.{gathered, gathered_after, joins_cluster, is_small, stands_alone, with_cluster};
 
 use lay_face::put_width;
 use lay_space::{ClusterKind, Mode, cluster_kind, next_place};
@@ -56,7 +56,7 @@ fn stands_alone(text: &[u8], from: usize, to: usize) -> bool
 }
 
 fn goes_on(before: Option<ClusterWidth>, width: ClusterWidth) -> bool
-    ensures { result ≡ goes_on before width }
+    ensures { result ≡ joins_cluster before width }
 {
     match before {
         Some(before) => are_small(before.width, width.width),
@@ -65,7 +65,7 @@ fn goes_on(before: Option<ClusterWidth>, width: ClusterWidth) -> bool
 }
 
 fn with_cluster(before: Option<ClusterWidth>, width: ClusterWidth) -> ClusterWidth
-    requires { goes_on before width ≡ true }
+    requires { joins_cluster before width ≡ true }
     ensures { result ≡ with_cluster before width }
 {
     match before {

@@ -43,11 +43,11 @@ impl Model for KeptSegments {
 }
 
 impl Model for InlineContents {
-    ghost use Rattle.lay_line_items.specs.InlineContents.{KeptSegments as Plain, kept_or_none};
+    ghost use Rattle.lay_line_items.specs.InlineContents.{KeptSegments as Plain, kept_segments_or_none};
 
     ghost Value = { Plain };
 
-    ghost view = { λ c. kept_or_none c.shared };
+    ghost view = { λ c. kept_segments_or_none c.shared };
 }
 
 impl InlineContents {

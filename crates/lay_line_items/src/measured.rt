@@ -5,7 +5,7 @@ ghost use Rattle.lay_style.specs.LengthValues.{length_of, size_of};
 ghost use Rattle.lay_face.specs.Clusters.{IsUsedSetting, widths_of};
 ghost use Rattle.lay_space.specs.CleanTexts.{IsClean};
 ghost use Rattle.lay_line_items.specs.GatheredWidths.{gathered};
-ghost use Rattle.lay_line_items.specs.InlineSegments.{measured, measured_item, setting_of, widths_in};
+ghost use Rattle.lay_line_items.specs.InlineSegments.{measured, measured_item, setting_of_text, widths_in};
 
 use crate::gathered::gathered;
 use crate::open_boxes::push_item;
@@ -86,7 +86,7 @@ pub fn text_widths(
     style: &TextStyle,
     text: &str,
 ) -> Result<WidthList, NoMemory>
-    ensures { IfOk result (λ l. l ≡ gathered text.now (widths_of face.now (setting_of style.now) text.now)) }
+    ensures { IfOk result (λ l. l ≡ gathered text.now (widths_of face.now (setting_of_text style.now) text.now)) }
 {
     if text.len() > MOST_TEXT {
         return Err(NoMemory);
@@ -109,7 +109,7 @@ pub fn clean_widths(
     text: &str,
 ) -> Result<Option<WidthList>, NoMemory>
     ensures { IfOk result
-        (λ o. IfSome o (λ l. IsClean false text.now × (l ≡ gathered text.now (widths_of face.now (setting_of style.now) text.now)))) }
+        (λ o. IfSome o (λ l. IsClean false text.now × (l ≡ gathered text.now (widths_of face.now (setting_of_text style.now) text.now)))) }
 {
     if text.len() > MOST_TEXT {
         return Ok(None);
@@ -118,7 +118,7 @@ pub fn clean_widths(
 }
 
 fn setting_of(style: &TextStyle) -> Setting
-    ensures value { result ≡ setting_of style.now }
+    ensures value { result ≡ setting_of_text style.now }
     ensures used { IsUsedSetting result }
 {
     Setting {

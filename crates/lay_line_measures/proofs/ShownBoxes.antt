@@ -22,7 +22,7 @@ use Rattle.lay_lines.specs.Content.Extents.{Reading, any_shows, read, read_all, 
 use Rattle.lay_sizes.specs.SizeColumns.{sizes_at}
 use Rattle.lay_line_measures.specs.declared.container.Container.{Container}
 use Rattle.lay_line_measures.specs.BoxMeasuresValue.{BoxMeasuresValue, part_at}
-use Rattle.lay_line_measures.specs.InlineBoxes.{has_vertical_edges, has_left_edges}
+use Rattle.lay_line_measures.specs.InlineBoxes.{shows_vertical_edge, shows_left_edge}
 use Rattle.lay_line_measures.specs.SeenLines.{is_seen, has_seen_line}
 use Rattle.lay_line_measures.specs.Stretches.{parts_at, parts_of, stretches_of}
 use Rattle.lay_line_measures.specs.declared.text_parts.TextBox.{TextBox}
@@ -129,7 +129,7 @@ text_seen t text (w ∷ ws) =
 
 item_seen : (m : BoxMeasuresValue) (x : Item) → AreSeen (parts_at m x)
 item_seen m (item.Text k text mode widths) = text_seen (record { node = k; mode = mode }) text widths
-item_seen m (item.Start k takes) = (or_left (has_vertical_edges (sizes_at m.sizes k)) ((part_at m k).first && has_left_edges (sizes_at m.sizes k)), tt)
+item_seen m (item.Start k takes) = (or_left (shows_vertical_edge (sizes_at m.sizes k)) ((part_at m k).first && shows_left_edge (sizes_at m.sizes k)), tt)
 item_seen m (item.End k) = (never_shows _, tt)
 item_seen m (item.Atomic k mode) = (never_shows true, tt)
 item_seen m (item.Float k) = tt

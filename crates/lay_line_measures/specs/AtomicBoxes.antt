@@ -10,7 +10,7 @@ use Rattle.lay_lines.specs.declared.content.content.InlineArea.{InlineArea}
 use Rattle.lay_lines.specs.declared.content.frame.Extent.{Extent}
 use Rattle.lay_valign.specs.declared.parts.Shift.{Shift}
 use Rattle.lay_line_measures.specs.BoxMeasuresValue.{BoxMeasuresValue}
-use Rattle.lay_line_measures.specs.VerticalAlignment.{shift_at}
+use Rattle.lay_line_measures.specs.VerticalAlignment.{box_shift_at}
 
 -- how far a border box with this baseline, or none, reaches above and below it
 abbrev pub border_extent : OwnBox → Option Length → Extent
@@ -29,7 +29,7 @@ atomic_in k o shift = record { node = k; width = record { 0 = margin_width o }; 
 
 -- the atomic box at k
 abbrev pub atomic_at : BoxMeasuresValue → ℕ → AtomicBox
-atomic_at m k = atomic_in k (own_box_at m.inner k) (shift_at m k)
+atomic_at m k = atomic_in k (own_box_at m.inner k) (box_shift_at m k)
 
 -- what is painted of it on its line: its border box, beside its margins
 abbrev pub atomic_area : OwnBox → InlineArea

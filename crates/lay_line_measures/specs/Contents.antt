@@ -17,7 +17,7 @@ use Rattle.lay_lines.specs.Content.LineContents.{LineContentValue, content_of}
 use Rattle.lay_line_measures.specs.declared.container.Container.{Container}
 use Rattle.lay_line_measures.specs.BoxMeasuresValue.{BoxMeasuresValue}
 use Rattle.lay_line_measures.specs.InlineBoxes.{extent_at}
-use Rattle.lay_line_measures.specs.LineHeights.{font_size}
+use Rattle.lay_line_measures.specs.LineHeights.{used_font_size}
 use Rattle.lay_line_measures.specs.Stretches.{stretches_of}
 
 abbrev pub used_indent : Length → LengthPercentage → Length
@@ -30,7 +30,7 @@ indent_in containing (Some b) = used_indent containing b.style.text.text_indent
 
 abbrev pub tab_in : FaceValue → Option BoxNode → ℤ
 tab_in face None = pos 0
-tab_in face (Some b) = pos 8 *ℤ thousandths_of (entry_of face 32) (font_size b.style.text)
+tab_in face (Some b) = pos 8 *ℤ thousandths_of (entry_of face 32) (used_font_size b.style.text)
 
 -- the content of the lines of a container with these stretches
 abbrev pub content_with : BoxMeasuresValue → Container → List Stretch → LineContentValue

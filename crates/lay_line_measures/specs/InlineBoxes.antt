@@ -23,54 +23,54 @@ use Rattle.lay_sizes.specs.OwnBoxes.{own_box_at}
 use Rattle.lay_valign.specs.declared.parts.Shift.{Shift}
 use Rattle.lay_line_measures.specs.AtomicBoxes.{atomic_area}
 use Rattle.lay_line_measures.specs.BoxMeasuresValue.{BoxMeasuresValue, part_at}
-use Rattle.lay_line_measures.specs.LineHeights.{ascent, descent, extent_of}
-use Rattle.lay_line_measures.specs.VerticalAlignment.{shift_at}
+use Rattle.lay_line_measures.specs.LineHeights.{ascent, descent, inline_extent}
+use Rattle.lay_line_measures.specs.VerticalAlignment.{box_shift_at}
 
 -- a margin, a border or a padding above or below isn't 0
-abbrev pub has_vertical_edges : BoxSizes → Bool
-has_vertical_edges z = is_nonzero z.margin_top.0 || is_nonzero z.edges.top.0 || is_nonzero z.edges.bottom.0 || is_nonzero z.margin_bottom.0
+abbrev pub shows_vertical_edge : BoxSizes → Bool
+shows_vertical_edge z = is_nonzero z.margin_top.0 || is_nonzero z.edges.top.0 || is_nonzero z.edges.bottom.0 || is_nonzero z.margin_bottom.0
 
-abbrev pub has_left_edges : BoxSizes → Bool
-has_left_edges z = is_nonzero z.widths.margin_left.0 || is_nonzero z.edges.left.0
+abbrev pub shows_left_edge : BoxSizes → Bool
+shows_left_edge z = is_nonzero z.widths.margin_left.0 || is_nonzero z.edges.left.0
 
-abbrev pub has_right_edges : BoxSizes → Bool
-has_right_edges z = is_nonzero z.edges.right.0 || is_nonzero z.widths.margin_right.0
+abbrev pub shows_right_edge : BoxSizes → Bool
+shows_right_edge z = is_nonzero z.edges.right.0 || is_nonzero z.widths.margin_right.0
 
 -- how far the inline box at k reaches above and below the baseline
 abbrev pub extent_in : FaceValue → Option BoxNode → Extent
 extent_in face None = record { above = no_length; below = no_length }
-extent_in face (Some b) = extent_of face b.style.text
+extent_in face (Some b) = inline_extent face b.style.text
 
 abbrev pub extent_at : BoxMeasuresValue → ℕ → Extent
 extent_at m k = extent_in m.face (slice_get m.boxes k)
 
-abbrev pub start_in : ℕ → BoxSizes → InlinePart → Extent → Shift → InlineStart
-start_in k z part extent shift = record {
+abbrev pub inline_start_in : ℕ → BoxSizes → InlinePart → Extent → Shift → InlineStart
+inline_start_in k z part extent shift = record {
   node = k;
   width = if part.first then record { 0 = z.widths.margin_left.0 +ℤ z.edges.left.0 } else no_length;
-  seen = has_vertical_edges z || (part.first && has_left_edges z);
-  shows = has_vertical_edges z;
+  seen = shows_vertical_edge z || (part.first && shows_left_edge z);
+  shows = shows_vertical_edge z;
   extent = extent;
   shift = shift;
 }
 
 -- the start of the inline box at k
 abbrev pub start_at : BoxMeasuresValue → ℕ → InlineStart
-start_at m k = start_in k (sizes_at m.sizes k) (part_at m k) (extent_at m k) (shift_at m k)
+start_at m k = inline_start_in k (sizes_at m.sizes k) (part_at m k) (extent_at m k) (box_shift_at m k)
 
-abbrev pub end_in : ℕ → BoxSizes → InlinePart → InlineEnd
-end_in k z part = record {
+abbrev pub inline_end_in : ℕ → BoxSizes → InlinePart → InlineEnd
+inline_end_in k z part = record {
   node = k;
   width = if part.last then record { 0 = z.edges.right.0 +ℤ z.widths.margin_right.0 } else no_length;
-  seen = part.last && has_right_edges z;
+  seen = part.last && shows_right_edge z;
 }
 
 -- its end
 abbrev pub end_at : BoxMeasuresValue → ℕ → InlineEnd
-end_at m k = end_in k (sizes_at m.sizes k) (part_at m k)
+end_at m k = inline_end_in k (sizes_at m.sizes k) (part_at m k)
 
-abbrev pub no_area : InlineArea
-no_area = record { above = no_length; below = no_length; margin_left = no_length; margin_right = no_length }
+abbrev pub no_inline_area : InlineArea
+no_inline_area = record { above = no_length; below = no_length; margin_left = no_length; margin_right = no_length }
 
 -- What is painted of a box on a line: the content area of a text, and the border box of an inline box or of an atomic box,
 -- which is beside its margins.
@@ -94,20 +94,20 @@ abbrev pub area_as : FaceValue → Role → TextStyle → BoxSizes → InlinePar
 area_as face role.Text s z part o = text_area face s
 area_as face role.Inline s z part o = inline_area face s z part
 area_as face role.Atomic s z part o = atomic_area o
-area_as face _ s z part o = no_area
+area_as face _ s z part o = no_inline_area
 
 abbrev pub area_in : BoxMeasuresValue → ℕ → Option BoxNode → InlineArea
-area_in m k None = no_area
+area_in m k None = no_inline_area
 area_in m k (Some b) = area_as m.face (role_of b) b.style.text (sizes_at m.sizes k) (part_at m k) (own_box_at m.inner k)
 
 -- the area of the box at k
-abbrev pub area_at : BoxMeasuresValue → ℕ → InlineArea
-area_at m k = area_in m k (slice_get m.boxes k)
+abbrev pub inline_area_at : BoxMeasuresValue → ℕ → InlineArea
+inline_area_at m k = area_in m k (slice_get m.boxes k)
 
 -- those of the first n boxes
 abbrev pub areas_to : BoxMeasuresValue → ℕ → List InlineArea
 areas_to m zero = []
-areas_to m (suc k) = areas_to m k ++ area_at m k ∷ []
+areas_to m (suc k) = areas_to m k ++ inline_area_at m k ∷ []
 
-abbrev pub areas_of : BoxMeasuresValue → List InlineArea
-areas_of m = areas_to m (length m.boxes)
+abbrev pub inline_areas : BoxMeasuresValue → List InlineArea
+inline_areas m = areas_to m (length m.boxes)

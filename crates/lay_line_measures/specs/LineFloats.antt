@@ -4,7 +4,7 @@ use Rattle.std.specs.Prelude.{ℕ, Option, Some, None, slice_get}
 use Rattle.lay_units.specs.Lengths.{no_length}
 use Rattle.lay_style.specs.declared.style_words.Clear.{Clear as ClearStyle}
 use Rattle.lay_style.specs.declared.style_words.Clear.TheVariants as clear
-use Rattle.lay_box_tree.specs.Roles.{role_of, clear_of}
+use Rattle.lay_box_tree.specs.Roles.{role_of, clear_of_box}
 use Rattle.lay_box_tree.specs.declared.box_role.Role.{Role}
 use Rattle.lay_box_tree.specs.declared.box_role.Role.TheVariants as role
 use Rattle.lay_box_tree.specs.declared.box_tree.BoxNode.{BoxNode}
@@ -27,15 +27,15 @@ abbrev pub side_in : Option BoxNode → Side
 side_in None = side.Left
 side_in (Some b) = side_as (role_of b)
 
-abbrev pub cleared_sides : ClearStyle → Clear
-cleared_sides clear.None = sides.None
-cleared_sides clear.Left = sides.Left
-cleared_sides clear.Right = sides.Right
-cleared_sides clear.Both = sides.Both
+abbrev pub cleared_float_sides : ClearStyle → Clear
+cleared_float_sides clear.None = sides.None
+cleared_float_sides clear.Left = sides.Left
+cleared_float_sides clear.Right = sides.Right
+cleared_float_sides clear.Both = sides.Both
 
 abbrev pub clear_in : Option BoxNode → Clear
 clear_in None = sides.None
-clear_in (Some b) = cleared_sides (clear_of b)
+clear_in (Some b) = cleared_float_sides (clear_of_box b)
 
 -- What a float of these asks for. Its ceiling comes from its line.
 abbrev pub request_of : Side → Clear → OwnBox → Container → FloatReq

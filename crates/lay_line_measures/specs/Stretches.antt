@@ -31,14 +31,14 @@ parts_of m (x ∷ xs) = parts_at m x ++ parts_of m xs
 
 -- whether an item is content that a float can stand after: some text, an atomic box, or the start of an inline box with a
 -- left margin, border or padding that isn't 0
-abbrev pub is_content : Item → Bool
-is_content (item.Text k text mode []) = false
-is_content (item.Text k text mode (w ∷ ws)) = true
-is_content (item.Atomic k mode) = true
-is_content (item.Start k takes) = takes
-is_content (item.End k) = false
-is_content (item.Float k) = false
-is_content (item.Anchor k) = false
+abbrev pub is_line_content : Item → Bool
+is_line_content (item.Text k text mode []) = false
+is_line_content (item.Text k text mode (w ∷ ws)) = true
+is_line_content (item.Atomic k mode) = true
+is_line_content (item.Start k takes) = takes
+is_line_content (item.End k) = false
+is_line_content (item.Float k) = false
+is_line_content (item.Anchor k) = false
 
 abbrev pub floats_at : BoxMeasuresValue → Container → Item → List LineFloat
 floats_at m c (item.Float k) = float_at m c k ∷ []
@@ -51,12 +51,12 @@ floats_at m c (item.Anchor k) = []
 -- the floats that are met before the content, where `ahead` says that they stand before all of it where a line begins
 abbrev pub heads_of : BoxMeasuresValue → Container → Bool → List Item → List LineFloat
 heads_of m c ahead [] = []
-heads_of m c ahead (x ∷ xs) = (if ahead then floats_at m c x else []) ++ heads_of m c (ahead && not (is_content x)) xs
+heads_of m c ahead (x ∷ xs) = (if ahead then floats_at m c x else []) ++ heads_of m c (ahead && not (is_line_content x)) xs
 
 -- and the others
 abbrev pub floats_of : BoxMeasuresValue → Container → Bool → List Item → List LineFloat
 floats_of m c ahead [] = []
-floats_of m c ahead (x ∷ xs) = (if ahead then [] else floats_at m c x) ++ floats_of m c (ahead && not (is_content x)) xs
+floats_of m c ahead (x ∷ xs) = (if ahead then [] else floats_at m c x) ++ floats_of m c (ahead && not (is_line_content x)) xs
 
 -- a segment, of which `begins` says whether it surely begins a line
 abbrev pub stretch_of : BoxMeasuresValue → Container → Bool → Segment → Stretch

@@ -13,7 +13,7 @@ use Rattle.lay_face.specs.FaceValue.{FaceValue}
 use Rattle.lay_valign.specs.declared.parts.Shift.{Shift}
 use Rattle.lay_valign.specs.declared.parts.Shift.TheVariants as shift
 use Rattle.lay_line_measures.specs.BoxMeasuresValue.{BoxMeasuresValue}
-use Rattle.lay_line_measures.specs.LineHeights.{ascent, descent, font_size, line_height, x_height}
+use Rattle.lay_line_measures.specs.LineHeights.{ascent, descent, used_font_size, line_height, x_height}
 
 -- its baseline stands so far above its parent's
 abbrev pub raised_by : ℤ → Shift
@@ -22,8 +22,8 @@ raised_by v = shift.By (record { 0 = v })
 -- the shift of a box of the style `own` in a box of the style `parent`, for each value of `vertical-align`
 abbrev pub shift_for : FaceValue → (parent own : TextStyle) → VerticalAlign → Shift
 shift_for face parent own align.Baseline = raised_by (pos 0)
-shift_for face parent own align.Sub = raised_by (neg_ℤ (floor_div (font_size parent) 5))
-shift_for face parent own align.Super = raised_by (floor_div (font_size parent) 3)
+shift_for face parent own align.Sub = raised_by (neg_ℤ (floor_div (used_font_size parent) 5))
+shift_for face parent own align.Super = raised_by (floor_div (used_font_size parent) 3)
 shift_for face parent own (align.Length u) = raised_by (clamp_of u.0)
 shift_for face parent own (align.Percent h) = raised_by (percentage_of h.0 (line_height face own))
 shift_for face parent own align.Middle = shift.Middle (record { 0 = x_height face parent })
@@ -47,5 +47,5 @@ shift_in face boxes None = raised_by (pos 0)
 shift_in face boxes (Some b) = shift_below face (slice_get boxes b.parent) b
 
 -- the shift of the box at k
-abbrev pub shift_at : BoxMeasuresValue → ℕ → Shift
-shift_at m k = shift_in m.face m.boxes (slice_get m.boxes k)
+abbrev pub box_shift_at : BoxMeasuresValue → ℕ → Shift
+box_shift_at m k = shift_in m.face m.boxes (slice_get m.boxes k)

@@ -4,7 +4,7 @@ ghost use Rattle.std.specs.Prelude.{◌≡◌, ◌^◌, pos, ◌+ℤ◌, All, So
 ghost use Rattle.lay_units.specs.Units.{IsUsed};
 ghost use Rattle.lay_units.specs.Lengths.{no_length};
 ghost use Rattle.lay_line_measures.specs.AreaBounds.{AreaNear};
-ghost use Rattle.lay_line_measures.specs.InlineBoxes.{area_at, area_in, areas_of, inline_area, text_area};
+ghost use Rattle.lay_line_measures.specs.InlineBoxes.{inline_area_at, area_in, inline_areas, inline_area, text_area};
 ghost use Rattle.lay_sizes.specs.SizeBounds.{IsInset, SizeFits};
 ghost use Rattle.lay_face.specs.Faces.{IsMeasure};
 ghost use Rattle.lay_floats.specs.Within.{IsWithin};
@@ -24,7 +24,7 @@ use std::alloc::Global;
 /// a text, the border box of an inline box and of an atomic box, and nothing of others. All lengths are in 1/64 px, those
 /// above and below at most 2^60 of them from 0, and margins at most 2^36.
 pub fn inline_areas(alloc: Global, measures: &BoxMeasures<'_>) -> Result<Vec<InlineArea>, NoMemory>
-    ensures areas { IfOk result (λ v. v.items ≡ areas_of measures.now) }
+    ensures areas { IfOk result (λ v. v.items ≡ inline_areas measures.now) }
     ensures near { IfOk result (λ v. All AreaNear v.items) }
 {
     let count = measures.boxes().len();
@@ -37,7 +37,7 @@ pub fn inline_areas(alloc: Global, measures: &BoxMeasures<'_>) -> Result<Vec<Inl
 
 /// The area of the box at k.
 fn area_at(measures: &BoxMeasures<'_>, k: usize) -> InlineArea
-    ensures value { result ≡ area_at measures.now k }
+    ensures value { result ≡ inline_area_at measures.now k }
     ensures near { AreaNear result }
 {
     match measures.boxes().get(k) {

@@ -5,7 +5,7 @@ ghost use Rattle.lay_face.specs.Faces.{entry_of, thousandths_of};
 ghost use Rattle.lay_space.specs.Segments.{segments_of};
 ghost use Rattle.lay_lines.specs.Content.LineContents.{IsLineContent, IsTabDistance};
 ghost use Rattle.lay_line_measures.specs.Contents.{content_in, content_with, indent_in, tab_in, used_indent};
-ghost use Rattle.lay_line_measures.specs.LineHeights.{font_size};
+ghost use Rattle.lay_line_measures.specs.LineHeights.{used_font_size};
 
 use crate::box_measures::BoxMeasures;
 use crate::container::Container;
@@ -102,8 +102,8 @@ const MOST_TAB: i64 = 1 << 45;
 
 /// Eight times the width of a space, where that is within its bounds.
 fn tab_of(face: &Face, style: &TextStyle) -> Option<Unit>
-    ensures some { IfSome result (λ t. t.0 ≡ pos 8 *ℤ thousandths_of (entry_of face.now 32) (font_size style.now)) }
-    ensures none { result ≡ None → IsTabDistance (pos 8 *ℤ thousandths_of (entry_of face.now 32) (font_size style.now)) → ⊥ }
+    ensures some { IfSome result (λ t. t.0 ≡ pos 8 *ℤ thousandths_of (entry_of face.now 32) (used_font_size style.now)) }
+    ensures none { result ≡ None → IsTabDistance (pos 8 *ℤ thousandths_of (entry_of face.now 32) (used_font_size style.now)) → ⊥ }
 {
     let size = font_size(style);
     face.fits_at(size);

@@ -4,8 +4,8 @@ ghost use Rattle.std.specs.Prelude.{◌≡◌, ◌+ℤ◌, if◌then◌else◌};
 ghost use Rattle.lay_units.specs.Units.{IsPosition};
 ghost use Rattle.lay_units.specs.Lengths.{no_length};
 ghost use Rattle.lay_sizes.specs.SizeBounds.{SizeFits};
-ghost use Rattle.lay_line_measures.specs.InlineBoxes.{end_at, end_in, extent_at, has_left_edges};
-ghost use Rattle.lay_line_measures.specs.InlineBoxes.{has_right_edges, has_vertical_edges, start_at, start_in};
+ghost use Rattle.lay_line_measures.specs.InlineBoxes.{end_at, inline_end_in, extent_at, shows_left_edge};
+ghost use Rattle.lay_line_measures.specs.InlineBoxes.{shows_right_edge, shows_vertical_edge, start_at, inline_start_in};
 
 use crate::box_measures::BoxMeasures;
 use crate::line_heights::extent_of;
@@ -38,7 +38,7 @@ fn start_in(
     shift: Shift,
 ) -> InlineStart
     requires { SizeFits sizes }
-    ensures { result ≡ start_in place sizes part extent shift }
+    ensures { result ≡ inline_start_in place sizes part extent shift }
 {
     let shows = has_vertical_edges(&sizes);
     InlineStart {
@@ -61,7 +61,7 @@ pub(crate) fn end_at(measures: &BoxMeasures<'_>, place: u32) -> InlineEnd
 
 fn end_in(place: u32, sizes: BoxSizes, part: InlinePart) -> InlineEnd
     requires { SizeFits sizes }
-    ensures { result ≡ end_in place sizes part }
+    ensures { result ≡ inline_end_in place sizes part }
 {
     InlineEnd {
         node: place,
@@ -93,7 +93,7 @@ pub(crate) fn extent_at(measures: &BoxMeasures<'_>, k: usize) -> Extent
 }
 
 fn has_vertical_edges(sizes: &BoxSizes) -> bool
-    ensures { result ≡ has_vertical_edges sizes.now }
+    ensures { result ≡ shows_vertical_edge sizes.now }
 {
     is_nonzero(sizes.margin_top.0)
         || is_nonzero(sizes.edges.top.0)
@@ -102,13 +102,13 @@ fn has_vertical_edges(sizes: &BoxSizes) -> bool
 }
 
 fn has_left_edges(sizes: &BoxSizes) -> bool
-    ensures { result ≡ has_left_edges sizes.now }
+    ensures { result ≡ shows_left_edge sizes.now }
 {
     is_nonzero(sizes.widths.margin_left.0) || is_nonzero(sizes.edges.left.0)
 }
 
 fn has_right_edges(sizes: &BoxSizes) -> bool
-    ensures { result ≡ has_right_edges sizes.now }
+    ensures { result ≡ shows_right_edge sizes.now }
 {
     is_nonzero(sizes.edges.right.0) || is_nonzero(sizes.widths.margin_right.0)
 }

@@ -1,9 +1,9 @@
 //! Floats in the content of lines.
 
 ghost use Rattle.std.specs.Prelude.{◌≡◌, slice_get};
-ghost use Rattle.lay_box_tree.specs.Roles.{clear_of};
+ghost use Rattle.lay_box_tree.specs.Roles.{clear_of_box};
 ghost use Rattle.lay_sizes.specs.OwnBoxes.{OwnBoxFits};
-ghost use Rattle.lay_line_measures.specs.LineFloats.{cleared_sides, clear_in, float_at, request_of, side_in};
+ghost use Rattle.lay_line_measures.specs.LineFloats.{cleared_float_sides, clear_in, float_at, request_of, side_in};
 
 use crate::box_measures::BoxMeasures;
 use crate::container::Container;
@@ -69,7 +69,7 @@ fn clear_at(boxes: &[BoxNode], k: usize) -> Clear
 }
 
 fn clear_of(node: &BoxNode) -> lay_style::Clear
-    ensures { result ≡ clear_of node.now }
+    ensures { result ≡ clear_of_box node.now }
 {
     match node.kind {
         BoxKind::Wrapper | BoxKind::InlineWrapper => lay_style::Clear::None,
@@ -78,7 +78,7 @@ fn clear_of(node: &BoxNode) -> lay_style::Clear
 }
 
 fn cleared_sides(clear: lay_style::Clear) -> Clear
-    ensures { result ≡ cleared_sides clear }
+    ensures { result ≡ cleared_float_sides clear }
 {
     match clear {
         lay_style::Clear::None => Clear::None,

@@ -3,7 +3,7 @@
 ghost use Rattle.std.specs.Prelude.{◌≡◌, pos, ◌+ℤ◌, ◌-ℤ◌, ◌*ℤ◌, ◌≤ℤ◌};
 ghost use Rattle.lay_units.specs.Units.{IsPosition, IsSum, IsUsed, IsUsedSize, half_of};
 ghost use Rattle.lay_face.specs.Faces.{IsMeasure};
-ghost use Rattle.lay_line_measures.specs.LineHeights.{ascent, descent, extent_of, font_size, leading};
+ghost use Rattle.lay_line_measures.specs.LineHeights.{ascent, descent, inline_extent, used_font_size, line_leading};
 ghost use Rattle.lay_line_measures.specs.LineHeights.{line_height, line_height_in, with_leading, x_height};
 
 use lay_face::Face;
@@ -14,7 +14,7 @@ use lay_units::{Unit, clamp_size};
 /// How far an inline box of this style reaches above and below the baseline, and so the strut of a container
 /// (CSS 2.2, 10.8.1).
 pub(crate) fn extent_of(face: &Face, style: &TextStyle) -> Extent
-    ensures { result ≡ extent_of face.now style.now }
+    ensures { result ≡ inline_extent face.now style.now }
 {
     with_leading(
         ascent(face, style),
@@ -56,7 +56,7 @@ pub(crate) fn x_height(face: &Face, style: &TextStyle) -> Unit
 
 /// The used font size.
 pub(crate) fn font_size(style: &TextStyle) -> Unit
-    ensures value { result.0 ≡ font_size style.now }
+    ensures value { result.0 ≡ used_font_size style.now }
     ensures used { IsUsedSize result.0 }
     ensures fits { IsUsed result.0 }
 {
@@ -113,7 +113,7 @@ fn leading(ascent: Unit, descent: Unit, height: Unit) -> i128
     requires ascent { IsPosition ascent.0 }
     requires descent { IsPosition descent.0 }
     requires height { IsUsedSize height.0 }
-    ensures { result ≡ leading ascent.0 descent.0 height.0 }
+    ensures { result ≡ line_leading ascent.0 descent.0 height.0 }
 {
     i128::from(height.0) - both(ascent, descent)
 }

@@ -1,7 +1,7 @@
 //! Segments as stretches.
 
 ghost use Rattle.std.specs.Prelude.{◌≡◌, ◌++◌, [], true, ◌&&◌, not, if◌then◌else◌, IfOk, OnOk};
-ghost use Rattle.lay_line_measures.specs.Stretches.{floats_at, is_content, parts_at, stretch_of, stretches_of};
+ghost use Rattle.lay_line_measures.specs.Stretches.{floats_at, is_line_content, parts_at, stretch_of, stretches_of};
 
 use crate::atomic_boxes::atomic_at;
 use crate::box_measures::BoxMeasures;
@@ -90,7 +90,7 @@ impl Measured {
         ensures floats { OnOk result
             (self.new.floats.items ≡ self.old.floats.items ++ (if self.old.ahead then [] else floats_at measures.now container item.now)) }
         ensures parts { OnOk result (self.new.parts.items ≡ self.old.parts.items ++ parts_at measures.now item.now) }
-        ensures ahead { OnOk result (self.new.ahead ≡ (self.old.ahead && not (is_content item.now))) }
+        ensures ahead { OnOk result (self.new.ahead ≡ (self.old.ahead && not (is_line_content item.now))) }
     {
         self.put_floats(measures, container, item)?;
         put_parts(&mut self.parts, measures, item)?;
@@ -154,7 +154,7 @@ fn put_parts(parts: &mut Vec<Part>, measures: &BoxMeasures<'_>, item: &Item) -> 
 
 /// Whether an item is content that a float can stand after.
 fn is_content(item: &Item) -> bool
-    ensures { result ≡ is_content item.now }
+    ensures { result ≡ is_line_content item.now }
 {
     match item {
         Item::Text { widths, .. } => !widths.as_slice().is_empty(),

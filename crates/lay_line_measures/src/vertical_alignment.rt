@@ -2,7 +2,7 @@
 
 ghost use Rattle.std.specs.Prelude.{◌≡◌, neg_ℤ};
 ghost use Rattle.lay_units.specs.Units.{IsUsedSize, floor_div};
-ghost use Rattle.lay_line_measures.specs.VerticalAlignment.{alignment_of, shift_at, shift_for};
+ghost use Rattle.lay_line_measures.specs.VerticalAlignment.{alignment_of, box_shift_at, shift_for};
 
 use crate::box_measures::BoxMeasures;
 use crate::line_heights::{ascent, descent, font_size, line_height, x_height};
@@ -14,7 +14,7 @@ use lay_valign::Shift;
 
 /// The shift of the box at k in its parent box.
 pub(crate) fn shift_at(measures: &BoxMeasures<'_>, k: usize) -> Shift
-    ensures { result ≡ shift_at measures.now k }
+    ensures { result ≡ box_shift_at measures.now k }
 {
     let boxes = measures.boxes();
     let Some(node) = boxes.get(k) else {

@@ -11,7 +11,7 @@ use Rattle.lay_lines.specs.declared.content.content.Stretch.{Stretch}
 use Rattle.lay_lines.specs.declared.content.frame.Frame.{Frame}
 use Rattle.lay_lines.proofs.ContentLemmas.PenOrder.{some_at}
 use Rattle.lay_lines.specs.Filling.{TakesNext, Fills, Reaches}
-use Rattle.lay_lines.specs.FloatNumbers.{HeadsBeginLines, floats_in, floats_of_stretch, numbers_of, numbers_placed}
+use Rattle.lay_lines.specs.FloatNumbers.{HeadsBeginLines, floats_in, floats_of_stretch, float_numbers_of, numbers_placed}
 use Rattle.lay_lines.specs.Laws.{EachFloatHasAPlace}
 use Rattle.lay_lines.specs.Meeting.{State, Chain, MeetsFloat, MeetsAt, Meets}
 use Rattle.lay_lines.specs.Meeting.MeetsFloat.{stands, waits}
@@ -62,7 +62,7 @@ chain_adds {S} {X} Step at of xs adds (suc n) a b c =
 
 -- the floats that have a place, and those that wait for one
 abbrev met : State → List ℕ
-met st = numbers_placed st.places ++ numbers_of st.put_off
+met st = numbers_placed st.places ++ float_numbers_of st.put_off
 
 abbrev number : LineFloat → List ℕ
 number f = f.node ∷ []
@@ -72,13 +72,13 @@ place_more : (places : List NodePlace) (p : NodePlace) (ns : List ℕ) → numbe
 place_more places p ns =
     ap (λ (ms : List ℕ). ms ++ ns) (map-append (λ (q : NodePlace). q.node) places (p ∷ [])) ∙ append_assoc (numbers_placed places) (p.node ∷ []) ns
 
-wait_more : (ns : List ℕ) (fs : List LineFloat) (f : LineFloat) → (ns ++ numbers_of fs) ++ f.node ∷ [] ≡ ns ++ numbers_of (fs ++ f ∷ [])
-wait_more ns fs f = append_assoc ns (numbers_of fs) (f.node ∷ []) ∙ ap (λ (ms : List ℕ). ns ++ ms) (sym (map-append (λ (g : LineFloat). g.node) fs (f ∷ [])))
+wait_more : (ns : List ℕ) (fs : List LineFloat) (f : LineFloat) → (ns ++ float_numbers_of fs) ++ f.node ∷ [] ≡ ns ++ float_numbers_of (fs ++ f ∷ [])
+wait_more ns fs f = append_assoc ns (float_numbers_of fs) (f.node ∷ []) ∙ ap (λ (ms : List ℕ). ns ++ ms) (sym (map-append (λ (g : LineFloat). g.node) fs (f ∷ [])))
 
 met_one : (fr : Frame) (y : ℤ) (ss : List Stretch) (k : ℕ) (st : State) (f : LineFloat) (after : State) → MeetsFloat fr y ss k st f after → IsPermutation (met st ++ number f) (met after)
 met_one fr y ss k st f after (stands x z may e) =
     let placed = numbers_placed st.places in
-    let waiting = numbers_of st.put_off in
+    let waiting = float_numbers_of st.put_off in
     let moved = IsPermutation-trans _ _ _ (IsPermutation-to_front (placed ++ waiting) f.node) (IsPermutation-sym _ _ (IsPermutation-middle placed f.node waiting)) in
     let here = sym (place_more st.places (record { node = f.node; place = record { x = record { 0 = x }; y = record { 0 = z } } }) waiting) in
     subst (λ (s : State). IsPermutation (met st ++ number f) (met s)) (sym e) (subst (λ (ns : List ℕ). IsPermutation (met st ++ number f) ns) here moved)
@@ -86,14 +86,14 @@ met_one fr y ss k st f after (waits seen not e) =
     subst (λ (s : State). IsPermutation (met st ++ number f) (met s)) (sym e)
     (subst (λ (ns : List ℕ). IsPermutation (met st ++ number f) ns) (wait_more (numbers_placed st.places) st.put_off f) (IsPermutation-refl (met st ++ number f)))
 
-met_all : (fr : Frame) (y : ℤ) (ss : List Stretch) (k : ℕ) (fs : List LineFloat) (st after : State) → Meets fr y ss k fs st after → IsPermutation (met st ++ numbers_of fs) (met after)
+met_all : (fr : Frame) (y : ℤ) (ss : List Stretch) (k : ℕ) (fs : List LineFloat) (st after : State) → Meets fr y ss k fs st after → IsPermutation (met st ++ float_numbers_of fs) (met after)
 met_all fr y ss k fs st after c =
     subst (λ (ns : List ℕ). IsPermutation (met st ++ ns) (met after)) (part_all number fs ∙ flat_map_single (λ (f : LineFloat). f.node) fs)
     (chain_adds (MeetsAt fr y ss k fs) met number fs (λ j a b m. (m.0, m.1, met_one fr y ss k a m.0 b m.2)) (length fs) st after c)
 
 -- the floats in a stretch, without those before its content
 abbrev tail_of : Stretch → List ℕ
-tail_of s = numbers_of s.floats
+tail_of s = float_numbers_of s.floats
 
 taken_all : (fr : Frame) (y : ℤ) (ss : List Stretch) (n : ℕ) (st after : State) → Fills fr y ss n st after → IsPermutation (met st ++ part_to tail_of ss n) (met after)
 taken_all fr y ss n st after c =
@@ -102,15 +102,15 @@ taken_all fr y ss n st after c =
 -- the stretches of a line behind its first one have no floats before their content
 same_part : (o : Option Stretch) → ((t : Stretch) → o ≡ Some t → t.heads ≡ []) → part floats_of_stretch o ≡ part tail_of o
 same_part None none = refl
-same_part (Some t) none = ap (λ (fs : List LineFloat). numbers_of fs ++ numbers_of t.floats) (none t refl)
+same_part (Some t) none = ap (λ (fs : List LineFloat). float_numbers_of fs ++ float_numbers_of t.floats) (none t refl)
 
 line_floats : (ss : List Stretch) (s : Stretch) (n : ℕ) → slice_get ss 0 ≡ Some s → 0 < n → ((k : ℕ) (t : Stretch) → suc k < n → slice_get ss (suc k) ≡ Some t → t.heads ≡ [])
-    → numbers_of s.heads ++ part_to tail_of ss n ≡ part_to floats_of_stretch ss n
+    → float_numbers_of s.heads ++ part_to tail_of ss n ≡ part_to floats_of_stretch ss n
 line_floats ss s zero is some none = absurd (omega (arith, some))
 line_floats ss s (suc zero) is some none =
-    ap (λ (o : Option Stretch). numbers_of s.heads ++ part tail_of o) is ∙ sym (ap (λ (o : Option Stretch). part floats_of_stretch o) is)
+    ap (λ (o : Option Stretch). float_numbers_of s.heads ++ part tail_of o) is ∙ sym (ap (λ (o : Option Stretch). part floats_of_stretch o) is)
 line_floats ss s (suc (suc n)) is some none =
-    let heads = numbers_of s.heads in
+    let heads = float_numbers_of s.heads in
     let o = slice_get ss (suc n) in
     sym (append_assoc heads (part_to tail_of ss (suc n)) (part tail_of o))
     ∙ ap (λ (ns : List ℕ). ns ++ part tail_of o) (line_floats ss s (suc n) is (omega arith) (λ k t lt e. none k t (omega (arith, lt)) e))
@@ -132,14 +132,14 @@ row_adds : (p : Position) (r : Row) → HeadsBeginLines p.rest → IsRow p r →
 row_adds p r begin is =
     let f = is.filled in
     let n = r.reach.count in
-    let heads = numbers_of f.first.heads in
+    let heads = float_numbers_of f.first.heads in
     let tails = part_to tail_of p.rest n in
     let within = slice_get_within p.rest 0 f.first f.is in
     let some = takes_some p.frame r.top p.rest r.headed n within (top_fits p.frame r.top p.rest r.headed.floats f.top_is.begins) f.count_is in
     let first = met_all p.frame p.from p.rest 0 f.first.heads p.state r.headed f.heads in
     let then = taken_all p.frame r.top p.rest n r.headed r.filled f.filled_is in
     let last = met_all p.frame r.to p.rest 0 r.filled.put_off (emptied r.filled) r.after is.later in
-    let ours = subst (λ (ns : List ℕ). IsPermutation (ns ++ numbers_of r.filled.put_off) (met r.after)) (append-nil (numbers_placed r.filled.places)) last in
+    let ours = subst (λ (ns : List ℕ). IsPermutation (ns ++ float_numbers_of r.filled.put_off) (met r.after)) (append-nil (numbers_placed r.filled.places)) last in
     let all = IsPermutation-trans _ _ _ (IsPermutation-append_left tails _ _ first) (IsPermutation-trans _ _ _ then ours) in
     let same = append_assoc (met p.state) heads tails ∙ ap (λ (ns : List ℕ). met p.state ++ ns) (line_floats p.rest f.first n f.is some (no_heads p.rest n begin f.count_is.can)) in
     subst (λ (ns : List ℕ). IsPermutation ns (met r.after)) same all
@@ -177,6 +177,6 @@ each_float_has_a_place_lem c left right top before v begin lines =
     let st = lines.laid.position.state in
     let placed = numbers_placed st.places in
     let same =
-    ap (λ (ss : List Stretch). met st ++ floats_in ss) lines.are.all ∙ append-nil (met st) ∙ ap (λ (fs : List LineFloat). placed ++ numbers_of fs) end.none_wait
+    ap (λ (ss : List Stretch). met st ++ floats_in ss) lines.are.all ∙ append-nil (met st) ∙ ap (λ (fs : List LineFloat). placed ++ float_numbers_of fs) end.none_wait
     ∙ append-nil placed ∙ ap (λ (ps : List NodePlace). numbers_placed ps) lines.places in
     subst (λ (ns : List ℕ). IsPermutation all ns) same end.floats

@@ -5,15 +5,15 @@ use Rattle.lay_floats.specs.declared.requests.NodePlace.{NodePlace}
 use Rattle.lay_lines.specs.declared.content.content.LineFloat.{LineFloat}
 use Rattle.lay_lines.specs.declared.content.content.Stretch.{Stretch}
 
-abbrev pub numbers_of : List LineFloat → List ℕ
-numbers_of fs = map (λ (f : LineFloat). f.node) fs
+abbrev pub float_numbers_of : List LineFloat → List ℕ
+float_numbers_of fs = map (λ (f : LineFloat). f.node) fs
 
 abbrev pub numbers_placed : List NodePlace → List ℕ
 numbers_placed ps = map (λ (p : NodePlace). p.node) ps
 
 -- those before its content and those in it
 abbrev pub floats_of_stretch : Stretch → List ℕ
-floats_of_stretch s = numbers_of s.heads ++ numbers_of s.floats
+floats_of_stretch s = float_numbers_of s.heads ++ float_numbers_of s.floats
 
 abbrev pub floats_in : List Stretch → List ℕ
 floats_in ss = flat_map floats_of_stretch ss

@@ -20,8 +20,8 @@ pub record LinesValue : Type 0 where
   pub floats : List Placed
 
 -- the answer, and the floats after it
-abbrev pub lines_of : Lines → List Placed → LinesValue
-lines_of out floats = record { rows = out.rows; places = out.places; end = out.end; floats = floats }
+abbrev pub lines_with_floats : Lines → List Placed → LinesValue
+lines_with_floats out floats = record { rows = out.rows; places = out.places; end = out.end; floats = floats }
 
 abbrev pub frame_of : LineContentValue → Unit → Unit → Frame
 frame_of c left right = record { left = left; right = right; strut = c.strut; indent = c.indent; tab = c.tab }

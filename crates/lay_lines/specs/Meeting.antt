@@ -62,7 +62,7 @@ pub record IsBeside (fr : Frame) (y : ℤ) (ss : List Stretch) (k : ℕ) (st : S
 
 -- The float may stand at (x, z) when a line with its top at y meets it after its first k stretches: before all
 -- that is seen anywhere, and later at the line's top alone.
-pub record MayStand (fr : Frame) (y : ℤ) (ss : List Stretch) (k : ℕ) (st : State) (r : FloatReq) (x z : ℤ) : Type 0 where
+pub record MayFloatStand (fr : Frame) (y : ℤ) (ss : List Stretch) (k : ℕ) (st : State) (r : FloatReq) (x z : ℤ) : Type 0 where
   pub place : IsFloatPlace st.floats (below y r) x z
   pub beside : IsTrue (seen_to fr ss k) → IsBeside fr y ss k st r z
 
@@ -77,9 +77,9 @@ abbrev pub waited : State → LineFloat → State
 waited st f = record { floats = st.floats; places = st.places; put_off = st.put_off ++ f ∷ [] }
 
 pub data MeetsFloat (fr : Frame) (y : ℤ) (ss : List Stretch) (k : ℕ) (st : State) (f : LineFloat) (after : State) : Type 0 where
-  stands : (x z : ℤ) → MayStand fr y ss k st f.req x z → after ≡ stood st f x z
+  stands : (x z : ℤ) → MayFloatStand fr y ss k st f.req x z → after ≡ stood st f x z
       → MeetsFloat fr y ss k st f after
-  waits : IsTrue (seen_to fr ss k) → ((x z : ℤ) → MayStand fr y ss k st f.req x z → ⊥) → after ≡ waited st f
+  waits : IsTrue (seen_to fr ss k) → ((x z : ℤ) → MayFloatStand fr y ss k st f.req x z → ⊥) → after ≡ waited st f
       → MeetsFloat fr y ss k st f after
 
 abbrev pub MeetsAt : Frame → ℤ → List Stretch → ℕ → List LineFloat → ℕ → State → State → Type 0

@@ -134,8 +134,8 @@ abbrev pub position_of : Frame → ℤ → List InlineStart → List Stretch →
 position_of fr from bs ss st = record { frame = fr; from = from; open_boxes = bs; rest = ss; state = st }
 
 -- the line of which the code keeps this
-abbrev pub row_of : Ended → State → State → State → Row
-row_of e headed filled after =
+abbrev pub line_row : Ended → State → State → State → Row
+line_row e headed filled after =
     record {
       headed = headed;
       top = e.top.0;

@@ -2,7 +2,7 @@
 
 ghost use Rattle.std.specs.Prelude.{◌≡◌, ◌≤◌, ◌+◌, ◌^◌, ℕ, pos, All, IfOk, IfErr};
 ghost use Rattle.lay_floats.specs.Within.{IsWithin, BoxWithin};
-ghost use Rattle.lay_lines.specs.Lines.{LinesValue, AreLines, LinesWithin, growth, lines_of, frame_of};
+ghost use Rattle.lay_lines.specs.Lines.{LinesValue, AreLines, LinesWithin, growth, lines_with_floats, frame_of};
 ghost use Rattle.lay_lines.specs.Meeting.{IsFront};
 
 use crate::content::{Frame, LineContent};
@@ -39,9 +39,9 @@ pub fn lay(
     requires right { IsWithin (pos (2 ^ 50)) right.0 }
     requires top { IsWithin (pos (2 ^ 60)) top.0 }
     requires floats { All (BoxWithin (pos (2 ^ 60))) floats.old }
-    ensures lines { IfOk result (λ out. AreLines content.now left right top.0 floats.old (lines_of out floats.new)) }
+    ensures lines { IfOk result (λ out. AreLines content.now left right top.0 floats.old (lines_with_floats out floats.new)) }
     ensures near { IfOk result (λ out. (r : ℕ) → 2 ^ 50 ≤ r → r ≤ 2 ^ 60 → IsWithin (pos r) top.0
-        → All (BoxWithin (pos r)) floats.old → LinesWithin (pos (r + growth content.now)) (lines_of out floats.new)) }
+        → All (BoxWithin (pos r)) floats.old → LinesWithin (pos (r + growth content.now)) (lines_with_floats out floats.new)) }
     ensures stopped { IfErr result (λ _. (v : LinesValue) → AreLines content.now left right top.0 floats.old v
         → IsFront floats.new v.floats) }
 {

@@ -6,7 +6,7 @@ ghost use Rattle.lay_lines.specs.Meeting.{
   State,
   state_of,
   below,
-  MayStand,
+  MayFloatStand,
   MeetsFloat,
   Meets,
   CanMeet,
@@ -89,11 +89,11 @@ fn has_to_wait(floats: &Floats, met: &Met, line: &Line<'_>, reach: &Reach, req: 
     requires float { CanMeet line.now.top.0 floats.now req.now }
     ensures stands { IsFalse result → (x z : ℤ)
         → IsFloatPlace floats.now (below line.now.top.0 req.now) x z
-        → MayStand line.now.frame line.now.top.0 line.now.stretches.now reach.now.count
+        → MayFloatStand line.now.frame line.now.top.0 line.now.stretches.now reach.now.count
         (state_of floats.now met.now) req.now x z }
     ensures seen { IsTrue result → IsTrue (seen_to line.now.frame line.now.stretches.now reach.now.count) }
     ensures waits { IsTrue result → (x z : ℤ)
-        → MayStand line.now.frame line.now.top.0 line.now.stretches.now reach.now.count
+        → MayFloatStand line.now.frame line.now.top.0 line.now.stretches.now reach.now.count
         (state_of floats.now met.now) req.now x z → ⊥ }
 {
     one_float_place();

@@ -9,7 +9,7 @@ ghost use Rattle.lay_lines.specs.Content.Extents.{any_shows, parts_to, reading_t
 ghost use Rattle.lay_lines.specs.Filling.{IsTop};
 ghost use Rattle.lay_lines.specs.Meeting.{State, state_of, Meets, CanMeetAll, RoomsFit, IsFront};
 ghost use Rattle.lay_lines.specs.Reaching.{IsReach};
-ghost use Rattle.lay_lines.specs.Rows.{OpensNone, Row, IsFilled, IsRow, CanRow, position_of, row_of};
+ghost use Rattle.lay_lines.specs.Rows.{OpensNone, Row, IsFilled, IsRow, CanRow, position_of, line_row};
 
 use crate::content::{Extent, InlineStart, any_shows, line_shape};
 use crate::line::Line;
@@ -57,7 +57,7 @@ pub fn put_row(
         (state_of floats.old met.old)) }
     ensures row { IfOk result (λ e. (headed : State) × (filled : State)
         × IsRow (position_of rest.now.frame rest.now.top.0 boxes.old.items rest.now.stretches.now
-        (state_of floats.old met.old)) (row_of e headed filled (state_of floats.new met.new))) }
+        (state_of floats.old met.old)) (line_row e headed filled (state_of floats.new met.new))) }
     ensures boxes { IfOk result (λ e. boxes.new.items
         ≡ (reading_to rest.now.frame boxes.old.items rest.now.stretches.now e.reach.count).open_boxes) }
     ensures within { IfOk result (λ e. e.reach.count ≤ length rest.now.stretches.now) }
@@ -95,7 +95,7 @@ fn fill_row(
         (state_of floats.old met.old)) }
     ensures filled { IfOk result (λ e. (headed : State) × ((after : State)
         → IsFilled (position_of rest.now.frame rest.now.top.0 boxes.old.items rest.now.stretches.now
-        (state_of floats.old met.old)) (row_of e headed (state_of floats.new met.new) after))) }
+        (state_of floats.old met.old)) (line_row e headed (state_of floats.new met.new) after))) }
     ensures boxes { IfOk result (λ e. boxes.new.items
         ≡ (reading_to rest.now.frame boxes.old.items rest.now.stretches.now e.reach.count).open_boxes) }
     ensures stopped { IfErr result (λ _. (r : Row)

@@ -3,7 +3,7 @@ use Rattle.std.proofs.Common.{◌≡◌, ℤ, pos, ◌≤ℤ◌, List, [], ◌�
 use Rattle.std.proofs.lemmas.Int.{ints, clamps}
 use Rattle.std.specs.Int.{int_max, int_min}
 use Rattle.lay_margins.specs.StrutValue.{StrutValue}
-use Rattle.lay_margins.specs.Collapse.{Holds, greatest, least}
+use Rattle.lay_margins.specs.Collapse.{Holds, greatest_margin, least}
 use Rattle.lay_margins.specs.Laws.{OneStrut}
 
 max_assoc : (a b c : ℤ) → int_max (int_max a b) c ≡ int_max a (int_max b c)
@@ -18,7 +18,7 @@ max_zero a up = omega (arith, ints, clamps, up)
 min_zero : (a : ℤ) → a ≤ℤ pos 0 → a ≡ int_min (pos 0) a
 min_zero a down = omega (arith, ints, clamps, down)
 
-greatest_up : (ms : List ℤ) → pos 0 ≤ℤ greatest ms
+greatest_up : (ms : List ℤ) → pos 0 ≤ℤ greatest_margin ms
 greatest_up [] = omega (arith, ints)
 greatest_up (m ∷ ms) = let up = greatest_up ms in omega (arith, ints, clamps, up)
 
@@ -26,9 +26,9 @@ least_down : (ms : List ℤ) → least ms ≤ℤ pos 0
 least_down [] = omega (arith, ints)
 least_down (m ∷ ms) = let down = least_down ms in omega (arith, ints, clamps, down)
 
-greatest-append : (ms ns : List ℤ) → greatest (ms ++ ns) ≡ int_max (greatest ms) (greatest ns)
-greatest-append [] ns = max_zero (greatest ns) (greatest_up ns)
-greatest-append (m ∷ ms) ns = ap (int_max m) (greatest-append ms ns) ∙ sym (max_assoc m (greatest ms) (greatest ns))
+greatest-append : (ms ns : List ℤ) → greatest_margin (ms ++ ns) ≡ int_max (greatest_margin ms) (greatest_margin ns)
+greatest-append [] ns = max_zero (greatest_margin ns) (greatest_up ns)
+greatest-append (m ∷ ms) ns = ap (int_max m) (greatest-append ms ns) ∙ sym (max_assoc m (greatest_margin ms) (greatest_margin ns))
 
 least-append : (ms ns : List ℤ) → least (ms ++ ns) ≡ int_min (least ms) (least ns)
 least-append [] ns = min_zero (least ns) (least_down ns)
@@ -42,13 +42,13 @@ min_last a m down = omega (arith, ints, clamps, down)
 
 pub holds_one_more : (s t : StrutValue) (ms : List ℤ) (m : ℤ) → Holds s ms → t.positive ≡ int_max s.positive m → t.negative ≡ int_min s.negative m → Holds t (ms ++ m ∷ [])
 holds_one_more s t ms m holds p n = record {
-  positive_is = p ∙ ap (λ v. int_max v m) holds.positive_is ∙ max_last (greatest ms) m (greatest_up ms) ∙ sym (greatest-append ms (m ∷ []));
+  positive_is = p ∙ ap (λ v. int_max v m) holds.positive_is ∙ max_last (greatest_margin ms) m (greatest_up ms) ∙ sym (greatest-append ms (m ∷ []));
   negative_is = n ∙ ap (λ v. int_min v m) holds.negative_is ∙ min_last (least ms) m (least_down ms) ∙ sym (least-append ms (m ∷ []));
 }
 
 pub holds_both : (s t u : StrutValue) (ms ns : List ℤ) → Holds s ms → Holds t ns → u.positive ≡ int_max s.positive t.positive → u.negative ≡ int_min s.negative t.negative → Holds u (ms ++ ns)
 holds_both s t u ms ns hs ht p n = record {
-  positive_is = p ∙ ap (λ v. int_max v t.positive) hs.positive_is ∙ ap (int_max (greatest ms)) ht.positive_is ∙ sym (greatest-append ms ns);
+  positive_is = p ∙ ap (λ v. int_max v t.positive) hs.positive_is ∙ ap (int_max (greatest_margin ms)) ht.positive_is ∙ sym (greatest-append ms ns);
   negative_is = n ∙ ap (λ v. int_min v t.negative) hs.negative_is ∙ ap (int_min (least ms)) ht.negative_is ∙ sym (least-append ms ns);
 }
 

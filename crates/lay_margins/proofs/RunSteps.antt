@@ -7,7 +7,7 @@ use Rattle.lay_margins.specs.declared.edge.Edge.{Edge}
 use Rattle.lay_margins.specs.declared.edge.Edge.TheVariants.{Margin as margin, Mark as mark}
 use Rattle.lay_margins.specs.declared.edge.Run.{Run}
 use Rattle.lay_margins.specs.Runs.{IsSolidAt, IsClearAt, Adjoin, IsRun, AreRuns}
-use Rattle.lay_margins.specs.RunsTo.{RunsTo, IsParted, closed}
+use Rattle.lay_margins.specs.RunsTo.{RunsTo, IsParted, runs_closed}
 use Rattle.lay_margins.proofs.Places.{old_place, last_place, one_more}
 
 abbrev pub run_of : ℕ → ℕ → Run
@@ -96,7 +96,7 @@ closed_none edges runs first k t not = record {
   order = t.order;
 }
 
-pub closing : (edges : List Edge) (runs : List Run) (first k : ℕ) → RunsTo edges runs first k → k ≤ length edges → IsCut edges k → Closed edges (closed runs first k) k
+pub closing : (edges : List Edge) (runs : List Run) (first k : ℕ) → RunsTo edges runs first k → k ≤ length edges → IsCut edges k → Closed edges (runs_closed runs first k) k
 closing edges runs first k t within cut = elim (cases_lt first k) [
   | inl less ↦ (let e = lt-ltb first k less in rw e (closed_more edges runs first k t within less cut))
   | inr not ↦ (let e = le-ltb first k not in rw e (closed_none edges runs first k t not))

@@ -6,9 +6,9 @@ use Rattle.std.specs.Int.{int_min, int_max}
 use Rattle.lay_margins.specs.StrutValue.{StrutValue}
 
 -- the greatest of zero and these
-abbrev pub greatest : List ℤ → ℤ
-greatest [] = pos 0
-greatest (m ∷ ms) = int_max m (greatest ms)
+abbrev pub greatest_margin : List ℤ → ℤ
+greatest_margin [] = pos 0
+greatest_margin (m ∷ ms) = int_max m (greatest_margin ms)
 
 -- the least of zero and these
 abbrev pub least : List ℤ → ℤ
@@ -16,9 +16,9 @@ least [] = pos 0
 least (m ∷ ms) = int_min m (least ms)
 
 abbrev pub collapse : List ℤ → ℤ
-collapse margins = greatest margins +ℤ least margins
+collapse margins = greatest_margin margins +ℤ least margins
 
 -- the strut holds these margins
 pub record Holds (strut : StrutValue) (margins : List ℤ) : Type 0 where
-  pub positive_is : strut.positive ≡ greatest margins
+  pub positive_is : strut.positive ≡ greatest_margin margins
   pub negative_is : strut.negative ≡ least margins

@@ -5,8 +5,8 @@ use Rattle.lay_margins.specs.declared.edge.Run.{Run}
 use Rattle.lay_margins.specs.Runs.{IsSolidAt, IsClearAt, IsRun}
 
 -- the runs, and the stretch from `first` to before `end`, unless that is empty
-abbrev pub closed : List Run → ℕ → ℕ → List Run
-closed runs first end = if nat_lt first end then runs ++ record { first = first; len = end - first } ∷ [] else runs
+abbrev pub runs_closed : List Run → ℕ → ℕ → List Run
+runs_closed runs first end = if nat_lt first end then runs ++ record { first = first; len = end - first } ∷ [] else runs
 
 -- the edges before the place k are parted from it
 abbrev pub IsParted : List Edge → ℕ → Type 0

@@ -2,7 +2,7 @@
 
 ghost use Rattle.std.specs.Prelude.{◌≡◌, ◌+◌, ◌^◌, ◌<◌, ◌≤◌, length, slice_get, Some, IfOk, OnOk};
 ghost use Rattle.lay_margins.specs.Runs.{AreRuns};
-ghost use Rattle.lay_margins.specs.RunsTo.{RunsTo, closed};
+ghost use Rattle.lay_margins.specs.RunsTo.{RunsTo, runs_closed};
 
 use crate::edge::{Edge, Run, RunList};
 use lay_units::NoMemory;
@@ -54,7 +54,7 @@ fn edge_at(edges: &[Edge], k: usize) -> Edge
 fn close(runs: &mut Vec<Run>, first: usize, end: usize) -> Result<(), NoMemory>
     requires order { first ≤ end }
     requires few { end < 2 ^ 32 }
-    ensures { OnOk result (runs.new.items ≡ closed runs.old.items first end) }
+    ensures { OnOk result (runs.new.items ≡ runs_closed runs.old.items first end) }
 {
     if first < end {
         runs.push(Run {

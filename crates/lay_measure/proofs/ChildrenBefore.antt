@@ -8,7 +8,7 @@ use Rattle.lay_box_tree.specs.declared.box_tree.BoxNode.{BoxNode}
 use Rattle.lay_measure.specs.ChildTotals.{totals_of}
 use Rattle.lay_measure.specs.declared.children.ChildTotals.{ChildTotals}
 use Rattle.lay_measure.specs.MeasureInValue.{MeasureInValue}
-use Rattle.lay_measure.specs.PreferredWidths.{as_child, children}
+use Rattle.lay_measure.specs.PreferredWidths.{as_measured_child, children}
 
 pub parent_at : (boxes : List BoxNode) (k : ℕ) (d : BoxNode) → k < length boxes → slice_index (box_parents boxes) k ≡ (get_or boxes k d).parent
 parent_at [] k d lt = absurd (omega (arith, lt))
@@ -16,12 +16,12 @@ parent_at (b ∷ bs) zero d lt = refl
 parent_at (b ∷ bs) (suc k) d lt = parent_at bs k d (omega (arith, lt))
 
 -- the box at k is a child
-pub is_child : (m : MeasureInValue) (p k : ℕ) (d : BoxNode) → k < length m.boxes → (get_or m.boxes k d).parent ≡ p → children m p k (drop k m.boxes) ≡ as_child m k (get_or m.boxes k d) (children m k (k + 1) (drop (k + 1) m.boxes)) ++ children m p (k + 1) (drop (k + 1) m.boxes)
+pub is_child : (m : MeasureInValue) (p k : ℕ) (d : BoxNode) → k < length m.boxes → (get_or m.boxes k d).parent ≡ p → children m p k (drop k m.boxes) ≡ as_measured_child m k (get_or m.boxes k d) (children m k (k + 1) (drop (k + 1) m.boxes)) ++ children m p (k + 1) (drop (k + 1) m.boxes)
 is_child m p k d lt e =
     let b = get_or m.boxes k d in
     let bs = drop (k + 1) m.boxes in
     let same : (b.parent == p) ≡ true = eq-eqb b.parent p e in
-    let step : children m p k (b ∷ bs) ≡ as_child m k b (children m k (k + 1) bs) ++ children m p (k + 1) bs = rw same refl in
+    let step : children m p k (b ∷ bs) ≡ as_measured_child m k b (children m k (k + 1) bs) ++ children m p (k + 1) bs = rw same refl in
     ap (λ xs. children m p k xs) (drop_more m.boxes k d lt) ∙ step
 
 -- the box at k isn't
@@ -46,7 +46,7 @@ pub known_further : (m : MeasureInValue) (k : ℕ) (d : BoxNode) (parent : ℕ) 
     → slice_get new parent ≡ Some t
     → ((q : ℕ) → q ≢ parent → slice_get new q ≡ slice_get old q)
     → ((p : ℕ) → p ≤ k → slice_get old p ≡ Some (totals_from m p (k + 1)))
-    → t ≡ totals_of (as_child m k (get_or m.boxes k d) (children m k (k + 1) (drop (k + 1) m.boxes)) ++ children m parent (k + 1) (drop (k + 1) m.boxes))
+    → t ≡ totals_of (as_measured_child m k (get_or m.boxes k d) (children m k (k + 1) (drop (k + 1) m.boxes)) ++ children m parent (k + 1) (drop (k + 1) m.boxes))
     → (p : ℕ) → p < k → slice_get new p ≡ Some (totals_from m p k)
 known_further m k d parent old new t lt at here others known value p less = from (cases_eq p parent)
   where

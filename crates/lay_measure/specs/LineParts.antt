@@ -112,17 +112,17 @@ abbrev pub text_parts : Mode → List ℕ → List ClusterWidth → List LinePar
 text_parts m text [] = []
 text_parts m text (w ∷ ws) = part_between m text w (next_place text ws) ∷ text_parts m text ws
 
-abbrev pub parts_at : MeasureInValue → Item → List LinePart
-parts_at m (item.Text k text mode widths) = text_parts mode text widths
-parts_at m (item.Start k takes) = start_in m k (slice_get m.boxes k) ∷ []
-parts_at m (item.End k) = end_in m k (slice_get m.boxes k) ∷ []
-parts_at m (item.Atomic k mode) = part.Atomic (contribution_at m k) ∷ []
-parts_at m (item.Float k) = part.Float (contribution_at m k) ∷ []
-parts_at m (item.Anchor k) = []
+abbrev pub line_parts_of_item : MeasureInValue → Item → List LinePart
+line_parts_of_item m (item.Text k text mode widths) = text_parts mode text widths
+line_parts_of_item m (item.Start k takes) = start_in m k (slice_get m.boxes k) ∷ []
+line_parts_of_item m (item.End k) = end_in m k (slice_get m.boxes k) ∷ []
+line_parts_of_item m (item.Atomic k mode) = part.Atomic (contribution_at m k) ∷ []
+line_parts_of_item m (item.Float k) = part.Float (contribution_at m k) ∷ []
+line_parts_of_item m (item.Anchor k) = []
 
 abbrev pub parts_of : MeasureInValue → List Item → List LinePart
 parts_of m [] = []
-parts_of m (x ∷ xs) = parts_at m x ++ parts_of m xs
+parts_of m (x ∷ xs) = line_parts_of_item m x ++ parts_of m xs
 
 -- the content of a container with these segments, with the breaks between them
 abbrev pub line_parts : MeasureInValue → List Segment → List LinePart

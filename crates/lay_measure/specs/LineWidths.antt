@@ -32,16 +32,16 @@ abbrev pub begun : Length → Pen
 begun at = record { at = at; visible = at; started = false }
 
 -- content reaches to here
-abbrev pub went : ℤ → Pen
-went to = record { at = record { 0 = to }; visible = record { 0 = to }; started = true }
+abbrev pub pen_reaching : ℤ → Pen
+pen_reaching to = record { at = record { 0 = to }; visible = record { 0 = to }; started = true }
 
 -- a collapsible space is gone at the start of a line, and counts where something follows
-abbrev pub spaced : Pen → ℤ → Pen
-spaced p w = if p.started then record { at = record { 0 = p.at.0 +ℤ w }; visible = p.visible; started = true } else p
+abbrev pub pen_spaced : Pen → ℤ → Pen
+pen_spaced p w = if p.started then record { at = record { 0 = p.at.0 +ℤ w }; visible = p.visible; started = true } else p
 
 -- a preserved space counts where something follows
-abbrev pub hung : Pen → ℤ → Pen
-hung p w = record { at = record { 0 = p.at.0 +ℤ w }; visible = p.visible; started = true }
+abbrev pub pen_hung : Pen → ℤ → Pen
+pen_hung p w = record { at = record { 0 = p.at.0 +ℤ w }; visible = p.visible; started = true }
 
 -- an edge of an inline box takes its room before and after spaces alike
 abbrev pub moved : Pen → ℤ → Pen
@@ -53,20 +53,20 @@ width_for breaking.WhereAllowed w = w.minimum
 width_for breaking.WhereForced w = w.preferred
 
 -- how far a line has come after a part, where tab stops are so far apart
-abbrev pub over : Breaking → ℤ → Pen → LinePart → Pen
-over how tab p (part.Space w) = spaced p w.0
-over how tab p (part.HangingSpace w) = hung p w.0
-over how tab p part.Tab = went (next_stop tab p.at.0)
-over how tab p part.Linefeed = p
-over how tab p (part.Cluster w) = went (p.at.0 +ℤ w.0)
-over how tab p (part.Edge w seen) = moved p w.0
-over how tab p (part.Atomic w) = went (p.at.0 +ℤ (width_for how w).0)
-over how tab p (part.Float w) = p
-over how tab p (part.Break forced) = p
+abbrev pub pen_over : Breaking → ℤ → Pen → LinePart → Pen
+pen_over how tab p (part.Space w) = pen_spaced p w.0
+pen_over how tab p (part.HangingSpace w) = pen_hung p w.0
+pen_over how tab p part.Tab = pen_reaching (next_stop tab p.at.0)
+pen_over how tab p part.Linefeed = p
+pen_over how tab p (part.Cluster w) = pen_reaching (p.at.0 +ℤ w.0)
+pen_over how tab p (part.Edge w seen) = moved p w.0
+pen_over how tab p (part.Atomic w) = pen_reaching (p.at.0 +ℤ (width_for how w).0)
+pen_over how tab p (part.Float w) = p
+pen_over how tab p (part.Break forced) = p
 
-abbrev pub over_all : Breaking → ℤ → Pen → List LinePart → Pen
-over_all how tab p [] = p
-over_all how tab p (x ∷ xs) = over_all how tab (over how tab p x) xs
+abbrev pub pen_after : Breaking → ℤ → Pen → List LinePart → Pen
+pen_after how tab p [] = p
+pen_after how tab p (x ∷ xs) = pen_after how tab (pen_over how tab p x) xs
 
 -- how wide the floats of a line are beside each other, and how wide the widest is
 abbrev pub float_sum : List LinePart → ℤ
@@ -81,8 +81,8 @@ widest_float (_ ∷ xs) = widest_float xs
 
 -- how wide a line of these parts is, which begins at `start`, with its floats
 abbrev pub line_width : Breaking → ℤ → Length → List LinePart → ℤ
-line_width breaking.WhereAllowed tab start xs = int_max (over_all breaking.WhereAllowed tab (begun start) xs).visible.0 (widest_float xs)
-line_width breaking.WhereForced tab start xs = (over_all breaking.WhereForced tab (begun start) xs).visible.0 +ℤ float_sum xs
+line_width breaking.WhereAllowed tab start xs = int_max (pen_after breaking.WhereAllowed tab (begun start) xs).visible.0 (widest_float xs)
+line_width breaking.WhereForced tab start xs = (pen_after breaking.WhereForced tab (begun start) xs).visible.0 +ℤ float_sum xs
 
 -- whether a line ends here
 abbrev pub ends_line : Breaking → LinePart → Bool
@@ -113,12 +113,12 @@ is_seen (part.Float w) = false
 is_seen (part.Break forced) = false
 
 -- `text-indent`
-abbrev pub indent_of : LengthPercentage → Length
-indent_of (measure.Length u) = length_of u.0
-indent_of (measure.Percent h) = no_length
+abbrev pub indent_length : LengthPercentage → Length
+indent_length (measure.Length u) = length_of u.0
+indent_length (measure.Percent h) = no_length
 
 abbrev pub first_start : TextStyle → List LinePart → Length
-first_start s xs = if list_any is_seen xs then indent_of s.text_indent else no_length
+first_start s xs = if list_any is_seen xs then indent_length s.text_indent else no_length
 
 -- how far apart tab stops are: eight times the width of a space (16.6)
 abbrev pub tab_of : FaceValue → TextStyle → ℤ

@@ -24,30 +24,30 @@ lines_widths m k None = no_widths
 lines_widths m k (Some b) = inline_widths m b.style.text (segments_in m.face m.boxes k)
 
 -- those of the content of the block box at k, which has these children
-abbrev pub content_widths : MeasureInValue → ℕ → List Child → PreferredWidths
-content_widths m k cs = if holds_lines cs then lines_widths m k (slice_get m.boxes k) else block_widths cs
+abbrev pub block_content_widths : MeasureInValue → ℕ → List Child → PreferredWidths
+block_content_widths m k cs = if holds_lines cs then lines_widths m k (slice_get m.boxes k) else block_widths cs
 
 -- those of the box at k that has this role: of its content in this context, or given ones
-abbrev pub own_widths : MeasureInValue → ℕ → Role → List Child → PreferredWidths
-own_widths m k role.Block cs = content_widths m k cs
-own_widths m k _ cs = inner_at m k
+abbrev pub own_preferred_widths : MeasureInValue → ℕ → Role → List Child → PreferredWidths
+own_preferred_widths m k role.Block cs = block_content_widths m k cs
+own_preferred_widths m k _ cs = inner_at m k
 
 -- the box at k as a child, which has these children itself
-abbrev pub as_child : MeasureInValue → ℕ → BoxNode → List Child → List Child
-as_child m k b cs = child_as (role_of b) (contribution b (own_widths m k (role_of b) cs))
+abbrev pub as_measured_child : MeasureInValue → ℕ → BoxNode → List Child → List Child
+as_measured_child m k b cs = child_as (role_of b) (contribution b (own_preferred_widths m k (role_of b) cs))
 
 -- the children of the box at p that stand from the place k on, where these boxes stand
 abbrev pub children : MeasureInValue → ℕ → ℕ → List BoxNode → List Child
 children m p k [] = []
 children m p k (b ∷ bs) =
-    if b.parent == p then as_child m k b (children m k (k + 1) bs) ++ children m p (k + 1) bs
+    if b.parent == p then as_measured_child m k b (children m k (k + 1) bs) ++ children m p (k + 1) bs
     else children m p (k + 1) bs
 
 -- those of a context whose own box is this one: a replaced element has the width of the replaced rules
 abbrev pub preferred_as : MeasureInValue → BoxKind → Style → PreferredWidths
 preferred_as m (kind.Replaced w h inline) s =
     record { minimum = record { 0 = replaced_width w h s }; preferred = record { 0 = replaced_width w h s } }
-preferred_as m _ s = content_widths m 0 (children m 0 1 (drop 1 m.boxes))
+preferred_as m _ s = block_content_widths m 0 (children m 0 1 (drop 1 m.boxes))
 
 abbrev pub preferred_in : MeasureInValue → Option BoxNode → PreferredWidths
 preferred_in m None = no_widths

@@ -21,8 +21,8 @@ length_or_auto (or_auto.Length u) = of (size_of u.0)
 length_or_auto (or_auto.Percent h) = auto
 
 -- an element of these natural sizes and this style
-abbrev pub replaced_of : Length → Length → Style → ReplacedIn
-replaced_of w h s = record {
+abbrev pub replaced_of_natural_size : Length → Length → Style → ReplacedIn
+replaced_of_natural_size w h s = record {
   natural_width = natural_length w;
   natural_height = natural_length h;
   width = length_or_auto s.sizing.width;
@@ -37,4 +37,4 @@ abbrev pub width_of : ReplacedIn → ℤ
 width_of r = clamp_size_of (sizes_for r r.width r.height).width
 
 abbrev pub replaced_width : Length → Length → Style → ℤ
-replaced_width w h s = width_of (replaced_of w h s)
+replaced_width w h s = width_of (replaced_of_natural_size w h s)

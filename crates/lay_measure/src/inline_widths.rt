@@ -3,7 +3,7 @@
 ghost use Rattle.std.specs.Prelude.{◌≡◌, ◌<◌, ◌≤◌, ◌+◌, length, [], IfOk};
 ghost use Rattle.std.specs.List.{list_any};
 ghost use Rattle.lay_measure.specs.WidestLine.{widest_with};
-ghost use Rattle.lay_measure.specs.LineWidths.{first_start, indent_of, inline_widths, is_seen, lines_of, parts_widths, tab_of, widest};
+ghost use Rattle.lay_measure.specs.LineWidths.{first_start, indent_length, inline_widths, is_seen, lines_of, parts_widths, tab_of, widest};
 
 use crate::line_parts::{LinePart, line_parts};
 use crate::measure_in::MeasureIn;
@@ -121,7 +121,7 @@ fn is_seen(part: LinePart) -> bool
 
 /// `text-indent`, of which a percentage is 0.
 fn indent_of(indent: LengthPercentage) -> Unit
-    ensures { result ≡ indent_of indent }
+    ensures { result ≡ indent_length indent }
 {
     match indent {
         LengthPercentage::Length(length) => clamp(i128::from(length.0)),

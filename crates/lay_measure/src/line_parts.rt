@@ -3,7 +3,7 @@
 ghost use Rattle.std.specs.Prelude.{◌≡◌, ◌++◌, ◌∷◌, [], slice_get, OnOk, IfOk};
 ghost use Rattle.lay_measure.specs.LineParts.{cluster_part, end_in, end_of, has_bottom_edges, has_left_edges, has_right_edges};
 ghost use Rattle.lay_measure.specs.LineParts.{has_top_edges, has_vertical_edges, line_parts, part_between};
-ghost use Rattle.lay_measure.specs.LineParts.{parts_at, parts_of, start_in, start_of, text_parts};
+ghost use Rattle.lay_measure.specs.LineParts.{line_parts_of_item, parts_of, start_in, start_of, text_parts};
 
 use crate::contributions::{
     contribution_at, left_edges, margin_or_zero, right_edges, size_or_zero,
@@ -66,7 +66,7 @@ fn put_items(parts: &mut Vec<LinePart>, of: &MeasureIn<'_>, items: &[Item]) -> R
 
 /// Puts what an item is in a line. What is absolutely positioned isn't in it.
 fn put_item(parts: &mut Vec<LinePart>, of: &MeasureIn<'_>, item: &Item) -> Result<(), NoMemory>
-    ensures { OnOk result (parts.new.items ≡ parts.old.items ++ parts_at of.now item.now) }
+    ensures { OnOk result (parts.new.items ≡ parts.old.items ++ line_parts_of_item of.now item.now) }
 {
     match item {
         Item::Text {

@@ -11,7 +11,8 @@ ghost use Rattle.lay_measure.specs.ChildTotals.{totals_of};
 ghost use Rattle.lay_measure.specs.LineParts.{contribution};
 ghost use Rattle.lay_measure.specs.LineWidths.{inline_widths};
 ghost use Rattle.lay_measure.specs.ReplacedWidths.{replaced_width};
-ghost use Rattle.lay_measure.specs.PreferredWidths.{children, content_widths, lines_widths, own_widths, preferred_as, preferred_of};
+ghost use Rattle.lay_measure.specs.PreferredWidths.{children, block_content_widths, lines_widths};
+ghost use Rattle.lay_measure.specs.PreferredWidths.{own_preferred_widths, preferred_as, preferred_of};
 
 use crate::children::{ChildTotals, NO_CHILDREN};
 use crate::contributions::contribution;
@@ -72,7 +73,7 @@ fn tree_widths(alloc: Global, of: &MeasureIn<'_>) -> Result<PreferredWidths, NoM
     requires tree { IsTree (box_parents of.now.boxes) }
     requires few { length of.now.boxes ≤ 4294967295 }
     requires some { 0 < length of.now.boxes }
-    ensures { IfOk result (λ w. w ≡ content_widths of.now 0 (children of.now 0 1 (drop 1 of.now.boxes))) }
+    ensures { IfOk result (λ w. w ≡ block_content_widths of.now 0 (children of.now 0 1 (drop 1 of.now.boxes))) }
 {
     let count = of.boxes().len();
     let mut totals = Vec::from_elem(alloc, NO_CHILDREN, count)?;
@@ -149,7 +150,7 @@ fn child_widths(
     requires few { length of.now.boxes ≤ 4294967295 }
     requires inside { k < length of.now.boxes }
     ensures { IfOk result
-        (λ w. (cs : List Child) → inside ≡ totals_of cs → w ≡ contribution node.now (own_widths of.now k (role_of node.now) cs)) }
+        (λ w. (cs : List Child) → inside ≡ totals_of cs → w ≡ contribution node.now (own_preferred_widths of.now k (role_of node.now) cs)) }
 {
     let own = own_widths(alloc, of, k, node.role(), inside)?;
     contribution(node, own)
@@ -166,7 +167,7 @@ fn own_widths(
     requires tree { IsTree (box_parents of.now.boxes) }
     requires few { length of.now.boxes ≤ 4294967295 }
     requires inside { k < length of.now.boxes }
-    ensures { IfOk result (λ w. (cs : List Child) → totals ≡ totals_of cs → w ≡ own_widths of.now k role cs) }
+    ensures { IfOk result (λ w. (cs : List Child) → totals ≡ totals_of cs → w ≡ own_preferred_widths of.now k role cs) }
 {
     match role {
         Role::Block => content_widths(alloc, of, k, totals),
@@ -184,7 +185,7 @@ fn content_widths(
     requires tree { IsTree (box_parents of.now.boxes) }
     requires few { length of.now.boxes ≤ 4294967295 }
     requires inside { k < length of.now.boxes }
-    ensures { IfOk result (λ w. (cs : List Child) → totals ≡ totals_of cs → w ≡ content_widths of.now k cs) }
+    ensures { IfOk result (λ w. (cs : List Child) → totals ≡ totals_of cs → w ≡ block_content_widths of.now k cs) }
 {
     if !totals.lines {
         return Ok(totals.widths());

@@ -2,8 +2,8 @@
 
 ghost use Rattle.std.specs.Prelude.{◌≡◌, ◌*ℤ◌, IfOk};
 ghost use Rattle.lay_units.specs.TabStops.{next_stop};
-ghost use Rattle.lay_measure.specs.LineWidths.{begun, ends_line, float_sum, hung, line_width, moved};
-ghost use Rattle.lay_measure.specs.LineWidths.{over, over_all, spaced, went, widest_float, width_for};
+ghost use Rattle.lay_measure.specs.LineWidths.{begun, ends_line, float_sum, pen_hung, line_width, moved};
+ghost use Rattle.lay_measure.specs.LineWidths.{pen_over, pen_after, pen_spaced, pen_reaching, widest_float, width_for};
 
 use crate::line_parts::LinePart;
 use crate::preferred_widths::PreferredWidths;
@@ -43,7 +43,7 @@ pub(crate) fn line_width(
 }
 
 fn over_all(how: Breaking, tab: Unit, start: Unit, parts: &[LinePart]) -> Result<Pen, NoMemory>
-    ensures { IfOk result (λ p. p ≡ over_all how tab.0 (begun start) parts.now) }
+    ensures { IfOk result (λ p. p ≡ pen_after how tab.0 (begun start) parts.now) }
 {
     let mut pen = Pen {
         at: start,
@@ -105,7 +105,7 @@ fn width_for(how: Breaking, widths: PreferredWidths) -> Unit
 
 impl Pen {
     fn over(self, how: Breaking, tab: Unit, part: LinePart) -> Result<Pen, NoMemory>
-        ensures { IfOk result (λ p. p ≡ over how tab.0 self part) }
+        ensures { IfOk result (λ p. p ≡ pen_over how tab.0 self part) }
     {
         match part {
             LinePart::Space(width) => self.spaced(width),
@@ -119,7 +119,7 @@ impl Pen {
     }
 
     fn spaced(self, width: Unit) -> Result<Pen, NoMemory>
-        ensures { IfOk result (λ p. p ≡ spaced self width.0) }
+        ensures { IfOk result (λ p. p ≡ pen_spaced self width.0) }
     {
         if !self.started {
             return Ok(self);
@@ -132,7 +132,7 @@ impl Pen {
     }
 
     fn hung(self, width: Unit) -> Result<Pen, NoMemory>
-        ensures { IfOk result (λ p. p ≡ hung self width.0) }
+        ensures { IfOk result (λ p. p ≡ pen_hung self width.0) }
     {
         Ok(Pen {
             at: sum(self.at, width)?,
@@ -142,7 +142,7 @@ impl Pen {
     }
 
     fn went(to: Unit) -> Pen
-        ensures { result ≡ went to.0 }
+        ensures { result ≡ pen_reaching to.0 }
     {
         Pen {
             at: to,

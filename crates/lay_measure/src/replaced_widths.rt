@@ -4,7 +4,7 @@ ghost use Rattle.std.specs.Prelude.{◌≡◌, IfSome};
 ghost use Rattle.lay_units.specs.Units.{IsSize};
 ghost use Rattle.lay_widths.specs.Lengths.{LenIsSize};
 ghost use Rattle.lay_widths.specs.ReplacedFits.{ReplacedFits};
-ghost use Rattle.lay_measure.specs.ReplacedWidths.{length_or_auto, replaced_of, replaced_width};
+ghost use Rattle.lay_measure.specs.ReplacedWidths.{length_or_auto, replaced_of_natural_size, replaced_width};
 ghost use Rattle.lay_measure.specs.Contributions.{limit_of, size_or_zero};
 
 use crate::contributions::{limit_of, size_or_zero};
@@ -20,7 +20,7 @@ pub(crate) fn replaced_width(w: Unit, h: Unit, style: &Style) -> Unit
 }
 
 fn replaced_of(w: Unit, h: Unit, style: &Style) -> ReplacedIn
-    ensures value { result ≡ replaced_of w h style.now }
+    ensures value { result ≡ replaced_of_natural_size w h style.now }
     ensures fits { ReplacedFits result }
 {
     let sizing = &style.sizing;

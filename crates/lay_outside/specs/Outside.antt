@@ -6,8 +6,8 @@ abbrev pub Rose : ℕ → ℕ → Type 0
 Rose old new = old < 2 ^ 64 - 1 → old < new
 
 -- a count of faults stands where it stood, and not at its greatest value
-abbrev pub IsQuiet : ℕ → ℕ → Type 0
-IsQuiet old new = Rose old new → ⊥
+abbrev pub IsFaultless : ℕ → ℕ → Type 0
+IsFaultless old new = Rose old new → ⊥
 
 -- the first n of what was given are the next n bytes, and the rest is left
 pub record GivesNext (old new : Option (List ℕ)) (given : List ℕ) (n : ℕ) : Type 0 where

@@ -6,7 +6,7 @@ use Rattle.lay_space.specs.declared.item.Item.TheVariants as item
 use Rattle.lay_space.specs.declared.segment.Segment.{Segment}
 use Rattle.lay_line_measures.specs.BoxMeasuresValue.{BoxMeasuresValue}
 use Rattle.lay_line_measures.specs.Contents.{content_with}
-use Rattle.lay_line_measures.specs.Stretches.{floats_at, floats_of, heads_of, is_content, parts_at, parts_of, stretches_of}
+use Rattle.lay_line_measures.specs.Stretches.{floats_at, floats_of, heads_of, is_line_content, parts_at, parts_of, stretches_of}
 use Rattle.lay_line_measures.specs.declared.container.Container.{Container}
 use Rattle.lay_lines.specs.declared.content.content.LineFloat.{LineFloat}
 use Rattle.lay_placement.specs.AnchorLaws.{AnchorsAddNothingToLines}
@@ -29,7 +29,7 @@ module _ (m : BoxMeasuresValue) (c : Container) where
   no_float (item.Start n takes) e = absurd cc
   no_float (item.End n) e = absurd cc
 
-  no_content : (x : Item) → is_anchor x ≡ true → is_content x ≡ false
+  no_content : (x : Item) → is_anchor x ≡ true → is_line_content x ≡ false
   no_content (item.Anchor n) e = refl
   no_content (item.Float n) e = absurd cc
   no_content (item.Text n text mode widths) e = absurd cc
@@ -60,26 +60,26 @@ module _ (m : BoxMeasuresValue) (c : Container) where
 
   heads_same : (xs : List Item) (ahead : Bool) → heads_of m c ahead (without_anchors xs) ≡ heads_of m c ahead xs
   heads_same [] ahead = refl
-  heads_same (x ∷ xs) ahead = by (is_anchor x) refl (heads_same xs ahead) (heads_same xs (ahead && not (is_content x)))
+  heads_same (x ∷ xs) ahead = by (is_anchor x) refl (heads_same xs ahead) (heads_same xs (ahead && not (is_line_content x)))
     where
       by : (b : Bool) → is_anchor x ≡ b → heads_of m c ahead (without_anchors xs) ≡ heads_of m c ahead xs
-          → heads_of m c (ahead && not (is_content x)) (without_anchors xs) ≡ heads_of m c (ahead && not (is_content x)) xs
-          → heads_of m c ahead (if not b then x ∷ without_anchors xs else without_anchors xs) ≡ (if ahead then floats_at m c x else []) ++ heads_of m c (ahead && not (is_content x)) xs
+          → heads_of m c (ahead && not (is_line_content x)) (without_anchors xs) ≡ heads_of m c (ahead && not (is_line_content x)) xs
+          → heads_of m c ahead (if not b then x ∷ without_anchors xs else without_anchors xs) ≡ (if ahead then floats_at m c x else []) ++ heads_of m c (ahead && not (is_line_content x)) xs
       by true e same rest =
-          same ∙ sym (ap (λ hs. hs ++ heads_of m c (ahead && not (is_content x)) xs) (none_if ahead (floats_at m c x) (no_float x e))
-          ∙ ap (λ a. heads_of m c a xs) (still ahead (is_content x) (no_content x e)))
+          same ∙ sym (ap (λ hs. hs ++ heads_of m c (ahead && not (is_line_content x)) xs) (none_if ahead (floats_at m c x) (no_float x e))
+          ∙ ap (λ a. heads_of m c a xs) (still ahead (is_line_content x) (no_content x e)))
       by false e same rest = ap (λ hs. (if ahead then floats_at m c x else []) ++ hs) rest
 
   floats_same : (xs : List Item) (ahead : Bool) → floats_of m c ahead (without_anchors xs) ≡ floats_of m c ahead xs
   floats_same [] ahead = refl
-  floats_same (x ∷ xs) ahead = by (is_anchor x) refl (floats_same xs ahead) (floats_same xs (ahead && not (is_content x)))
+  floats_same (x ∷ xs) ahead = by (is_anchor x) refl (floats_same xs ahead) (floats_same xs (ahead && not (is_line_content x)))
     where
       by : (b : Bool) → is_anchor x ≡ b → floats_of m c ahead (without_anchors xs) ≡ floats_of m c ahead xs
-          → floats_of m c (ahead && not (is_content x)) (without_anchors xs) ≡ floats_of m c (ahead && not (is_content x)) xs
-          → floats_of m c ahead (if not b then x ∷ without_anchors xs else without_anchors xs) ≡ (if ahead then [] else floats_at m c x) ++ floats_of m c (ahead && not (is_content x)) xs
+          → floats_of m c (ahead && not (is_line_content x)) (without_anchors xs) ≡ floats_of m c (ahead && not (is_line_content x)) xs
+          → floats_of m c ahead (if not b then x ∷ without_anchors xs else without_anchors xs) ≡ (if ahead then [] else floats_at m c x) ++ floats_of m c (ahead && not (is_line_content x)) xs
       by true e same rest =
-          same ∙ sym (ap (λ hs. hs ++ floats_of m c (ahead && not (is_content x)) xs) (none_else ahead (floats_at m c x) (no_float x e))
-          ∙ ap (λ a. floats_of m c a xs) (still ahead (is_content x) (no_content x e)))
+          same ∙ sym (ap (λ hs. hs ++ floats_of m c (ahead && not (is_line_content x)) xs) (none_else ahead (floats_at m c x) (no_float x e))
+          ∙ ap (λ a. floats_of m c a xs) (still ahead (is_line_content x) (no_content x e)))
       by false e same rest = ap (λ hs. (if ahead then [] else floats_at m c x) ++ hs) rest
 
   stretches_same : (ss : List Segment) (begins : Bool) → stretches_of m c begins (map segment_without_anchors ss) ≡ stretches_of m c begins ss

@@ -15,7 +15,7 @@ use Rattle.lay_space.specs.declared.tokens.Token.TheVariants as token
 use Rattle.lay_space.specs.declared.breaks.Entry.{Entry}
 use Rattle.lay_space.specs.declared.breaks.Entry.TheVariants as entry
 use Rattle.lay_space.specs.Breaks.{entries_of}
-use Rattle.lay_space.specs.Laws.{content_of, is_out_of_flow}
+use Rattle.lay_space.specs.Laws.{content_of, is_token_out_of_flow}
 use Rattle.lay_space.specs.Segments.{cut, last_segment, segments_of, text_of}
 use Rattle.lay_space.specs.Tokens.{begins_line, cluster_tokens, is_collapsible, tokens_of, tokens_of_item, without_leading_spaces}
 use Rattle.lay_space.specs.WhiteSpace.{processed, space_after}
@@ -139,7 +139,7 @@ module _ (k : ℕ) where
       by false b e one two = ap (λ b. is_anchor_token x || b) two
 
   -- breaks
-  no_flow : (x : Token) → is_out_of_flow x ≡ false → is_anchor_token x ≡ false
+  no_flow : (x : Token) → is_token_out_of_flow x ≡ false → is_anchor_token x ≡ false
   no_flow (token.Cluster c) e = refl
   no_flow token.TextEnd e = refl
   no_flow (token.Atomic n m) e = refl
@@ -148,12 +148,12 @@ module _ (k : ℕ) where
   no_flow (token.Float n) e = refl
   no_flow (token.Anchor n) e = absurd cc
 
-  filtered_same : (xs : List Token) → has_token (filter is_out_of_flow xs) ≡ has_token xs
+  filtered_same : (xs : List Token) → has_token (filter is_token_out_of_flow xs) ≡ has_token xs
   filtered_same [] = refl
-  filtered_same (x ∷ xs) = by (is_out_of_flow x) refl (filtered_same xs)
+  filtered_same (x ∷ xs) = by (is_token_out_of_flow x) refl (filtered_same xs)
     where
-      by : (b : Bool) → is_out_of_flow x ≡ b → has_token (filter is_out_of_flow xs) ≡ has_token xs
-          → has_token (if b then x ∷ filter is_out_of_flow xs else filter is_out_of_flow xs) ≡ has_token (x ∷ xs)
+      by : (b : Bool) → is_token_out_of_flow x ≡ b → has_token (filter is_token_out_of_flow xs) ≡ has_token xs
+          → has_token (if b then x ∷ filter is_token_out_of_flow xs else filter is_token_out_of_flow xs) ≡ has_token (x ∷ xs)
       by true e rest = ap (λ b. is_anchor_token x || b) rest
       by false e rest = rest ∙ sym (ap (λ b. b || has_token xs) (no_flow x e))
 

@@ -9,7 +9,7 @@ use Rattle.std.proofs.lemmas.List.{reverse-append, take_more}
 use Rattle.std.proofs.lemmas.List.Folds.{find-append, list_any_more}
 use Rattle.lay_inlines.specs.declared.line_piece.LinePiece.{LinePiece}
 use Rattle.lay_placements.specs.declared.corner.Corner.{Corner}
-use Rattle.lay_placement.specs.AtomicCorners.{atomic_piece, corner_among, corner_of_piece, has_atomic, is_atomic, is_atomic_of}
+use Rattle.lay_placement.specs.AtomicCorners.{atomic_piece, corner_among, corner_of_piece, has_atomic, is_atomic_piece, is_atomic_of}
 use Rattle.lay_placements.specs.Corners.{AreNearCorners, IsCornerNear, corner_at}
 
 piece_more : (xs ys : List LinePiece) (k : ℕ) → atomic_piece (xs ++ ys) k ≡ option_or (atomic_piece ys k) (atomic_piece xs k)
@@ -48,13 +48,13 @@ pub set_count : (cs : List Corner) (i : ℕ) (c : Corner) → length (slice_set 
 set_count cs i c = grind (arith, elements)
 
 -- an atomic box is put where its piece stands
-pub set_is : (cs : List Corner) (p : LinePiece) → is_atomic p.kind ≡ true → p.node < length cs → (k : ℕ) → k < length cs
+pub set_is : (cs : List Corner) (p : LinePiece) → is_atomic_piece p.kind ≡ true → p.node < length cs → (k : ℕ) → k < length cs
     → corner_at (slice_set cs p.node (corner_of_piece p)) k ≡ corner_among (p ∷ []) k (corner_at cs k)
 set_is cs p atomic within k lt = elim (cases_eq p.node k) [
   | inl same ↦ (let named : (p.node == k) ≡ true = eq-eqb p.node k same in
       let is : is_atomic_of k p ≡ true = rw (atomic, named) refl in
       rw (← same) (set_here cs p.node (corner_of_piece p) within) ∙ this_piece p k (corner_at cs k) is)
-  | inr other ↦ (let is : is_atomic_of k p ≡ false = and_right (is_atomic p.kind) (p.node == k) (ne_eqb p.node k other) in
+  | inr other ↦ (let is : is_atomic_of k p ≡ false = and_right (is_atomic_piece p.kind) (p.node == k) (ne_eqb p.node k other) in
       set_other cs p.node k (corner_of_piece p) other ∙ other_piece p k (corner_at cs k) is)
 ]
 
@@ -62,8 +62,8 @@ beyond : (n m k : ℕ) → nat_lt n m ≡ false → k < m → n ≢ k
 beyond n m k is lt same = grind (arith, nat_tests, is, lt, same)
 
 -- no other piece moves a box
-pub kept_is : (cs : List Corner) (p : LinePiece) → (is_atomic p.kind && nat_lt p.node (length cs)) ≡ false → (k : ℕ) → k < length cs → corner_at cs k ≡ corner_among (p ∷ []) k (corner_at cs k)
-kept_is cs p is k lt = other_piece p k (corner_at cs k) (by (is_atomic p.kind) is)
+pub kept_is : (cs : List Corner) (p : LinePiece) → (is_atomic_piece p.kind && nat_lt p.node (length cs)) ≡ false → (k : ℕ) → k < length cs → corner_at cs k ≡ corner_among (p ∷ []) k (corner_at cs k)
+kept_is cs p is k lt = other_piece p k (corner_at cs k) (by (is_atomic_piece p.kind) is)
   where
     by : (atomic : Bool) → (atomic && nat_lt p.node (length cs)) ≡ false → (atomic && p.node == k) ≡ false
     by true none = ne_eqb p.node k (beyond p.node (length cs) k none lt)
@@ -79,9 +79,9 @@ set_near cs i c near is within k lt = elim (cases_eq i k) [
 pub none_among : (pieces : List LinePiece) (k : ℕ) (c : Corner) → has_atomic pieces ≡ false → corner_among pieces k c ≡ c
 none_among [] k c none = refl
 none_among (p ∷ ps) k c none =
-    let first : is_atomic p.kind ≡ false = (or_parts (is_atomic p.kind) (has_atomic ps) none).0 in
+    let first : is_atomic_piece p.kind ≡ false = (or_parts (is_atomic_piece p.kind) (has_atomic ps) none).0 in
     let is : is_atomic_of k p ≡ false = rw first refl in
-    among_more (p ∷ []) ps k c ∙ ap (corner_among ps k) (sym (other_piece p k c is)) ∙ none_among ps k c (or_parts (is_atomic p.kind) (has_atomic ps) none).1
+    among_more (p ∷ []) ps k c ∙ ap (corner_among ps k) (sym (other_piece p k c is)) ∙ none_among ps k c (or_parts (is_atomic_piece p.kind) (has_atomic ps) none).1
 
-pub none_more : (pieces : List LinePiece) (i : ℕ) (d : LinePiece) → i < length pieces → has_atomic (take i pieces) ≡ false → is_atomic (slice_index_or pieces i d).kind ≡ false → has_atomic (take (i + 1) pieces) ≡ false
-none_more pieces i d lt none here = rw (list_any_more (λ p. is_atomic p.kind) pieces i d lt, none) here
+pub none_more : (pieces : List LinePiece) (i : ℕ) (d : LinePiece) → i < length pieces → has_atomic (take i pieces) ≡ false → is_atomic_piece (slice_index_or pieces i d).kind ≡ false → has_atomic (take (i + 1) pieces) ≡ false
+none_more pieces i d lt none here = rw (list_any_more (λ p. is_atomic_piece p.kind) pieces i d lt, none) here

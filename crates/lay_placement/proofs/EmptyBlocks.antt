@@ -8,10 +8,10 @@ use Rattle.lay_sizes.specs.declared.sizing.BoxSizes.{BoxSizes}
 use Rattle.lay_sizes.specs.SizeBounds.{SizeFits}
 use Rattle.lay_flow_boxes.specs.PlaceInputs.{HeightRuleFits}
 use Rattle.lay_placement.proofs.Cited.{given_fits}
-use Rattle.lay_placement.specs.OneBox.{empty_block}
+use Rattle.lay_placement.specs.OneBox.{block_of_height}
 
 -- it is within the bounds of blocks
-pub empty_fits : (z : BoxSizes) (height : HeightRule) → SizeFits z → HeightRuleFits height → BlockFits (empty_block z height)
+pub empty_fits : (z : BoxSizes) (height : HeightRule) → SizeFits z → HeightRuleFits height → BlockFits (block_of_height z height)
 empty_fits z height fits rule = record {
   margin_top = fits.margin_top;
   margin_bottom = fits.margin_bottom;

@@ -9,10 +9,10 @@ use Rattle.std.proofs.lemmas.Bool.{or_parts}
 use Rattle.lay_units.specs.declared.length.Unit.{Unit as Length}
 use Rattle.lay_lines.specs.declared.row.Ended.{Ended}
 use Rattle.lay_inlines.specs.LinePieces.{baseline_of}
-use Rattle.lay_placement.specs.Baselines.{last_baseline, last_seen}
+use Rattle.lay_placement.specs.Baselines.{last_baseline, last_seen_row}
 use Rattle.lay_placement.specs.Laws.{LastSeenLineGivesBaseline, UnseenLinesGiveNone, any_seen}
 
-last_more : (xs ys : List Ended) → last_seen (xs ++ ys) ≡ option_or (last_seen ys) (last_seen xs)
+last_more : (xs ys : List Ended) → last_seen_row (xs ++ ys) ≡ option_or (last_seen_row ys) (last_seen_row xs)
 last_more xs ys = ap (find (λ (row : Ended). row.seen)) (reverse-append xs ys) ∙ find-append (λ (row : Ended). row.seen) (reverse ys) (reverse xs)
 
 map_or : {X Y : Type 0} (f : X → Y) (a b : Option X) → option_map f (option_or a b) ≡ option_or (option_map f a) (option_map f b)
@@ -28,7 +28,7 @@ abbrev line_baseline : Ended → Length
 line_baseline row = record { 0 = baseline_of row }
 
 baseline_more : (xs ys : List Ended) → last_baseline (xs ++ ys) ≡ option_or (last_baseline ys) (last_baseline xs)
-baseline_more xs ys = ap (option_map line_baseline) (last_more xs ys) ∙ map_or line_baseline (last_seen ys) (last_seen xs)
+baseline_more xs ys = ap (option_map line_baseline) (last_more xs ys) ∙ map_or line_baseline (last_seen_row ys) (last_seen_row xs)
 
 by_seen : (seen : Bool) (row : Ended) (last : Option Length) → (if seen then Some (line_baseline row) else last) ≡ option_or (option_map line_baseline (cond seen (Some row) None)) last
 by_seen true row last = refl
@@ -51,18 +51,18 @@ with_lines last next rows more so_far is = is ∙ ap (option_or (last_baseline m
 pub one_box_more : (lines : List (List Ended)) (rows : List Ended) → flat_map (λ (r : List Ended). r) (lines ++ rows ∷ []) ≡ flat_map (λ (r : List Ended). r) lines ++ rows
 one_box_more lines rows = flat_map-append (λ (r : List Ended). r) lines (rows ∷ []) ∙ ap (λ (more : List Ended). flat_map (λ (r : List Ended). r) lines ++ more) (append-nil rows)
 
-one_unseen : (row : Ended) → row.seen ≡ false → last_seen (row ∷ []) ≡ None
+one_unseen : (row : Ended) → row.seen ≡ false → last_seen_row (row ∷ []) ≡ None
 one_unseen row is = ap (λ b. cond b (Some row) None) is
 
-one_seen : (row : Ended) → row.seen ≡ true → last_seen (row ∷ []) ≡ Some row
+one_seen : (row : Ended) → row.seen ≡ true → last_seen_row (row ∷ []) ≡ Some row
 one_seen row is = ap (λ b. cond b (Some row) None) is
 
-none_seen : (rows : List Ended) → any_seen rows ≡ false → last_seen rows ≡ None
+none_seen : (rows : List Ended) → any_seen rows ≡ false → last_seen_row rows ≡ None
 none_seen [] none = refl
 none_seen (row ∷ rows) none =
     let here = (or_parts row.seen (any_seen rows) none).0 in
     let behind = (or_parts row.seen (any_seen rows) none).1 in
-    last_more (row ∷ []) rows ∙ ap (λ (o : Option Ended). option_or o (last_seen (row ∷ []))) (none_seen rows behind) ∙ one_unseen row here
+    last_more (row ∷ []) rows ∙ ap (λ (o : Option Ended). option_or o (last_seen_row (row ∷ []))) (none_seen rows behind) ∙ one_unseen row here
 
 pub unseen_lines_lem : UnseenLinesGiveNone
 unseen_lines_lem rows none = ap (option_map line_baseline) (none_seen rows none)
@@ -70,4 +70,4 @@ unseen_lines_lem rows none = ap (option_map line_baseline) (none_seen rows none)
 pub last_seen_line_lem : LastSeenLineGivesBaseline
 last_seen_line_lem before after row seen none =
     ap (option_map line_baseline)
-    (last_more before (row ∷ after) ∙ ap (λ (o : Option Ended). option_or o (last_seen before)) (last_more (row ∷ []) after ∙ ap (λ (o : Option Ended). option_or o (last_seen (row ∷ []))) (none_seen after none) ∙ one_seen row seen))
+    (last_more before (row ∷ after) ∙ ap (λ (o : Option Ended). option_or o (last_seen_row before)) (last_more (row ∷ []) after ∙ ap (λ (o : Option Ended). option_or o (last_seen_row (row ∷ []))) (none_seen after none) ∙ one_seen row seen))

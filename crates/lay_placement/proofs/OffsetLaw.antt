@@ -20,7 +20,7 @@ use Rattle.lay_placements.specs.InnerPieces.{inner_pieces_at}
 use Rattle.lay_placements.specs.PieceParts.{count_of, is_kind, numbered, with_pieces}
 use Rattle.lay_placements.specs.Splicing.{spliced}
 use Rattle.lay_placement.specs.BoxStandings.{standing_of_box, standings_to}
-use Rattle.lay_placement.specs.ContextPieces.{painted, piece_of_box, pieces_of_box, pieces_on_line, pieces_to, spliced_at}
+use Rattle.lay_placement.specs.ContextPieces.{painted_of_piece, piece_of_box, pieces_of_box, pieces_on_line, pieces_to, spliced_at}
 use Rattle.lay_placement.specs.ContextPlaces.{ContextPlaces}
 use Rattle.lay_placement.specs.Laws.{OffsetsChangeCornersAlone, moved_by, standing_without_corner, without_corner}
 use Rattle.lay_placement.specs.OnLines.{on_lines_of}
@@ -57,7 +57,7 @@ module _ (i : PlaceInput) (p : ContextPlaces) (m n : List Offset) where
       spliced_without (own_box_at i.inner k).width (standing_of_box i (moved_by m p) k).height (standing_of_box i (moved_by m p) k).shift (standing_of_box i (moved_by m p) k).corner (standing_of_box i (moved_by n p) k).corner
       (inner_pieces_at i.pieces k)
 
-  painted_without : (piece : LinePiece) (kind : LinePieceKind) → map without_corner (painted i (moved_by m p) piece kind) ≡ map without_corner (painted i (moved_by n p) piece kind)
+  painted_without : (piece : LinePiece) (kind : LinePieceKind) → map without_corner (painted_of_piece i (moved_by m p) piece kind) ≡ map without_corner (painted_of_piece i (moved_by n p) piece kind)
   painted_without piece on_line.Line = refl
   painted_without piece on_line.Inline = refl
   painted_without piece on_line.Text = refl

@@ -31,11 +31,11 @@ abbrev pub top_of_item : Item → Length → ℕ → Option Length
 top_of_item item top k = if is_anchor_of k item then Some top else None
 
 -- the box at k is in the container at c and has no top yet, if there is one
-abbrev pub is_free : List BoxNode → ℕ → List (Option Length) → ℕ → Bool
-is_free boxes c tops k = container_of boxes k == c && is_none (top_at tops k)
+abbrev pub lacks_top : List BoxNode → ℕ → List (Option Length) → ℕ → Bool
+lacks_top boxes c tops k = container_of boxes k == c && is_none (top_at tops k)
 
-abbrev pub is_open : List BoxNode → ℕ → List (Option Length) → ℕ → Bool
-is_open boxes c tops k = nat_lt k (length tops) && is_free boxes c tops k
+abbrev pub is_open_top : List BoxNode → ℕ → List (Option Length) → ℕ → Bool
+is_open_top boxes c tops k = nat_lt k (length tops) && lacks_top boxes c tops k
 
 -- the boxes in the container at c have got these, where they had none, and no other box has got any
 pub record ArePut (boxes : List BoxNode) (c : ℕ) (before after : List (Option Length)) (found : ℕ → Option Length) : Type 0 where

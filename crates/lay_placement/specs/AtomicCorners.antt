@@ -8,15 +8,15 @@ use Rattle.lay_inlines.specs.declared.line_piece.LinePieceKind.{LinePieceKind}
 use Rattle.lay_inlines.specs.declared.line_piece.LinePieceKind.TheVariants as on_line
 use Rattle.lay_placements.specs.declared.corner.Corner.{Corner}
 
-abbrev pub is_atomic : LinePieceKind → Bool
-is_atomic on_line.Atomic = true
-is_atomic _ = false
+abbrev pub is_atomic_piece : LinePieceKind → Bool
+is_atomic_piece on_line.Atomic = true
+is_atomic_piece _ = false
 
 abbrev pub is_atomic_of : ℕ → LinePiece → Bool
-is_atomic_of k p = is_atomic p.kind && p.node == k
+is_atomic_of k p = is_atomic_piece p.kind && p.node == k
 
 abbrev pub has_atomic : List LinePiece → Bool
-has_atomic pieces = list_any (λ p. is_atomic p.kind) pieces
+has_atomic pieces = list_any (λ p. is_atomic_piece p.kind) pieces
 
 -- the piece of the atomic box at k among these, of which it has one at most; the last one if it had several
 abbrev pub atomic_piece : List LinePiece → ℕ → Option LinePiece

@@ -19,7 +19,7 @@ use Rattle.lay_box_tree.specs.declared.box_role.Role.TheVariants as role
 use Rattle.lay_box_tree.specs.declared.box_tree.BoxKind.TheVariants as kind
 use Rattle.lay_box_tree.specs.declared.box_tree.BoxNode.{BoxNode}
 use Rattle.lay_box_tree.specs.BoxColumns.{box_styles}
-use Rattle.lay_box_tree.specs.Kinds.{is_wrapper, is_cell}
+use Rattle.lay_box_tree.specs.Kinds.{is_wrapper, is_cell_kind}
 use Rattle.lay_box_tree.specs.Roles.{role_at}
 use Rattle.lay_lines.specs.declared.row.Ended.{Ended}
 use Rattle.lay_inlines.specs.LinePieces.{baseline_of}
@@ -29,28 +29,28 @@ use Rattle.lay_flow_boxes.specs.PlaceInputs.{PlaceInput}
 use Rattle.lay_placement.specs.ContextPlaces.{rows_at}
 
 -- the lines of a formatting context in document order
-abbrev pub lines_of : FlowPlacesValue → List Ended
-lines_of places = flat_map (λ rows. rows) places.lines
+abbrev pub lines_in_order : FlowPlacesValue → List Ended
+lines_in_order places = flat_map (λ rows. rows) places.lines
 
 -- the last of these that is seen: the first one from the end
-abbrev pub last_seen : List Ended → Option Ended
-last_seen rows = find (λ row. row.seen) (reverse rows)
+abbrev pub last_seen_row : List Ended → Option Ended
+last_seen_row rows = find (λ row. row.seen) (reverse rows)
 
 -- its baseline
 abbrev pub last_baseline : List Ended → Option Length
-last_baseline rows = option_map (λ row. record { 0 = baseline_of row }) (last_seen rows)
+last_baseline rows = option_map (λ row. record { 0 = baseline_of row }) (last_seen_row rows)
 
 -- the baseline of the first of these that is seen
 abbrev pub first_baseline : List Ended → Option Length
 first_baseline rows = option_map (λ row. record { 0 = baseline_of row }) (find (λ row. row.seen) rows)
 
-abbrev pub is_solid : Role → Bool
-is_solid role.Solid = true
-is_solid _ = false
+abbrev pub is_solid_role : Role → Bool
+is_solid_role role.Solid = true
+is_solid_role _ = false
 
 -- the box at k is the wrapper of a block-level table in flow
 abbrev pub is_table_in_flow : List BoxNode → ℕ → Bool
-is_table_in_flow boxes k = is_solid (role_at boxes k) && slice_index_or (map (λ b. is_wrapper b.kind) boxes) k false
+is_table_in_flow boxes k = is_solid_role (role_at boxes k) && slice_index_or (map (λ b. is_wrapper b.kind) boxes) k false
 
 -- the baseline of its first row, which is that of its own box
 abbrev pub table_baseline : PlaceInput → FlowPlacesValue → ℕ → Option Length
@@ -72,10 +72,10 @@ is_visible _ = false
 
 -- the own box is a table cell
 abbrev pub is_of_cell : List BoxNode → Bool
-is_of_cell boxes = slice_index_or (map (λ b. is_cell b.kind) boxes) 0 false
+is_of_cell boxes = slice_index_or (map (λ b. is_cell_kind b.kind) boxes) 0 false
 
 -- the baseline of the own box, where it has another than its bottom edge
 abbrev pub own_baseline : PlaceInput → FlowPlacesValue → Option Length
 own_baseline i places =
     if is_of_cell i.boxes then first_baseline_to i places (length i.boxes)
-    else (if is_visible (style_at (box_styles i.boxes) 0).overflow then last_baseline (lines_of places) else None)
+    else (if is_visible (style_at (box_styles i.boxes) 0).overflow then last_baseline (lines_in_order places) else None)

@@ -46,14 +46,14 @@ abbrev pub spliced_at : PlaceInput → ContextPlaces → ℕ → List Frag
 spliced_at i p k = spliced (own_box_at i.inner k).width (standing_of_box i p k) (inner_pieces_at i.pieces k)
 
 -- what is painted of a piece of this kind on a line
-abbrev pub painted : PlaceInput → ContextPlaces → LinePiece → LinePieceKind → List Frag
-painted i p piece on_line.Line = piece_as i p piece kind.Line ∷ []
-painted i p piece on_line.Inline = piece_as i p piece kind.Box ∷ []
-painted i p piece on_line.Text = piece_as i p piece kind.Text ∷ []
-painted i p piece on_line.Atomic = spliced_at i p piece.node
+abbrev pub painted_of_piece : PlaceInput → ContextPlaces → LinePiece → LinePieceKind → List Frag
+painted_of_piece i p piece on_line.Line = piece_as i p piece kind.Line ∷ []
+painted_of_piece i p piece on_line.Inline = piece_as i p piece kind.Box ∷ []
+painted_of_piece i p piece on_line.Text = piece_as i p piece kind.Text ∷ []
+painted_of_piece i p piece on_line.Atomic = spliced_at i p piece.node
 
 abbrev pub pieces_on_line : PlaceInput → ContextPlaces → LinePiece → List Frag
-pieces_on_line i p piece = painted i p piece piece.kind
+pieces_on_line i p piece = painted_of_piece i p piece piece.kind
 
 -- the border box of the box at k
 abbrev pub piece_of_box : PlaceInput → ContextPlaces → ℕ → Frag

@@ -17,31 +17,31 @@ use Rattle.lay_flow.specs.declared.blocks.flow_box.FlowKind.TheVariants.{Float a
 use Rattle.lay_flow.specs.Blocks.Boxes.{box_at}
 use Rattle.lay_flow.specs.Blocks.FlowPlaces.{FlowPlacesValue}
 use Rattle.lay_line_measures.specs.BoxMeasuresValue.{BoxMeasuresValue}
-use Rattle.lay_line_measures.specs.InlineBoxes.{areas_of}
+use Rattle.lay_line_measures.specs.InlineBoxes.{inline_areas}
 use Rattle.lay_flow_boxes.specs.PlaceInputs.{PlaceInput}
 use Rattle.lay_placement.specs.ContextPlaces.{ContextPlaces, measures_of, rows_at}
 
 -- the used value of `text-align` (16.2). Lines aren't justified: that isn't of this layout.
-abbrev pub align_of : TextAlign → Align
-align_of align.Left = aligned.Left
-align_of align.Right = aligned.Right
-align_of align.Center = aligned.Center
-align_of align.Justify = aligned.Left
+abbrev pub used_text_align : TextAlign → Align
+used_text_align align.Left = aligned.Left
+used_text_align align.Right = aligned.Right
+used_text_align align.Center = aligned.Center
+used_text_align align.Justify = aligned.Left
 
 -- the block box at k, as its lines take it
-abbrev pub line_container : List BoxNode → ℕ → BlockBox → Container
-line_container boxes k b = record {
+abbrev pub block_line_container : List BoxNode → ℕ → BlockBox → Container
+block_line_container boxes k b = record {
   node = k;
   left = b.content.left;
   right = b.content.right;
-  align = align_of (style_at (box_styles boxes) k).text.text_align;
+  align = used_text_align (style_at (box_styles boxes) k).text.text_align;
 }
 
 -- what stands on the lines of the box at k, where it is this in its flow
 abbrev pub pieces_on_lines : BoxMeasuresValue → FlowPlacesValue → ℕ → FlowKind → List LinePiece
 pieces_on_lines m places k (block b) = []
 pieces_on_lines m places k (lines l) =
-    pieces_of (line_container m.boxes k l.block) l.content (rows_at places k) (areas_of m)
+    pieces_of (block_line_container m.boxes k l.block) l.content (rows_at places k) (inline_areas m)
 pieces_on_lines m places k (solid b) = []
 pieces_on_lines m places k (float b) = []
 pieces_on_lines m places k (line_float b) = []

@@ -17,8 +17,8 @@ use Rattle.lay_placements.specs.Corners.{no_corner}
 use Rattle.lay_placements.specs.Splicing.{border_box}
 
 -- a block box of these used sizes, of whose height that is given, as margins and heights see it
-abbrev pub empty_block : BoxSizes → HeightRule → Block
-empty_block z height = record {
+abbrev pub block_of_height : BoxSizes → HeightRule → Block
+block_of_height z height = record {
   margin_top = z.margin_top;
   margin_bottom = z.margin_bottom;
   edge_top = z.edges.top;
@@ -31,7 +31,7 @@ empty_block z height = record {
 
 -- the height of its border box, where nothing stands in it
 abbrev pub empty_height : BoxSizes → HeightRule → ℤ
-empty_height z height = border_height (empty_block z height) (pos 0) (pos 0)
+empty_height z height = border_height (block_of_height z height) (pos 0) (pos 0)
 
 -- where it stands, for this height: all is counted from its corner
 abbrev pub only_standing : Length → Standing

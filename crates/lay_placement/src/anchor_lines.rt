@@ -6,7 +6,7 @@ ghost use Rattle.lay_flow.specs.Blocks.Children.{flag_at};
 ghost use Rattle.lay_box_tree.specs.Containing.{container_of};
 ghost use Rattle.lay_line_items.specs.InlineSegments.{segments_in};
 ghost use Rattle.lay_flow_boxes.specs.ContextBlocks.{is_anchor};
-ghost use Rattle.lay_placement.specs.AnchorLines.{ArePut, is_anchor_kind, is_free, is_open, top_at};
+ghost use Rattle.lay_placement.specs.AnchorLines.{ArePut, is_anchor_kind, lacks_top, is_open_top, top_at};
 ghost use Rattle.lay_placement.specs.AnchorLines.{top_in_line, top_in_segment, top_of_item};
 ghost use Rattle.lay_placement.specs.ContextPlaces.{rows_at};
 ghost use Rattle.lay_placement.specs.Counts.{HaveCounts};
@@ -195,7 +195,7 @@ fn put_anchor(tops: &mut [Option<Unit>], of: &Holder<'_>, k: usize, top: Unit)
 /// Whether the box at k is one in the holder and has no top yet.
 fn is_open(tops: &[Option<Unit>], of: &Holder<'_>, k: usize) -> bool
     requires { length tops.now ≡ length of.now.boxes.now }
-    ensures { result ≡ is_open of.now.boxes.now of.now.container tops.now k }
+    ensures { result ≡ is_open_top of.now.boxes.now of.now.container tops.now k }
 {
     k < tops.len() && is_free(tops, of, k)
 }
@@ -203,7 +203,7 @@ fn is_open(tops: &[Option<Unit>], of: &Holder<'_>, k: usize) -> bool
 fn is_free(tops: &[Option<Unit>], of: &Holder<'_>, k: usize) -> bool
     requires count { length tops.now ≡ length of.now.boxes.now }
     requires place { k < length tops.now }
-    ensures { result ≡ is_free of.now.boxes.now of.now.container tops.now k }
+    ensures { result ≡ lacks_top of.now.boxes.now of.now.container tops.now k }
 {
     of.boxes.container(k) == of.container && tops[k].is_none()
 }

@@ -1,7 +1,7 @@
 //! The corners of the boxes of one formatting context.
 
 ghost use Rattle.std.specs.Prelude.{ℕ, ◌≡◌, ◌<◌, ◌&&◌, [], ◌∷◌, IsFalse, false, nat_lt, length, IfOk, OnOk};
-ghost use Rattle.lay_placement.specs.AtomicCorners.{corner_among, corner_of_piece, has_atomic, is_atomic};
+ghost use Rattle.lay_placement.specs.AtomicCorners.{corner_among, corner_of_piece, has_atomic, is_atomic_piece};
 ghost use Rattle.lay_placements.specs.Corners.{AreNearCorners, IsCornerNear, corner_at};
 ghost use Rattle.lay_placement.specs.BoxStandings.{corner_in_flow, corner_of_box};
 ghost use Rattle.lay_placement.specs.Counts.{HaveCounts};
@@ -131,13 +131,13 @@ fn put_atomic(corners: &mut Vec<Corner>, piece: LinePiece) -> Result<(), NoMemor
 
 /// Whether this is the piece of an atomic box that is one of so many boxes.
 fn is_atomic_among(piece: LinePiece, count: usize) -> bool
-    ensures { result ≡ (is_atomic piece.kind && nat_lt piece.node count) }
+    ensures { result ≡ (is_atomic_piece piece.kind && nat_lt piece.node count) }
 {
     is_atomic(piece.kind) && (piece.node as usize) < count
 }
 
 fn is_atomic(kind: LinePieceKind) -> bool
-    ensures { result ≡ is_atomic kind }
+    ensures { result ≡ is_atomic_piece kind }
 {
     matches!(kind, LinePieceKind::Atomic)
 }

@@ -3,7 +3,7 @@
 ghost use Rattle.std.specs.Prelude.{◌≡◌, ◌<◌, length, IfOk, IfSome};
 ghost use Rattle.lay_sizes.specs.OwnBoxes.{IsBaseline};
 ghost use Rattle.lay_placement.specs.Baselines.{baseline_in, first_baseline, first_baseline_to};
-ghost use Rattle.lay_placement.specs.Baselines.{is_of_cell, is_solid, is_table_in_flow, table_baseline};
+ghost use Rattle.lay_placement.specs.Baselines.{is_of_cell, is_solid_role, is_table_in_flow, table_baseline};
 ghost use Rattle.lay_placement.specs.Counts.{HaveCounts};
 
 use crate::baselines::{baseline_below, baseline_of};
@@ -62,7 +62,7 @@ fn is_table_in_flow(input: &PlaceInput, k: usize) -> bool
 }
 
 fn is_solid(role: Role) -> bool
-    ensures { result ≡ is_solid role }
+    ensures { result ≡ is_solid_role role }
 {
     matches!(role, Role::Solid)
 }

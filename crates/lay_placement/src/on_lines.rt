@@ -1,14 +1,14 @@
 //! What stands on the lines of the boxes of one formatting context.
 
 ghost use Rattle.std.specs.Prelude.{ℕ, ◌≡◌, ◌<◌, ◌≤◌, All, IsFalse, false, length, IfOk};
-ghost use Rattle.lay_line_measures.specs.InlineBoxes.{areas_of};
+ghost use Rattle.lay_line_measures.specs.InlineBoxes.{inline_areas};
 ghost use Rattle.lay_flow.specs.Blocks.Boxes.{box_at};
 ghost use Rattle.lay_flow.specs.Blocks.FlowBoxes.{KindFits};
 ghost use Rattle.lay_flow_boxes.specs.FlowShapes.{most_flow_boxes};
 ghost use Rattle.lay_inlines.specs.Bounds.{AreaWithin, RowWithin};
 ghost use Rattle.lay_placement.specs.ContextPlaces.{measures_of, rows_at};
 ghost use Rattle.lay_placement.specs.Counts.{HaveCounts};
-ghost use Rattle.lay_placement.specs.OnLines.{AreOnLines, align_of, holds_lines, line_container, on_lines_at, on_lines_of};
+ghost use Rattle.lay_placement.specs.OnLines.{AreOnLines, used_text_align, holds_lines, block_line_container, on_lines_at, on_lines_of};
 
 use crate::context_places::{BoxPlaces, rows_at};
 use lay_flow::blocks::{BlockBox, FlowBox, FlowBoxes, FlowKind};
@@ -90,7 +90,7 @@ fn areas_of(
     input: &PlaceInput,
     places: &BoxPlaces,
 ) -> Result<Vec<InlineArea>, NoMemory>
-    ensures areas { IfOk result (λ v. v.items ≡ areas_of (measures_of input.now places.now)) }
+    ensures areas { IfOk result (λ v. v.items ≡ inline_areas (measures_of input.now places.now)) }
     ensures within { IfOk result (λ v. All AreaWithin v.items) }
 {
     let measures = BoxMeasures::new(
@@ -113,7 +113,7 @@ fn pieces_on_lines(
 ) -> Result<LinePieceList, NoMemory>
     requires place { k < length input.now.boxes }
     requires counts { HaveCounts input.now.boxes places.now }
-    requires areas { areas.now ≡ areas_of (measures_of input.now places.now) }
+    requires areas { areas.now ≡ inline_areas (measures_of input.now places.now) }
     requires within { All AreaWithin areas.now }
     ensures { IfOk result (λ l. l ≡ on_lines_of input.now places.now k) }
 {
@@ -165,7 +165,7 @@ fn rows_within(places: &BoxPlaces, k: usize) -> &[Ended]
 fn line_container(input: &PlaceInput, k: usize, block: &BlockBox) -> Container
     requires place { k < length input.now.boxes }
     requires few { k ≤ most_flow_boxes }
-    ensures { result ≡ line_container input.now.boxes k block.now }
+    ensures { result ≡ block_line_container input.now.boxes k block.now }
 {
     Container {
         node: k as u32,
@@ -177,7 +177,7 @@ fn line_container(input: &PlaceInput, k: usize, block: &BlockBox) -> Container
 
 /// The used value of `text-align`. Lines aren't justified.
 fn align_of(align: TextAlign) -> Align
-    ensures { result ≡ align_of align }
+    ensures { result ≡ used_text_align align }
 {
     match align {
         TextAlign::Left | TextAlign::Justify => Align::Left,

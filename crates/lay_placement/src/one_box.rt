@@ -8,7 +8,7 @@ ghost use Rattle.lay_sizes.specs.SizeBounds.{SizeFits};
 ghost use Rattle.lay_sizes.specs.SizeColumns.{sizes_at};
 ghost use Rattle.lay_flow_boxes.specs.PlaceInputs.{HeightRuleFits};
 ghost use Rattle.lay_placement.specs.ContextPlacements.{IsPlacement};
-ghost use Rattle.lay_placement.specs.OneBox.{empty_block, empty_height, only_piece, only_standing};
+ghost use Rattle.lay_placement.specs.OneBox.{block_of_height, empty_height, only_piece, only_standing};
 
 use lay_box_tree::BoxNode;
 use lay_flow::blocks::{Block, HeightRule, Inside, Near, StandingBlock};
@@ -65,7 +65,7 @@ fn empty_height(sizes: BoxSizes, height: HeightRule) -> Unit
 
 /// Such a box, as margins and heights see it.
 fn empty_block(sizes: BoxSizes, height: HeightRule) -> Block
-    ensures { result ≡ empty_block sizes height }
+    ensures { result ≡ block_of_height sizes height }
 {
     Block {
         margin_top: sizes.margin_top,

@@ -15,12 +15,12 @@ abbrev pub height_holder : List BoxNode → ℕ → ℕ
 height_holder boxes c = if is_anonymous boxes c then container_of boxes c else c
 
 -- the containing block that the block container at c is to what is in it
-abbrev pub block_in : List BoxNode → List BoxSizes → ℕ → ContainingBlock
-block_in boxes sizes c = record {
+abbrev pub containing_block_at : List BoxNode → List BoxSizes → ℕ → ContainingBlock
+containing_block_at boxes sizes c = record {
   width = (content_block (sizes_at sizes c)).width;
   height = (content_block (sizes_at sizes (height_holder boxes c))).height;
 }
 
 -- the containing block of the box at k, which isn't the context's own
 abbrev pub block_around : List BoxNode → List BoxSizes → ℕ → ContainingBlock
-block_around boxes sizes k = block_in boxes sizes (container_of boxes k)
+block_around boxes sizes k = containing_block_at boxes sizes (container_of boxes k)

@@ -2,7 +2,7 @@
 
 ghost use Rattle.std.specs.Prelude.{◌≡◌, ◌<◌, ◌≤◌, length};
 ghost use Rattle.lay_units.specs.Units.{IsPosition};
-ghost use Rattle.lay_placements.specs.ContainingBlocks.{block_around, block_in, height_holder};
+ghost use Rattle.lay_placements.specs.ContainingBlocks.{block_around, containing_block_at, height_holder};
 ghost use Rattle.lay_box_tree.specs.Containing.{container_of};
 ghost use Rattle.lay_sizes.specs.SizeColumns.{HaveSizeBounds, sizes_at};
 
@@ -26,7 +26,7 @@ pub fn block_in(boxes: &ContextBoxes, sizes: &[BoxSizes], c: usize) -> Containin
     requires place { c < length boxes.now }
     requires known { c < length sizes.now }
     requires bounds { HaveSizeBounds sizes.now }
-    ensures block { result ≡ block_in boxes.now sizes.now c }
+    ensures block { result ≡ containing_block_at boxes.now sizes.now c }
     ensures near { IsPosition result.width.0 }
 {
     let holder = height_holder(boxes, c);

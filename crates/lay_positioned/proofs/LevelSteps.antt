@@ -4,12 +4,12 @@ use Rattle.std.proofs.lemmas.Bool.{cases_lt}
 use Rattle.std.proofs.lemmas.Grind.{elements}
 use Rattle.lay_contexts.specs.FormattingContexts.{AreFormattingContexts, FormattingContext, formatting_context_at}
 use Rattle.lay_positioned.specs.Absolute.{is_absolute}
-use Rattle.lay_positioned.specs.Levels.{AreFewLevels, HasLevels, level_of, one_if}
+use Rattle.lay_positioned.specs.Levels.{AreFewLevels, HasLevels, level_beside, one_if}
 
 -- the first n have their levels, which are few
 pub record LevelsTo (contexts : List FormattingContext) (levels : List ℕ) (n : ℕ) : Type 0 where
   pub count : length levels ≡ n
-  pub each : (k : ℕ) → k < n → slice_index levels k ≡ level_of contexts levels k
+  pub each : (k : ℕ) → k < n → slice_index levels k ≡ level_beside contexts levels k
   pub few : AreFewLevels levels
 
 read_before : (xs : List ℕ) (x k : ℕ) → k < length xs → slice_index (xs ++ x ∷ []) k ≡ slice_index xs k
@@ -20,13 +20,13 @@ read_last xs x k e = grind (arith, elements)
 
 -- the levels of outer ones are enough
 pub level_same : (contexts : List FormattingContext) (xs ys : List ℕ) → AreFormattingContexts contexts → (i : ℕ) → i < length contexts
-    → ((j : ℕ) → j < i → slice_index xs j ≡ slice_index ys j) → level_of contexts xs i ≡ level_of contexts ys i
+    → ((j : ℕ) → j < i → slice_index xs j ≡ slice_index ys j) → level_beside contexts xs i ≡ level_beside contexts ys i
 level_same contexts xs ys are zero within same = refl
 level_same contexts xs ys are (suc i) within same =
     let e = same (formatting_context_at contexts (suc i)).outer (are.outer (suc i) (omega arith) within) in rw e refl
 
 pub one_more : (contexts : List FormattingContext) (xs : List ℕ) (n x : ℕ) → AreFormattingContexts contexts → n < length contexts
-    → LevelsTo contexts xs n → x ≡ level_of contexts xs n → x ≤ n + 1 → LevelsTo contexts (xs ++ x ∷ []) (n + 1)
+    → LevelsTo contexts xs n → x ≡ level_beside contexts xs n → x ≤ n + 1 → LevelsTo contexts (xs ++ x ∷ []) (n + 1)
 one_more contexts xs n x are within so_far is small = record {
   count = grind (arith, elements, so_far.count);
   each = λ k lt. elim (cases_lt k n) [
@@ -44,7 +44,7 @@ pub one_at_most : (b : Bool) → one_if b ≤ 1
 one_at_most true = omega arith
 one_at_most false = omega arith
 
-level_small : (contexts : List FormattingContext) (xs : List ℕ) → AreFormattingContexts contexts → (i : ℕ) → i < length contexts → i ≤ length xs → AreFewLevels xs → level_of contexts xs i ≤ i + 1
+level_small : (contexts : List FormattingContext) (xs : List ℕ) → AreFormattingContexts contexts → (i : ℕ) → i < length contexts → i ≤ length xs → AreFewLevels xs → level_beside contexts xs i ≤ i + 1
 level_small contexts xs are zero within le few = omega (arith, one_at_most (is_absolute contexts 0))
 level_small contexts xs are (suc i) within le few =
     let outer = are.outer (suc i) (omega arith) within in
@@ -55,7 +55,7 @@ level_small contexts xs are (suc i) within le few =
 -- formatting contexts have levels
 levels_to : List FormattingContext → ℕ → List ℕ
 levels_to contexts zero = []
-levels_to contexts (suc n) = levels_to contexts n ++ level_of contexts (levels_to contexts n) n ∷ []
+levels_to contexts (suc n) = levels_to contexts n ++ level_beside contexts (levels_to contexts n) n ∷ []
 
 levels_to_are : (contexts : List FormattingContext) → AreFormattingContexts contexts → (n : ℕ) → n ≤ length contexts → LevelsTo contexts (levels_to contexts n) n
 unfolding levels_to
@@ -63,7 +63,7 @@ levels_to_are contexts are zero le = record { count = refl; each = λ k lt. absu
 levels_to_are contexts are (suc n) le =
     let so_far = levels_to_are contexts are n (omega arith) in
     let small = level_small contexts (levels_to contexts n) are n (omega arith) (omega (arith, so_far.count)) so_far.few in
-    rw (add-one n) at (one_more contexts (levels_to contexts n) n (level_of contexts (levels_to contexts n) n) are (omega arith) so_far refl small)
+    rw (add-one n) at (one_more contexts (levels_to contexts n) n (level_beside contexts (levels_to contexts n) n) are (omega arith) so_far refl small)
 
 pub levels_of : List FormattingContext → List ℕ
 levels_of contexts = levels_to contexts (length contexts)

@@ -9,14 +9,14 @@ one_if true = 1
 one_if false = 0
 
 -- the level of the one with the number i, beside those of the ones before it
-abbrev pub level_of : List FormattingContext → List ℕ → ℕ → ℕ
-level_of contexts levels zero = one_if (is_absolute contexts 0)
-level_of contexts levels (suc i) =
+abbrev pub level_beside : List FormattingContext → List ℕ → ℕ → ℕ
+level_beside contexts levels zero = one_if (is_absolute contexts 0)
+level_beside contexts levels (suc i) =
     slice_index levels (formatting_context_at contexts (suc i)).outer + one_if (is_absolute contexts (suc i))
 
 pub record HasLevels (contexts : List FormattingContext) (levels : List ℕ) : Type 0 where
   pub count : length levels ≡ length contexts
-  pub each : (i : ℕ) → i < length contexts → slice_index levels i ≡ level_of contexts levels i
+  pub each : (i : ℕ) → i < length contexts → slice_index levels i ≡ level_beside contexts levels i
 
 -- how many levels there are: the first level that is above all of these, counted from 1
 pub record IsLevelCount (levels : List ℕ) (count : ℕ) : Type 0 where

@@ -1,7 +1,7 @@
 //! How many absolutely positioned formatting contexts are around each.
 
 ghost use Rattle.std.specs.Prelude.{◌≡◌, ◌<◌, ◌≤◌, ◌+◌, IfOk, length};
-ghost use Rattle.lay_positioned.specs.Levels.{AreFewLevels, HasLevels, IsLevelCount, level_of, one_if};
+ghost use Rattle.lay_positioned.specs.Levels.{AreFewLevels, HasLevels, IsLevelCount, level_beside, one_if};
 
 use crate::absolute::is_absolute;
 use lay_contexts::FormattingContexts;
@@ -27,7 +27,7 @@ fn level_of(contexts: &FormattingContexts, levels: &[usize], i: usize) -> usize
     requires within { i < length contexts.now }
     requires before { i ≤ length levels.now }
     requires few { AreFewLevels levels.now }
-    ensures level { result ≡ level_of contexts.now levels.now i }
+    ensures level { result ≡ level_beside contexts.now levels.now i }
     ensures few { result ≤ i + 1 }
 {
     let own = one_if(is_absolute(contexts, i));

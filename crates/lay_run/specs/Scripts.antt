@@ -28,7 +28,7 @@ pub record IsWithinLimits (scripts : List (List Cmd)) : Type 0 where
   pub reads : read_count scripts ≤ 256
 
 -- two numbers are those of the commands and of the reads of scripts that are within the limits
-pub record IsCounted (scripts : List (List Cmd)) (commands reads : ℕ) : Type 0 where
+pub record AreCommandsCounted (scripts : List (List Cmd)) (commands reads : ℕ) : Type 0 where
   pub within : IsWithinLimits scripts
   pub commands_are : commands ≡ command_count scripts
   pub reads_are : reads ≡ read_count scripts

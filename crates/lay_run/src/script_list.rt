@@ -22,13 +22,13 @@ pub struct ScriptList {
 impl Model for ScriptList {
     ghost use Rattle.std.specs.Prelude.{List};
     ghost use Rattle.lay_history.specs.declared.edits.command.Cmd.{Cmd};
-    ghost use Rattle.lay_run.specs.Scripts.{IsCounted};
+    ghost use Rattle.lay_run.specs.Scripts.{AreCommandsCounted};
 
     ghost Value = { List (List Cmd) };
 
     ghost view = { λ s. s.items.items };
 
-    ghost invariant = { λ s. IsCounted s.items.items s.commands s.reads };
+    ghost invariant = { λ s. AreCommandsCounted s.items.items s.commands s.reads };
 }
 
 impl ScriptList {

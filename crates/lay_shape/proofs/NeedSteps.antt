@@ -7,7 +7,7 @@ use Rattle.lay_context.specs.declared.task.Phase.TheVariants.{Measure, Size, Pla
 use Rattle.lay_contexts.specs.Contexts.{AreContexts, Context, IsInside, context_at}
 use Rattle.lay_shape.specs.declared.context_phase.ContextPhase.{ContextPhase}
 use Rattle.lay_shape.specs.Dependencies.{in_phase, inner_flows, is_inner_flow, needs_in, on_way, outer_needs, way_needs}
-use Rattle.lay_shape.specs.Ways.{IsOnWay, is_absolute, way_of}
+use Rattle.lay_shape.specs.Ways.{IsOnContextWay, is_absolute, way_of}
 use Rattle.lay_shape.proofs.Members.{from_filter, from_flat_map, from_map, in_cases, in_either, in_none}
 use Rattle.lay_shape.proofs.Once.{once_append, once_filter, once_flat_map, once_map, once_more, once_none}
 use Rattle.lay_shape.proofs.WaySteps.{in_way_on, on_way_lower, ways_once}
@@ -26,7 +26,7 @@ context_is c p j e = ap (λ (x : ContextPhase). x.context) e
 
 -- of a context on a way
 pub record IsOfWay (contexts : List Context) (i : ℕ) (d : ContextPhase) : Type 0 where
-  pub on : IsOnWay contexts i d.context
+  pub on : IsOnContextWay contexts i d.context
   pub later : (d.phase ≡ Measure) → ⊥
 
 -- of a context inside, in flow or floating, with its box
@@ -58,7 +58,7 @@ module _ (contexts : List Context) (are : AreContexts contexts) where
   of_way i d within has =
       let part = from_flat_map on_way (way_of contexts i) d has in
       let one = of_one part.x d part.inside in
-      record { on = subst (λ j. IsOnWay contexts i j) (sym one.0) (in_way_on contexts are i part.x within part.there); later = one.1 }
+      record { on = subst (λ j. IsOnContextWay contexts i j) (sym one.0) (in_way_on contexts are i part.x within part.there); later = one.1 }
 
   -- an inner context that is in flow or floats
   pub inner_is : (i j : ℕ) → IsIn (inner_flows contexts i) j → IsIn (inner i) j × (0 < j) × (is_absolute contexts j ≡ false)

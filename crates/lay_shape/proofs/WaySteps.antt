@@ -9,7 +9,7 @@ use Rattle.lay_positioned.specs.Levels.{one_if}
 use Rattle.lay_shape.proofs.Cited.{holder_is, one_holder_for}
 use Rattle.lay_shape.specs.Building.{is_inner_absolute, leads_on}
 use Rattle.lay_shape.specs.Levels.{level_of}
-use Rattle.lay_shape.specs.Ways.{IsOnWay, IsOnWayFrom, beyond, further, here, is_absolute, is_fixed, way_from, way_of}
+use Rattle.lay_shape.specs.Ways.{IsOnContextWay, IsOnContextWayFrom, outside_unless_held, further, here, is_absolute, is_fixed, way_from, way_of}
 use Rattle.lay_shape.proofs.LevelSteps.{level_step}
 use Rattle.lay_shape.proofs.Members.{in_cases, in_here, in_none, in_there}
 use Rattle.lay_shape.proofs.Once.{once_more, once_none}
@@ -18,7 +18,7 @@ none_is : (o : Option ℕ) → is_none o ≡ true → o ≡ None
 none_is None e = refl
 none_is (Some x) e = absurd cc
 
-some_ends : (i : ℕ) (o : Option ℕ) (outside : List ℕ) → (is_none o ≡ true → ⊥) → i ∷ beyond o outside ≡ i ∷ []
+some_ends : (i : ℕ) (o : Option ℕ) (outside : List ℕ) → (is_none o ≡ true → ⊥) → i ∷ outside_unless_held o outside ≡ i ∷ []
 some_ends i None outside not_none = absurd (not_none refl)
 some_ends i (Some x) outside not_none = refl
 
@@ -46,35 +46,35 @@ module _ (contexts : List Context) (are : AreContexts contexts) where
     way_same (suc t) (suc u) zero k a b within = refl
     way_same (suc t) (suc u) (suc i) k a b within =
         let out = are.outer (suc i) (omega arith) within in
-        ap (λ l. suc i ∷ beyond (holder (suc i) k) l)
+        ap (λ l. suc i ∷ outside_unless_held (holder (suc i) k) l)
         (way_same t u (outer (suc i)) (outer_box (suc i)) (omega (arith, a, out)) (omega (arith, b, out)) (omega (arith, out, within)))
 
     held : (i k : ℕ) → i < length contexts → k < length (boxes_in contexts i) → IsHolderFor fixed (boxes_in contexts i) k (holder i k)
     held i k within box = holder_is (boxes_in contexts i) (are.boxes i within).tree fixed k box
 
     -- further out only where no holder is
-    in_beyond : (o : Option ℕ) (xs : List ℕ) (j : ℕ) → IsIn (beyond o xs) j → (o ≡ None) × IsIn xs j
+    in_beyond : (o : Option ℕ) (xs : List ℕ) (j : ℕ) → IsIn (outside_unless_held o xs) j → (o ≡ None) × IsIn xs j
     in_beyond None xs j has = (refl, has)
     in_beyond (Some h) xs j has = absurd (in_none j has)
 
-    pub way_is : (t i k j : ℕ) → i ≤ t → i < length contexts → k < length (boxes_in contexts i) → IsIn (way t i k) j → IsOnWayFrom fixed contexts j i k
+    pub way_is : (t i k j : ℕ) → i ≤ t → i < length contexts → k < length (boxes_in contexts i) → IsIn (way t i k) j → IsOnContextWayFrom fixed contexts j i k
     way_is zero i k j a within box has =
-        ⊎_elim (λ e. subst (λ n. IsOnWayFrom fixed contexts j n k) e (here k)) (λ rest. absurd (in_none j rest)) (in_cases i j [] has)
+        ⊎_elim (λ e. subst (λ n. IsOnContextWayFrom fixed contexts j n k) e (here k)) (λ rest. absurd (in_none j rest)) (in_cases i j [] has)
     way_is (suc t) zero k j a within box has =
-        ⊎_elim (λ e. subst (λ n. IsOnWayFrom fixed contexts j n k) e (here k)) (λ rest. absurd (in_none j rest)) (in_cases 0 j [] has)
+        ⊎_elim (λ e. subst (λ n. IsOnContextWayFrom fixed contexts j n k) e (here k)) (λ rest. absurd (in_none j rest)) (in_cases 0 j [] has)
     way_is (suc t) (suc i) k j a within box has =
         let out = are.outer (suc i) (omega arith) within in
         ⊎_elim
-        (λ e. subst (λ n. IsOnWayFrom fixed contexts j n k) e (here k))
+        (λ e. subst (λ n. IsOnContextWayFrom fixed contexts j n k) e (here k))
         (λ rest. let r = in_beyond (holder (suc i) k) (way t (outer (suc i)) (outer_box (suc i))) j rest in
         further (suc i) k (omega arith) (subst (λ o. IsHolderFor fixed (boxes_in contexts (suc i)) k o) r.0 (held (suc i) k within box))
         (way_is t (outer (suc i)) (outer_box (suc i)) j (omega (arith, a, out)) (omega (arith, out, within)) (are.outer_box (suc i) (omega arith) within) r.1))
-        (in_cases (suc i) j (beyond (holder (suc i) k) (way t (outer (suc i)) (outer_box (suc i)))) has)
+        (in_cases (suc i) j (outside_unless_held (holder (suc i) k) (way t (outer (suc i)) (outer_box (suc i)))) has)
 
     way_begins : (t i k : ℕ) → IsIn (way t i k) i
     way_begins zero i k = in_here i []
     way_begins (suc t) zero k = in_here 0 []
-    way_begins (suc t) (suc i) k = in_here (suc i) (beyond (holder (suc i) k) (way t (outer (suc i)) (outer_box (suc i))))
+    way_begins (suc t) (suc i) k = in_here (suc i) (outside_unless_held (holder (suc i) k) (way t (outer (suc i)) (outer_box (suc i))))
 
     way_goes_on : (t i k j : ℕ) → 0 < i → holder i k ≡ None → i ≤ t → IsIn (way t (outer i) (outer_box i)) j → outer i < i → i < length contexts → IsIn (way t i k) j
     way_goes_on t zero k j some none a has out within = absurd (omega (arith, some))
@@ -82,10 +82,10 @@ module _ (contexts : List Context) (are : AreContexts contexts) where
     way_goes_on (suc t) (suc i) k j some none a has out within =
         let less : way (suc t) (outer (suc i)) (outer_box (suc i)) ≡ way t (outer (suc i)) (outer_box (suc i)) =
         way_same (suc t) t (outer (suc i)) (outer_box (suc i)) (omega (arith, a, out)) (omega (arith, a, out)) (omega (arith, out, within)) in
-        in_there (suc i) j (beyond (holder (suc i) k) (way t (outer (suc i)) (outer_box (suc i))))
-        (subst (λ o. IsIn (beyond o (way t (outer (suc i)) (outer_box (suc i)))) j) (sym none) (subst (λ l. IsIn l j) less has))
+        in_there (suc i) j (outside_unless_held (holder (suc i) k) (way t (outer (suc i)) (outer_box (suc i))))
+        (subst (λ o. IsIn (outside_unless_held o (way t (outer (suc i)) (outer_box (suc i)))) j) (sym none) (subst (λ l. IsIn l j) less has))
 
-    pub in_way : (t j i k : ℕ) → i ≤ t → i < length contexts → k < length (boxes_in contexts i) → IsOnWayFrom fixed contexts j i k → IsIn (way t i k) j
+    pub in_way : (t j i k : ℕ) → i ≤ t → i < length contexts → k < length (boxes_in contexts i) → IsOnContextWayFrom fixed contexts j i k → IsIn (way t i k) j
     in_way t j i k a within box (here k-2) = way_begins t i k
     in_way t j i k a within box (further i-2 k-2 some none rest) =
         let out = are.outer i some within in
@@ -93,7 +93,7 @@ module _ (contexts : List Context) (are : AreContexts contexts) where
         (in_way t j (outer i) (outer_box i) (omega (arith, a, out)) (omega (arith, out, within)) (are.outer_box i some within) rest) out within
 
     -- it leads out, to no higher level
-    pub way_out : (j i k : ℕ) → i < length contexts → IsOnWayFrom fixed contexts j i k → (j ≤ i) × (level_of contexts j ≤ level_of contexts i)
+    pub way_out : (j i k : ℕ) → i < length contexts → IsOnContextWayFrom fixed contexts j i k → (j ≤ i) × (level_of contexts j ≤ level_of contexts i)
     way_out j i k within (here k-2) = (omega arith, omega arith)
     way_out j i k within (further i-2 k-2 some none rest) =
         let out = are.outer i some within in
@@ -103,7 +103,7 @@ module _ (contexts : List Context) (are : AreContexts contexts) where
         let b = less.1 in
         (omega (arith, a, out), omega (arith, b, level))
 
-    none_twice : (o : Option ℕ) (i : ℕ) (xs : List ℕ) → (IsIn xs i → ⊥) → IsEachOnce xs → IsEachOnce (i ∷ beyond o xs)
+    none_twice : (o : Option ℕ) (i : ℕ) (xs : List ℕ) → (IsIn xs i → ⊥) → IsEachOnce xs → IsEachOnce (i ∷ outside_unless_held o xs)
     none_twice None i xs apart once = once_more i xs apart once
     none_twice (Some h) i xs apart once = once_more i [] (λ has. in_none i has) once_none
 
@@ -121,7 +121,7 @@ module _ (contexts : List Context) (are : AreContexts contexts) where
         (way_once t (outer (suc i)) (outer_box (suc i)) (omega (arith, a, out)) (omega (arith, out, within)) place)
 
   -- those on the way of a context
-  pub on_way_in : (i j : ℕ) → i < length contexts → IsOnWay contexts i j → IsIn (way_of contexts i) j
+  pub on_way_in : (i j : ℕ) → i < length contexts → IsOnContextWay contexts i j → IsIn (way_of contexts i) j
   on_way_in zero j within on = let s = on.some in absurd (omega (arith, s))
   on_way_in (suc i) j within on =
       let out = are.outer (suc i) (omega arith) within in
@@ -129,7 +129,7 @@ module _ (contexts : List Context) (are : AreContexts contexts) where
       (in_way (is_fixed contexts (suc i)) (suc i) j (outer (suc i)) (outer_box (suc i)) (omega (arith, out)) (omega (arith, out, within)) (are.outer_box (suc i) (omega arith) within) on.from)
 
   by_position : (i j : ℕ) (b : Bool) → is_absolute contexts (suc i) ≡ b → suc i < length contexts
-      → IsIn (if b then way_from (suc i) (is_fixed contexts (suc i)) contexts (outer (suc i)) (outer_box (suc i)) else []) j → IsOnWay contexts (suc i) j
+      → IsIn (if b then way_from (suc i) (is_fixed contexts (suc i)) contexts (outer (suc i)) (outer_box (suc i)) else []) j → IsOnContextWay contexts (suc i) j
   by_position i j true e within has =
       let out = are.outer (suc i) (omega arith) within in
       record {
@@ -139,11 +139,11 @@ module _ (contexts : List Context) (are : AreContexts contexts) where
       }
   by_position i j false e within has = absurd (in_none j has)
 
-  pub in_way_on : (i j : ℕ) → i < length contexts → IsIn (way_of contexts i) j → IsOnWay contexts i j
+  pub in_way_on : (i j : ℕ) → i < length contexts → IsIn (way_of contexts i) j → IsOnContextWay contexts i j
   in_way_on zero j within has = absurd (in_none j has)
   in_way_on (suc i) j within has = by_position i j (is_absolute contexts (suc i)) refl within has
 
-  pub on_way_lower : (i j : ℕ) → i < length contexts → IsOnWay contexts i j → (j < i) × (level_of contexts j < level_of contexts i)
+  pub on_way_lower : (i j : ℕ) → i < length contexts → IsOnContextWay contexts i j → (j < i) × (level_of contexts j < level_of contexts i)
   on_way_lower i j within on =
       let out = are.outer i on.some within in
       let level = level_step contexts are i on.some within in
@@ -172,7 +172,7 @@ module _ (contexts : List Context) (are : AreContexts contexts) (fixed : Bool) w
       let o = (context_at contexts (suc i)).outer in
       let out = are.outer (suc i) (omega arith) within in
       let is = none_is (holder_for fixed (boxes_in contexts (suc i)) k) (and_parts (nat_lt 0 (suc i)) (is_none (holder_for fixed (boxes_in contexts (suc i)) k)) on).1 in
-      ap (λ p. suc i ∷ beyond p (way_from i fixed contexts o (context_at contexts (suc i)).outer_box)) is
+      ap (λ p. suc i ∷ outside_unless_held p (way_from i fixed contexts o (context_at contexts (suc i)).outer_box)) is
       ∙ ap (λ l. suc i ∷ l) (way_same contexts are fixed i o o (context_at contexts (suc i)).outer_box (omega (arith, out)) (omega arith) (omega (arith, out, within)))
 
   -- and one that ends where it begins

@@ -11,15 +11,15 @@ use Rattle.lay_shape.specs.declared.context_phase.ContextPhase.{ContextPhase}
 use Rattle.lay_shape.specs.Dependencies.{in_phase, needs_in}
 use Rattle.lay_shape.specs.Keys.{AreOfOwnNodes}
 use Rattle.lay_shape.specs.Shapes.{cells_of, shape_of}
-use Rattle.lay_shape.specs.Ways.{IsOnWay, way_of}
+use Rattle.lay_shape.specs.Ways.{IsOnContextWay, way_of}
 
 -- Just the contexts on a way are listed as those.
 abbrev pub WaysAreLists : Type 0
 WaysAreLists = (contexts : List Context) (i j : ℕ) → AreContexts contexts → i < length contexts
-    → IsIn (way_of contexts i) j ↔ IsOnWay contexts i j
+    → IsIn (way_of contexts i) j ↔ IsOnContextWay contexts i j
 
 -- the cell stands at this place among these, and at no other
-pub record StandsOnce (cells : List ContextPhase) (c : ContextPhase) : Type 0 where
+pub record CellStandsOnce (cells : List ContextPhase) (c : ContextPhase) : Type 0 where
   pub place : ℕ
   pub at : slice_get cells place ≡ Some c
   pub only : (other : ℕ) → slice_get cells other ≡ Some c → other ≡ place
@@ -27,7 +27,7 @@ pub record StandsOnce (cells : List ContextPhase) (c : ContextPhase) : Type 0 wh
 -- Each phase of each context is one cell.
 abbrev pub CellsStandOnce : Type 0
 CellsStandOnce = (contexts : List Context) (i : ℕ) (phase : Phase) → AreContexts contexts
-    → i < length contexts → StandsOnce (cells_of contexts) (in_phase phase i)
+    → i < length contexts → CellStandsOnce (cells_of contexts) (in_phase phase i)
 
 -- And there are no other cells.
 abbrev pub CellsAreOfContexts : Type 0

@@ -14,22 +14,22 @@ abbrev pub is_fixed : List Context → ℕ → Bool
 is_fixed contexts i = is_own_fixed (boxes_in contexts i)
 
 -- the context with the number j is on the way from the box at k in the one with the number i
-pub data IsOnWayFrom (is_fixed : Bool) (contexts : List Context) (j : ℕ) : (i k : ℕ) → Type 0 where
-  here : (k : ℕ) → IsOnWayFrom is_fixed contexts j j k
+pub data IsOnContextWayFrom (is_fixed : Bool) (contexts : List Context) (j : ℕ) : (i k : ℕ) → Type 0 where
+  here : (k : ℕ) → IsOnContextWayFrom is_fixed contexts j j k
   further : (i k : ℕ) → 0 < i → IsHolderFor is_fixed (boxes_in contexts i) k None
-      → IsOnWayFrom is_fixed contexts j (context_at contexts i).outer (context_at contexts i).outer_box
-      → IsOnWayFrom is_fixed contexts j i k
+      → IsOnContextWayFrom is_fixed contexts j (context_at contexts i).outer (context_at contexts i).outer_box
+      → IsOnContextWayFrom is_fixed contexts j i k
 
 -- it is on that of the one with the number i, which is absolutely positioned; nothing is around the root's
-pub record IsOnWay (contexts : List Context) (i j : ℕ) : Type 0 where
+pub record IsOnContextWay (contexts : List Context) (i j : ℕ) : Type 0 where
   pub some : 0 < i
   pub absolute : is_absolute contexts i ≡ true
-  pub from : IsOnWayFrom (is_fixed contexts i) contexts j (context_at contexts i).outer (context_at contexts i).outer_box
+  pub from : IsOnContextWayFrom (is_fixed contexts i) contexts j (context_at contexts i).outer (context_at contexts i).outer_box
 
 -- what is further out counts where no holder was found
-abbrev pub beyond : Option ℕ → List ℕ → List ℕ
-beyond (Some holder) outside = []
-beyond None outside = outside
+abbrev pub outside_unless_held : Option ℕ → List ℕ → List ℕ
+outside_unless_held (Some holder) outside = []
+outside_unless_held None outside = outside
 
 -- The same as a list, from the inside out, in so many turns: no more contexts are around one than stand before it. Just these are on
 -- the way, by the law `ways_are_lists`.
@@ -38,7 +38,7 @@ way_from zero is_fixed contexts i k = i ∷ []
 way_from (suc turns) is_fixed contexts zero k = zero ∷ []
 way_from (suc turns) is_fixed contexts (suc i) k =
     let c = context_at contexts (suc i) in
-    suc i ∷ beyond (holder_for is_fixed c.boxes k) (way_from turns is_fixed contexts c.outer c.outer_box)
+    suc i ∷ outside_unless_held (holder_for is_fixed c.boxes k) (way_from turns is_fixed contexts c.outer c.outer_box)
 
 -- the way of the context with the number i, and nothing where it isn't absolutely positioned
 abbrev pub way_of : List Context → ℕ → List ℕ

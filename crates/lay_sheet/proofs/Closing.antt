@@ -13,7 +13,7 @@ use Rattle.lay_sheet.specs.Lists.{with_found}
 use Rattle.lay_sheet.specs.Pieces.{is_other, block_to, behind_block, behind_at_rule}
 use Rattle.lay_sheet.specs.PlainText.{is_mark, begins_with, ends_comment, place_behind, seen_of, plain_from, plain_text}
 use Rattle.lay_sheet.specs.Sheets.{RuleValue, IsRuleSet, AreStatements, IsSheet, end, space, at_rule, unopened, rule_set}
-use Rattle.lay_sheet.specs.Laws.{parts_string, has_comment_end, place_after, open_after, LacksBrace, ends_at_rule, OpenStringEnds, OpenCommentEnds, OpenBlockEnds, SheetsFollow, AtRuleSaysNothing}
+use Rattle.lay_sheet.specs.Laws.{parts_string, has_comment_end, place_after_text, depth_after, LacksBrace, ends_at_rule, OpenStringEnds, OpenCommentEnds, OpenBlockEnds, SheetsFollow, AtRuleSaysNothing}
 use Rattle.lay_sheet.proofs.OneSheet.{one_text, one_sheet_lem}
 use Rattle.lay_sheet.proofs.SomeSheet.{some_sheet_lem}
 use Rattle.lay_sheet.proofs.Texts.{string_hides_lem, comment_is_space_lem}
@@ -69,7 +69,7 @@ module _ (c : ℕ) (rest : List ℕ) (no_star : (c == 42) ≡ false) (no_slash :
   seen_same InComment b bs = refl
   seen_same CommentEnd b bs = refl
 
-  seen_on : (place : Place) (text : List ℕ) → place_after place text ≡ Outside → plain_from place (text ++ c ∷ rest) ≡ plain_from place text ++ plain_text (c ∷ rest)
+  seen_on : (place : Place) (text : List ℕ) → place_after_text place text ≡ Outside → plain_from place (text ++ c ∷ rest) ≡ plain_from place text ++ plain_text (c ∷ rest)
   seen_on place [] e = ap (λ z. plain_from z (c ∷ rest)) e
   seen_on place (b ∷ bs) e =
       let on = seen_on (place_behind place b bs) bs e in
@@ -90,18 +90,18 @@ braces b = of_cases (cases_Bool (b == 123)) (cases_Bool (b == 125))
     of_cases (inr o) (inl c) = inr (inl (o, c))
     of_cases (inr o) (inr c) = inr (inr (o, c))
 
-after_open : (d b : ℕ) (bs : List ℕ) → (b == 123) ≡ true → open_after d (b ∷ bs) ≡ open_after (d + 1) bs
+after_open : (d b : ℕ) (bs : List ℕ) → (b == 123) ≡ true → depth_after d (b ∷ bs) ≡ depth_after (d + 1) bs
 after_open d b bs o = rw o refl
 
-after_close : (d b : ℕ) (bs : List ℕ) → (b == 123) ≡ false → (b == 125) ≡ true → open_after d (b ∷ bs) ≡ open_after (d - 1) bs
+after_close : (d b : ℕ) (bs : List ℕ) → (b == 123) ≡ false → (b == 125) ≡ true → depth_after d (b ∷ bs) ≡ depth_after (d - 1) bs
 after_close d b bs o c = rw (o, c) refl
 
-after_other : (d b : ℕ) (bs : List ℕ) → (b == 123) ≡ false → (b == 125) ≡ false → open_after d (b ∷ bs) ≡ open_after d bs
+after_other : (d b : ℕ) (bs : List ℕ) → (b == 123) ≡ false → (b == 125) ≡ false → depth_after d (b ∷ bs) ≡ depth_after d bs
 after_other d b bs o c = rw (o, c) refl
 
 -- what stands behind a piece with the missing brace and without it: nothing and the rest, or a text that lacks that brace still
 abbrev Ends : List ℕ → List ℕ → List ℕ → Type 0
-Ends rest lacking closed = ((lacking ≡ []) × (closed ≡ rest)) ⊎ ((open_after 0 lacking ≡ 1) × (closed ≡ lacking ++ 125 ∷ rest))
+Ends rest lacking closed = ((lacking ≡ []) × (closed ≡ rest)) ⊎ ((depth_after 0 lacking ≡ 1) × (closed ≡ lacking ++ 125 ∷ rest))
 
 record BlockEnds (rest : List ℕ) (d : ℕ) (text : List ℕ) : Type 0 where
   block : block_to d (text ++ 125 ∷ rest) ≡ block_to d text
@@ -111,7 +111,7 @@ module _ (rest : List ℕ) where
   opens_in : (d b : ℕ) (bs : List ℕ) → (b == 123) ≡ true → BlockEnds rest (d + 1) bs → BlockEnds rest d (b ∷ bs)
   opens_in d b bs o was = record { block = rw o (ap (λ z. b ∷ z) was.block); ends = rw o was.ends }
 
-  closes_all : (b : ℕ) (bs : List ℕ) → (b == 123) ≡ false → (b == 125) ≡ true → open_after 0 bs ≡ 1 → BlockEnds rest 0 (b ∷ bs)
+  closes_all : (b : ℕ) (bs : List ℕ) → (b == 123) ≡ false → (b == 125) ≡ true → depth_after 0 bs ≡ 1 → BlockEnds rest 0 (b ∷ bs)
   closes_all b bs o c e = record { block = rw (o, c) refl; ends = rw (o, c) (inr (e, refl)) }
 
   closes_one : (d b : ℕ) (bs : List ℕ) → (b == 123) ≡ false → (b == 125) ≡ true → (suc d == 0) ≡ false → BlockEnds rest (suc d - 1) bs → BlockEnds rest (suc d) (b ∷ bs)
@@ -120,12 +120,12 @@ module _ (rest : List ℕ) where
   passes : (d b : ℕ) (bs : List ℕ) → (b == 123) ≡ false → (b == 125) ≡ false → BlockEnds rest d bs → BlockEnds rest d (b ∷ bs)
   passes d b bs o c was = record { block = rw (o, c) (ap (λ z. b ∷ z) was.block); ends = rw (o, c) was.ends }
 
-  block_ends : (d : ℕ) (text : List ℕ) → open_after (d + 1) text ≡ 1 → BlockEnds rest d text
+  block_ends : (d : ℕ) (text : List ℕ) → depth_after (d + 1) text ≡ 1 → BlockEnds rest d text
   block_ends zero [] e = record { block = refl; ends = inl (refl, refl) }
   block_ends (suc d) [] e = absurd (omega (arith, e))
   block_ends zero (b ∷ bs) e = of_brace (λ d f. block_ends d bs f) (braces b)
     where
-      of_brace : ((d : ℕ) → open_after (d + 1) bs ≡ 1 → BlockEnds rest d bs) → Braces b → BlockEnds rest 0 (b ∷ bs)
+      of_brace : ((d : ℕ) → depth_after (d + 1) bs ≡ 1 → BlockEnds rest d bs) → Braces b → BlockEnds rest 0 (b ∷ bs)
       of_brace on (inl o) = opens_in 0 b bs o (on 1 (sym (after_open 1 b bs o) ∙ e))
       of_brace on (inr (inl (o, c))) = closes_all b bs o c (sym (after_close 1 b bs o c) ∙ e)
       of_brace on (inr (inr (o, c))) = passes 0 b bs o c (on 0 (sym (after_other 1 b bs o c) ∙ e))
@@ -134,21 +134,21 @@ module _ (rest : List ℕ) where
       less : suc d + 1 - 1 ≡ (suc d - 1) + 1
       less = omega arith
 
-      of_brace : ((d : ℕ) → open_after (d + 1) bs ≡ 1 → BlockEnds rest d bs) → Braces b → BlockEnds rest (suc d) (b ∷ bs)
+      of_brace : ((d : ℕ) → depth_after (d + 1) bs ≡ 1 → BlockEnds rest d bs) → Braces b → BlockEnds rest (suc d) (b ∷ bs)
       of_brace on (inl o) = opens_in (suc d) b bs o (on (suc d + 1) (sym (after_open (suc d + 1) b bs o) ∙ e))
       of_brace on (inr (inl (o, c))) =
-          closes_one d b bs o c (ne_eqb (suc d) 0 (λ q. omega (arith, q))) (on (suc d - 1) (ap (λ z. open_after z bs) (sym less) ∙ sym (after_close (suc d + 1) b bs o c) ∙ e))
+          closes_one d b bs o c (ne_eqb (suc d) 0 (λ q. omega (arith, q))) (on (suc d - 1) (ap (λ z. depth_after z bs) (sym less) ∙ sym (after_close (suc d + 1) b bs o c) ∙ e))
       of_brace on (inr (inr (o, c))) = passes (suc d) b bs o c (on (suc d) (sym (after_other (suc d + 1) b bs o c) ∙ e))
 
   -- a statement that begins with `@`
-  at_rule_ends : (text : List ℕ) → open_after 0 text ≡ 1 → Ends rest (behind_at_rule text) (behind_at_rule (text ++ 125 ∷ rest))
+  at_rule_ends : (text : List ℕ) → depth_after 0 text ≡ 1 → Ends rest (behind_at_rule text) (behind_at_rule (text ++ 125 ∷ rest))
   at_rule_ends [] e = absurd (omega (arith, e))
   at_rule_ends (b ∷ bs) e = of_byte (λ f. at_rule_ends bs f) (cases_Bool (b == 59)) (braces b)
     where
-      semicolon : (b == 59) ≡ true → open_after 0 bs ≡ 1
-      semicolon s = let q : 59 ≡ b = sym (eqb-true b 59 s) in subst (λ z. open_after 0 (z ∷ bs) ≡ 1) (sym q) e
+      semicolon : (b == 59) ≡ true → depth_after 0 bs ≡ 1
+      semicolon s = let q : 59 ≡ b = sym (eqb-true b 59 s) in subst (λ z. depth_after 0 (z ∷ bs) ≡ 1) (sym q) e
 
-      of_byte : (open_after 0 bs ≡ 1 → Ends rest (behind_at_rule bs) (behind_at_rule (bs ++ 125 ∷ rest))) →
+      of_byte : (depth_after 0 bs ≡ 1 → Ends rest (behind_at_rule bs) (behind_at_rule (bs ++ 125 ∷ rest))) →
           ((b == 59) ≡ true) ⊎ ((b == 59) ≡ false) → Braces b → Ends rest (behind_at_rule (b ∷ bs)) (behind_at_rule (b ∷ bs ++ 125 ∷ rest))
       of_byte on (inl s) o = let f = semicolon s in rw s (inr (f, refl))
       of_byte on (inr s) (inl o) = let was = block_ends 0 bs (sym (after_open 0 b bs o) ∙ e) in rw (s, o) was.ends
@@ -171,20 +171,20 @@ front_more (b ∷ bs) more some = of_byte (λ h. front_more bs more h) (cases_Bo
     of_byte on (inl o) = rw o (refl, refl)
     of_byte on (inr o) = let was = on (later o) in rw o (ap (λ z. b ∷ z) was.0, was.1)
 
-open_front : (text : List ℕ) → 0 < length (behind (is_other 123) text) → open_after 0 text ≡ open_after 1 (drop 1 (behind (is_other 123) text))
+open_front : (text : List ℕ) → 0 < length (behind (is_other 123) text) → depth_after 0 text ≡ depth_after 1 (drop 1 (behind (is_other 123) text))
 open_front [] some = absurd (omega (arith, some))
 open_front (b ∷ bs) some = of_byte (λ h. open_front bs h) (braces b)
   where
     later : (b == 123) ≡ false → 0 < length (behind (is_other 123) bs)
     later o = rw o at some
 
-    of_byte : (0 < length (behind (is_other 123) bs) → open_after 0 bs ≡ open_after 1 (drop 1 (behind (is_other 123) bs))) → Braces b →
-        open_after 0 (b ∷ bs) ≡ open_after 1 (drop 1 (behind (is_other 123) (b ∷ bs)))
+    of_byte : (0 < length (behind (is_other 123) bs) → depth_after 0 bs ≡ depth_after 1 (drop 1 (behind (is_other 123) bs))) → Braces b →
+        depth_after 0 (b ∷ bs) ≡ depth_after 1 (drop 1 (behind (is_other 123) (b ∷ bs)))
     of_byte on (inl o) = rw o refl
     of_byte on (inr (inl (o, c))) = let was = on (later o) in rw (o, c) was
     of_byte on (inr (inr (o, c))) = let was = on (later o) in rw (o, c) was
 
-none_open : (text : List ℕ) → length (behind (is_other 123) text) ≡ 0 → open_after 0 text ≡ 0
+none_open : (text : List ℕ) → length (behind (is_other 123) text) ≡ 0 → depth_after 0 text ≡ 0
 none_open [] none = refl
 none_open (b ∷ bs) none = of_byte (λ h. none_open bs h) (braces b)
   where
@@ -194,7 +194,7 @@ none_open (b ∷ bs) none = of_byte (λ h. none_open bs h) (braces b)
     opened : (b == 123) ≡ true → length (b ∷ bs) ≡ 0
     opened o = rw o at none
 
-    of_byte : (length (behind (is_other 123) bs) ≡ 0 → open_after 0 bs ≡ 0) → Braces b → open_after 0 (b ∷ bs) ≡ 0
+    of_byte : (length (behind (is_other 123) bs) ≡ 0 → depth_after 0 bs ≡ 0) → Braces b → depth_after 0 (b ∷ bs) ≡ 0
     of_byte on (inl o) = let n = opened o in absurd (omega (arith, n))
     of_byte on (inr (inl (o, c))) = let was = on (later o) in rw (o, c) was
     of_byte on (inr (inr (o, c))) = let was = on (later o) in rw (o, c) was
@@ -207,31 +207,31 @@ longer : (text more : List ℕ) → 0 < length text → 0 < length (text ++ more
 longer [] more some = absurd (omega (arith, some))
 longer (b ∷ bs) more some = omega arith
 
-space_opens_nothing : (b : ℕ) (bs : List ℕ) → is_ascii_whitespace b ≡ true → open_after 0 (b ∷ bs) ≡ open_after 0 bs
+space_opens_nothing : (b : ℕ) (bs : List ℕ) → is_ascii_whitespace b ≡ true → depth_after 0 (b ∷ bs) ≡ depth_after 0 bs
 space_opens_nothing b bs w = of_byte (braces b)
   where
     at : (n : ℕ) → (b == n) ≡ true → is_ascii_whitespace n ≡ true
     at n e = subst (λ z. is_ascii_whitespace z ≡ true) (eqb-true b n e) w
 
-    of_byte : Braces b → open_after 0 (b ∷ bs) ≡ open_after 0 bs
+    of_byte : Braces b → depth_after 0 (b ∷ bs) ≡ depth_after 0 bs
     of_byte (inl o) = absurd (false≢true (at 123 o))
     of_byte (inr (inl (o, c))) = absurd (false≢true (at 125 c))
     of_byte (inr (inr (o, c))) = after_other 0 b bs o c
 
-at_opens_nothing : (b : ℕ) (bs : List ℕ) → (b == 64) ≡ true → open_after 0 (b ∷ bs) ≡ open_after 0 bs
-at_opens_nothing b bs i = subst (λ z. open_after 0 (z ∷ bs) ≡ open_after 0 bs) (sym (eqb-true b 64 i)) refl
+at_opens_nothing : (b : ℕ) (bs : List ℕ) → (b == 64) ≡ true → depth_after 0 (b ∷ bs) ≡ depth_after 0 bs
+at_opens_nothing b bs i = subst (λ z. depth_after 0 (z ∷ bs) ≡ depth_after 0 bs) (sym (eqb-true b 64 i)) refl
 
 nothing_says : (text : List ℕ) (rules : List RuleValue) → text ≡ [] → AreStatements text rules → rules ≡ []
 nothing_says text rules e p = one_text [] rules [] (subst (λ z. AreStatements z rules) e p) end
 
 -- the statements of a text that lacks a brace are those of the same with its brace, and then come those of what stands behind that
 module _ (rest : List ℕ) (others : List RuleValue) (behind_it : AreStatements rest others) where
-  close_more : (text : List ℕ) (rules : List RuleValue) → open_after 0 text ≡ 1 → AreStatements text rules → AreStatements (text ++ 125 ∷ rest) (rules ++ others)
+  close_more : (text : List ℕ) (rules : List RuleValue) → depth_after 0 text ≡ 1 → AreStatements text rules → AreStatements (text ++ 125 ∷ rest) (rules ++ others)
   close_more text rules e end = absurd (omega (arith, e))
   close_more text rules e (space b bs rs w p) = space b (bs ++ 125 ∷ rest) (rs ++ others) w (close_more bs rs (sym (space_opens_nothing b bs w) ∙ e) p)
   close_more text rules e (at_rule b bs rs w i p) = of_ends (λ h. close_more (behind_at_rule bs) rs h p) (at_rule_ends rest bs (sym (at_opens_nothing b bs i) ∙ e))
     where
-      of_ends : (open_after 0 (behind_at_rule bs) ≡ 1 → AreStatements (behind_at_rule bs ++ 125 ∷ rest) (rs ++ others)) →
+      of_ends : (depth_after 0 (behind_at_rule bs) ≡ 1 → AreStatements (behind_at_rule bs ++ 125 ∷ rest) (rs ++ others)) →
           Ends rest (behind_at_rule bs) (behind_at_rule (bs ++ 125 ∷ rest)) → AreStatements (b ∷ bs ++ 125 ∷ rest) (rs ++ others)
       of_ends on (inl (none, closed)) =
           subst (λ z. AreStatements (b ∷ bs ++ 125 ∷ rest) (z ++ others)) (sym (nothing_says (behind_at_rule bs) rs none p))
@@ -264,7 +264,7 @@ module _ (rest : List ℕ) (others : List RuleValue) (behind_it : AreStatements 
       whole : (more : List RuleValue) → AreStatements (behind_block 0 (inner ++ 125 ∷ rest)) more → AreStatements (b ∷ bs ++ 125 ∷ rest) (with_found rule more)
       whole more q = rule_set b (bs ++ 125 ∷ rest) rule more w i begun same_rule (subst (λ z. AreStatements (behind_block 0 z) more) (sym inner_is) q)
 
-      of_ends : (open_after 0 (behind_block 0 inner) ≡ 1 → AreStatements (behind_block 0 inner ++ 125 ∷ rest) (rs ++ others)) →
+      of_ends : (depth_after 0 (behind_block 0 inner) ≡ 1 → AreStatements (behind_block 0 inner ++ 125 ∷ rest) (rs ++ others)) →
           Ends rest (behind_block 0 inner) (behind_block 0 (inner ++ 125 ∷ rest)) → AreStatements (b ∷ bs ++ 125 ∷ rest) (with_found rule rs ++ others)
       of_ends on (inl (none, closed)) =
           subst (λ z. AreStatements (b ∷ bs ++ 125 ∷ rest) (with_found rule z ++ others)) (sym (nothing_says (behind_block 0 inner) rs none p))
@@ -273,7 +273,7 @@ module _ (rest : List ℕ) (others : List RuleValue) (behind_it : AreStatements 
           subst (AreStatements (b ∷ bs ++ 125 ∷ rest)) (sym (found_front rule rs others))
           (whole (rs ++ others) (subst (λ z. AreStatements z (rs ++ others)) (sym closed) (on lacks)))
 
-seen_closed : (text rest : List ℕ) → place_after Outside text ≡ Outside → plain_text (text ++ 125 ∷ rest) ≡ plain_text text ++ 125 ∷ plain_text rest
+seen_closed : (text rest : List ℕ) → place_after_text Outside text ≡ Outside → plain_text (text ++ 125 ∷ rest) ≡ plain_text text ++ 125 ∷ plain_text rest
 seen_closed text rest e = seen_on 125 rest refl refl Outside text e
 
 pub open_block_ends_lem : OpenBlockEnds

@@ -12,7 +12,7 @@ use Rattle.lay_sheet.specs.declared.declaration.SheetDecl.{SheetDecl}
 use Rattle.lay_sheet.specs.Lists.{with_found, preceded, continued}
 use Rattle.lay_sheet.specs.Pieces.{is_other, block_to, behind_block, behind_at_rule, part_to, behind_part}
 use Rattle.lay_sheet.specs.SelectorTexts.{AreSteps, AreSelectors, no_step, last_step, more_steps, no_selector, last_selector, more_selectors, IsSelectorText, simple_of, joint_of, behind_joint, behind_simple}
-use Rattle.lay_sheet.specs.Declarations.{AreDeclarations, declaration_of, declared, weighed, before_important, no_part, one_part}
+use Rattle.lay_sheet.specs.Declarations.{AreDeclarations, declaration_of_part, declared, weighed, before_important, no_part, one_part}
 use Rattle.lay_sheet.specs.Sheets.{RuleValue, IsRuleSet, AreStatements, space, at_rule, unopened, rule_set, end}
 use Rattle.std.proofs.lemmas.Grind.{common_steps}
 use Rattle.std.proofs.lemmas.List.{append-nil}
@@ -63,28 +63,28 @@ module _ (text : List ℕ) (done : List (List Step)) (rest : List ℕ) (so_far :
       let w = so_far (preceded selector found) (more_selectors rest selector found q h r) in
       subst (λ z. AreSelectors text z) (one_more done selector found ∙ ap (λ z. continued z found) (sym is)) w
 
-part_of : (text : List ℕ) (decls : List SheetDecl) → 0 < length text → AreDeclarations (behind_part 0 text) decls → AreDeclarations text (with_found (declaration_of (part_to 0 text)) decls)
+part_of : (text : List ℕ) (decls : List SheetDecl) → 0 < length text → AreDeclarations (behind_part 0 text) decls → AreDeclarations text (with_found (declaration_of_part (part_to 0 text)) decls)
 part_of [] decls some p = absurd (omega (arith, some))
 part_of (b ∷ bs) decls some p = one_part b bs decls p
 
 -- the declarations of a block continue those that are done
 pub next_part : (block : List ℕ) (done : List SheetDecl) (rest : List ℕ) → ((decls : List SheetDecl) → AreDeclarations rest decls → AreDeclarations block (done ++ decls)) → 0 < length rest →
-    (part behind_it : List ℕ) (found : Option SheetDecl) (all : List SheetDecl) → part ≡ part_to 0 rest → behind_it ≡ behind_part 0 rest → found ≡ declaration_of part → all ≡ done ++ with_found found [] → (decls : List SheetDecl) → AreDeclarations behind_it decls → AreDeclarations block (all ++ decls)
+    (part behind_it : List ℕ) (found : Option SheetDecl) (all : List SheetDecl) → part ≡ part_to 0 rest → behind_it ≡ behind_part 0 rest → found ≡ declaration_of_part part → all ≡ done ++ with_found found [] → (decls : List SheetDecl) → AreDeclarations behind_it decls → AreDeclarations block (all ++ decls)
 next_part block done rest so_far some part behind_it found all part_is behind_is e is decls p =
-    let w = so_far (with_found (declaration_of (part_to 0 rest)) decls) (part_of rest decls some (subst (λ z. AreDeclarations z decls) behind_is p)) in
-    let d : declaration_of (part_to 0 rest) ≡ found = ap declaration_of (sym part_is) ∙ sym e in
-    let q = found_more done (declaration_of (part_to 0 rest)) decls ∙ ap (λ z. (done ++ with_found z []) ++ decls) d ∙ ap (λ z. z ++ decls) (sym is) in
+    let w = so_far (with_found (declaration_of_part (part_to 0 rest)) decls) (part_of rest decls some (subst (λ z. AreDeclarations z decls) behind_is p)) in
+    let d : declaration_of_part (part_to 0 rest) ≡ found = ap declaration_of_part (sym part_is) ∙ sym e in
+    let q = found_more done (declaration_of_part (part_to 0 rest)) decls ∙ ap (λ z. (done ++ with_found z []) ++ decls) d ∙ ap (λ z. z ++ decls) (sym is) in
     subst (λ z. AreDeclarations block z) q w
 
 -- the last part of a block is all of it that is left
-pub last_part : (block part : List ℕ) → part ≡ part_to 0 block → behind_part 0 block ≡ [] → AreDeclarations block (with_found (declaration_of part) [])
-last_part [] part is ends = subst (λ z. AreDeclarations [] (with_found (declaration_of z) [])) (sym is) no_part
+pub last_part : (block part : List ℕ) → part ≡ part_to 0 block → behind_part 0 block ≡ [] → AreDeclarations block (with_found (declaration_of_part part) [])
+last_part [] part is ends = subst (λ z. AreDeclarations [] (with_found (declaration_of_part z) [])) (sym is) no_part
 last_part (b ∷ bs) part is ends =
-    subst (λ z. AreDeclarations (b ∷ bs) (with_found (declaration_of z) [])) (sym is) (one_part b bs [] (subst (λ z. AreDeclarations z []) (sym ends) no_part))
+    subst (λ z. AreDeclarations (b ∷ bs) (with_found (declaration_of_part z) [])) (sym is) (one_part b bs [] (subst (λ z. AreDeclarations z []) (sym ends) no_part))
 
 pub block_ends : (block : List ℕ) (done : List SheetDecl) (rest : List ℕ) → ((decls : List SheetDecl) → AreDeclarations rest decls → AreDeclarations block (done ++ decls)) →
-    (part : List ℕ) (all : List SheetDecl) → part ≡ part_to 0 rest → behind_part 0 rest ≡ [] → all ≡ done ++ with_found (declaration_of part) [] → AreDeclarations block all
-block_ends block done rest so_far part all part_is ends is = subst (λ z. AreDeclarations block z) (sym is) (so_far (with_found (declaration_of part) []) (last_part rest part part_is ends))
+    (part : List ℕ) (all : List SheetDecl) → part ≡ part_to 0 rest → behind_part 0 rest ≡ [] → all ≡ done ++ with_found (declaration_of_part part) [] → AreDeclarations block all
+block_ends block done rest so_far part all part_is ends is = subst (λ z. AreDeclarations block z) (sym is) (so_far (with_found (declaration_of_part part) []) (last_part rest part part_is ends))
 
 -- the rule sets of a text continue those that are done
 pub next_statement : (text : List ℕ) (done : List RuleValue) (rest behind_it : List ℕ) → ((rules : List RuleValue) → AreStatements rest rules → AreStatements text (done ++ rules)) →

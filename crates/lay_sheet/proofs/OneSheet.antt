@@ -13,7 +13,7 @@ use Rattle.lay_sheet.specs.Lists.{with_found, preceded}
 use Rattle.lay_sheet.specs.Pieces.{is_other, block_to, behind_block, behind_at_rule, part_to, behind_part}
 use Rattle.lay_sheet.specs.PlainText.{plain_text}
 use Rattle.lay_sheet.specs.SelectorTexts.{AreSteps, AreSelectors, no_step, last_step, more_steps, no_selector, last_selector, more_selectors, joint_of, behind_joint, behind_simple}
-use Rattle.lay_sheet.specs.Declarations.{AreDeclarations, declaration_of, no_part, one_part}
+use Rattle.lay_sheet.specs.Declarations.{AreDeclarations, declaration_of_part, no_part, one_part}
 use Rattle.lay_sheet.specs.Sheets.{RuleValue, IsRuleSet, AreStatements, kept, ignored, end, space, at_rule, unopened, rule_set}
 use Rattle.lay_sheet.specs.Laws.{OneSheet}
 
@@ -62,7 +62,7 @@ one_list text x y (more_selectors t-1 r found-1 a some-1 rest-1) (more_selectors
 one_block : (text : List ℕ) (x y : List SheetDecl) → AreDeclarations text x → AreDeclarations text y → x ≡ y
 one_block text x y no_part no_part = refl
 one_block text x y (one_part b-1 bs-1 xs p) (one_part b-2 bs-2 ys q) =
-    ap (with_found (declaration_of (part_to 0 (b-1 ∷ bs-1)))) (one_block (behind_part 0 (b-1 ∷ bs-1)) xs ys p q)
+    ap (with_found (declaration_of_part (part_to 0 (b-1 ∷ bs-1)))) (one_block (behind_part 0 (b-1 ∷ bs-1)) xs ys p q)
 
 one_rule : (prelude block : List ℕ) (x y : Option RuleValue) → IsRuleSet prelude block x → IsRuleSet prelude block y → x ≡ y
 one_rule prelude block x y (kept p-1 b-1 ss xs a c) (kept p-2 b-2 ts ys b d) =

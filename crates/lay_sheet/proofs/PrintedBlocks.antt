@@ -15,7 +15,7 @@ use Rattle.lay_values.specs.Reading.{without_end, trimmed, value_of, declared_fo
 use Rattle.lay_sheet.specs.declared.declaration.SheetDecl.{SheetDecl}
 use Rattle.lay_sheet.specs.Lists.{with_found}
 use Rattle.lay_sheet.specs.Pieces.{is_other, part_to, behind_part}
-use Rattle.lay_sheet.specs.Declarations.{before_exclamation, before_important, named, weighed, declared, declaration_of, AreDeclarations, no_part, one_part}
+use Rattle.lay_sheet.specs.Declarations.{before_exclamation, before_important, declaration_named, weighed, declared, declaration_of_part, AreDeclarations, no_part, one_part}
 use Rattle.lay_sheet.specs.Printing.{PrintedDecl, weight_text, declaration_text, parted_text, is_of_property, is_of_value, begins_solid, IsValueText, SpellsDecl}
 use Rattle.lay_sheet.proofs.Trimming.{all_on, all_take, take_front, drop_front_of, solid_on, solid_end, end_dropped, trimmed_is, trimmed_same, trimmed_solid}
 use Rattle.lay_sheet.proofs.PrintedBytes.{avoids, all_other, is_clean, property_clean, value_clean, space_clean, property_solid, property_utf8, value_utf8, spaces_of_value}
@@ -43,7 +43,7 @@ part_whole (b ∷ bs) h =
     rw (opening, closing, semicolon) (ap (λ z. b ∷ z) was.0, was.1)
 
 part_first : (text : List ℕ) (decls : List SheetDecl) → 0 < length text → AreDeclarations (behind_part 0 text) decls →
-    AreDeclarations text (with_found (declaration_of (part_to 0 text)) decls)
+    AreDeclarations text (with_found (declaration_of_part (part_to 0 text)) decls)
 part_first [] decls some rest = absurd (omega (arith, some))
 part_first (b ∷ bs) decls some rest = one_part b bs decls rest
 
@@ -103,9 +103,9 @@ module _ (gap : List ℕ) (white : list_all is_ascii_whitespace gap ≡ true) wh
       ∙ marked (value ++ gap)
 
   named_as : (important : Bool) (name value : List ℕ) (d : SheetDecl) → is_utf8 name ≡ true → is_utf8 value ≡ true →
-      read_declaration (map to_ascii_lowercase name) value ≡ Ok d.decl → important ≡ d.important → named important name value ≡ Some d
+      read_declaration (map to_ascii_lowercase name) value ≡ Ok d.decl → important ≡ d.important → declaration_named important name value ≡ Some d
   named_as important name value d n v says weight =
-      let kept : named important name value ≡ option_map (λ z. record { decl = z; important = important }) (result_ok (read_declaration (map to_ascii_lowercase name) value)) =
+      let kept : declaration_named important name value ≡ option_map (λ z. record { decl = z; important = important }) (result_ok (read_declaration (map to_ascii_lowercase name) value)) =
       rw (n, v) refl in
       kept ∙ ap (λ z. option_map (λ y. record { decl = y; important = important }) (result_ok z)) says
       ∙ ap (λ z. Some (record { decl = d.decl; important = z })) weight
@@ -149,7 +149,7 @@ module _ (gap : List ℕ) (white : list_all is_ascii_whitespace gap ≡ true) wh
       (all_on is_clean p.value (weight_text gap p.important) (value_clean p.value s.value.bytes) (weight_clean p.important)))
 
   declaration_is : (front : List ℕ) (p : PrintedDecl) (d : SheetDecl) → list_all is_ascii_whitespace front ≡ true → SpellsDecl p d →
-      declaration_of (front ++ (declaration_text gap p ++ gap)) ≡ Some d
+      declaration_of_part (front ++ (declaration_text gap p ++ gap)) ≡ Some d
   declaration_is front p d h s =
       let name = front ++ (p.name ++ gap) in
       let value = p.value ++ weight_text gap p.important in
@@ -161,7 +161,7 @@ module _ (gap : List ℕ) (white : list_all is_ascii_whitespace gap ≡ true) wh
       let parts = cut 58 name rest others in
       let some : (length (58 ∷ rest) == 0) ≡ false = ne_eqb (length (58 ∷ rest)) 0 (λ q. omega (arith, q)) in
       let there : declared p.name (58 ∷ rest) ≡ weighed p.name (trimmed rest) (before_important (trimmed rest)) = rw some refl in
-      ap declaration_of text
+      ap declaration_of_part text
       ∙ ap (λ z. declared (trimmed z) (behind (is_other 58) (name ++ 58 ∷ rest))) parts.0
       ∙ ap (declared (trimmed name)) parts.1
       ∙ ap (λ z. declared z (58 ∷ rest)) (trimmed_solid front p.name gap h white (property_solid p.name s.name))
@@ -175,8 +175,8 @@ module _ (gap : List ℕ) (white : list_all is_ascii_whitespace gap ≡ true) wh
   space_says_nothing (b ∷ bs) h =
       let whole = part_whole (b ∷ bs) (space_clean (b ∷ bs) h) in
       let plain = uncut 58 (b ∷ bs) (all_other is_ascii_whitespace 58 refl (b ∷ bs) h) in
-      let none : declaration_of (part_to 0 (b ∷ bs)) ≡ None =
-      ap declaration_of whole.0 ∙ ap (declared (trimmed (leading (is_other 58) (b ∷ bs)))) plain.1 in
+      let none : declaration_of_part (part_to 0 (b ∷ bs)) ≡ None =
+      ap declaration_of_part whole.0 ∙ ap (declared (trimmed (leading (is_other 58) (b ∷ bs)))) plain.1 in
       subst (λ z. AreDeclarations (b ∷ bs) (with_found z [])) none
       (part_first (b ∷ bs) [] (omega arith) (subst (λ z. AreDeclarations z []) (sym whole.1) no_part))
 
@@ -201,7 +201,7 @@ module _ (gap : List ℕ) (white : list_all is_ascii_whitespace gap ≡ true) wh
   declarations_are front (p ∷ []) (d ∷ []) h all =
       let text = front ++ (declaration_text gap p ++ gap) in
       let whole = part_whole text (padded_clean gap white front (declaration_text gap p) h (declaration_clean p d all.0)) in
-      subst (λ z. AreDeclarations text (with_found z [])) (ap declaration_of whole.0 ∙ declaration_is front p d h all.0)
+      subst (λ z. AreDeclarations text (with_found z [])) (ap declaration_of_part whole.0 ∙ declaration_is front p d h all.0)
       (part_first text [] (padded_some front p) (subst (λ z. AreDeclarations z []) (sym whole.1) no_part))
   declarations_are front (p ∷ []) (d ∷ e ∷ ds) h all = absurd all.1
   declarations_are front (p ∷ q ∷ ps) (d ∷ []) h all = absurd all.1
@@ -211,7 +211,7 @@ module _ (gap : List ℕ) (white : list_all is_ascii_whitespace gap ≡ true) wh
       let rest = gap ++ (later ++ gap) in
       let parts = part_cut first rest (padded_clean gap white front (declaration_text gap p) h (declaration_clean p d all.0)) in
       subst (λ z. AreDeclarations z (d ∷ e ∷ ds)) (sym (first_part gap white front (declaration_text gap p) 59 later))
-      (subst (λ z. AreDeclarations (first ++ 59 ∷ rest) (with_found z (e ∷ ds))) (ap declaration_of parts.0 ∙ declaration_is front p d h all.0)
+      (subst (λ z. AreDeclarations (first ++ 59 ∷ rest) (with_found z (e ∷ ds))) (ap declaration_of_part parts.0 ∙ declaration_is front p d h all.0)
       (part_first (first ++ 59 ∷ rest) (e ∷ ds) (signed_some first 59 rest)
       (subst (λ z. AreDeclarations z (e ∷ ds)) (sym parts.1) (declarations_are gap (q ∷ ps) (e ∷ ds) white all.1))))
 

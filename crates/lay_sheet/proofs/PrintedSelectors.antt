@@ -12,7 +12,7 @@ use Rattle.lay_sheet.specs.declared.selector.Joint.{Joint}
 use Rattle.lay_sheet.specs.declared.selector.Joint.TheVariants.{Same, Descendant, Child, Adjacent}
 use Rattle.lay_sheet.specs.declared.selector.Step.{Step}
 use Rattle.lay_sheet.specs.Pieces.{is_other}
-use Rattle.lay_sheet.specs.SelectorTexts.{is_name_start, is_name_part, begins_name, name_of, simple_of, behind_simple, begins_compound, begins_with_space, joined, joint_of, behind_sign, behind_joint, AreSteps, IsSelectorText, AreSelectors, last_step, more_steps, last_selector, more_selectors}
+use Rattle.lay_sheet.specs.SelectorTexts.{is_name_start, is_name_part, begins_name, name_at_front, simple_of, behind_simple, begins_compound, begins_with_space, joined, joint_of, behind_sign, behind_joint, AreSteps, IsSelectorText, AreSelectors, last_step, more_steps, last_selector, more_selectors}
 use Rattle.lay_sheet.specs.Printing.{simple_text, joint_text, joined_text, selector_text, parted_text, is_of_name, IsName, IsNamed, begins_only, goes_on, IsStep, IsSelector, begins_solid}
 use Rattle.lay_sheet.proofs.Trimming.{all_on, solid_end, solid_from, front_dropped, trimmed_is, is_solid, all_solid_end}
 use Rattle.lay_sheet.proofs.PrintedBytes.{avoids, all_other, is_clean, name_clean, space_clean, solid_kind, name_solid, space_is_no_part}
@@ -99,7 +99,7 @@ name_front (b ∷ bs) rest h s =
     let was = name_front bs rest parts.1 s in
     rw part (ap (λ z. b ∷ z) was.0, was.1)
 
-name_is : (name rest : List ℕ) → IsName name → stops rest ≡ true → name_of (name ++ rest) ≡ Some name
+name_is : (name rest : List ℕ) → IsName name → stops rest ≡ true → name_at_front (name ++ rest) ≡ Some name
 name_is name rest n s = let begins = begins_on name rest n in rw begins (ap Some (name_front name rest n.bytes s).0)
 
 -- the first byte of a simple selector

@@ -16,7 +16,7 @@ use Rattle.lay_sheet.specs.Lists.{with_found, preceded}
 use Rattle.lay_sheet.specs.Pieces.{is_other, block_to, behind_block, behind_at_rule, part_to, behind_part}
 use Rattle.lay_sheet.specs.PlainText.{plain_text}
 use Rattle.lay_sheet.specs.SelectorTexts.{AreSteps, AreSelectors, IsSelectorText, no_step, last_step, more_steps, no_selector, last_selector, more_selectors, simple_of, joint_of, behind_joint, behind_sign, behind_simple, is_name_part}
-use Rattle.lay_sheet.specs.Declarations.{AreDeclarations, declaration_of, no_part, one_part}
+use Rattle.lay_sheet.specs.Declarations.{AreDeclarations, declaration_of_part, no_part, one_part}
 use Rattle.lay_sheet.specs.Sheets.{RuleValue, IsRuleSet, AreStatements, kept, ignored, end, space, at_rule, unopened, rule_set}
 use Rattle.lay_sheet.specs.Laws.{SomeSheet}
 
@@ -160,7 +160,7 @@ some_declarations zero (b ∷ bs) h = absurd (omega (arith, h))
 some_declarations (suc n) (b ∷ bs) h =
     let s = part_shorter 0 b bs in
     let rest = some_declarations n (behind_part 0 (b ∷ bs)) (omega (arith, h, s)) in
-    (with_found (declaration_of (part_to 0 (b ∷ bs))) rest.0, one_part b bs rest.0 rest.1)
+    (with_found (declaration_of_part (part_to 0 (b ∷ bs))) rest.0, one_part b bs rest.0 rest.1)
 
 some_rule_set : (prelude block : List ℕ) → (rule : Option RuleValue) × IsRuleSet prelude block rule
 some_rule_set prelude block = of_selectors (some_selectors (length prelude) prelude (omega arith)) (some_declarations (length block) block (omega arith))

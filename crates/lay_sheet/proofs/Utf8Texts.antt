@@ -7,7 +7,7 @@ use Rattle.std.proofs.lemmas.Str.{is_utf8-from_IsUtf8, IsUtf8-from_is_utf8}
 use Rattle.std.specs.Prelude.{if◌then◌else◌}
 use Rattle.lay_style.specs.Values.{Declaration}
 use Rattle.lay_values.specs.Reading.{read_declaration}
-use Rattle.lay_sheet.specs.Declarations.{text_of, named}
+use Rattle.lay_sheet.specs.Declarations.{text_of, declaration_named}
 
 pub text_is : (bytes : List ℕ) → IsUtf8 bytes → text_of bytes ≡ Some bytes
 text_is bytes h = rw (is_utf8-from_IsUtf8 bytes h) refl
@@ -20,6 +20,6 @@ pub text_is_none : (bytes : List ℕ) → (IsUtf8 bytes → ⊥) → text_of byt
 text_is_none bytes h = picked bytes (is_utf8 bytes) (λ e. h (IsUtf8-from_is_utf8 bytes e))
 
 -- what is read of a name without capitals and a value, both UTF-8
-pub named_is : (important : Bool) (name value : List ℕ) → map to_ascii_lowercase name ≡ name → (d : Declaration) → Some d ≡ result_ok (read_declaration name value) → is_utf8 name ≡ true → is_utf8 value ≡ true → Some (record { decl = d; important = important }) ≡ named important name value
+pub named_is : (important : Bool) (name value : List ℕ) → map to_ascii_lowercase name ≡ name → (d : Declaration) → Some d ≡ result_ok (read_declaration name value) → is_utf8 name ≡ true → is_utf8 value ≡ true → Some (record { decl = d; important = important }) ≡ declaration_named important name value
 named_is important name value small d is name_utf8 value_utf8 =
     rw (name_utf8, value_utf8, small, ← is) refl

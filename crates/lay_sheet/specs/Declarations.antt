@@ -34,22 +34,22 @@ named_by important (Some name) (Some value) =
     option_map (λ d. record { decl = d; important = important }) (result_ok (read_declaration (map to_ascii_lowercase name) value))
 
 -- the declaration of a name and a value
-abbrev pub named : Bool → List ℕ → List ℕ → Option SheetDecl
-named important name value = named_by important (text_of name) (text_of value)
+abbrev pub declaration_named : Bool → List ℕ → List ℕ → Option SheetDecl
+declaration_named important name value = named_by important (text_of name) (text_of value)
 
 abbrev pub weighed : List ℕ → List ℕ → Option (List ℕ) → Option SheetDecl
-weighed name value None = named false name value
-weighed name value (Some front) = named true name front
+weighed name value None = declaration_named false name value
+weighed name value (Some front) = declaration_named true name front
 
 abbrev pub declared : List ℕ → List ℕ → Option SheetDecl
 declared name rest = if length rest == 0 then None else weighed name (trimmed (drop 1 rest)) (before_important (trimmed (drop 1 rest)))
 
 -- the declaration that a part is
-abbrev pub declaration_of : List ℕ → Option SheetDecl
-declaration_of part = declared (trimmed (leading (is_other 58) part)) (behind (is_other 58) part)
+abbrev pub declaration_of_part : List ℕ → Option SheetDecl
+declaration_of_part part = declared (trimmed (leading (is_other 58) part)) (behind (is_other 58) part)
 
 -- the declarations of a block, in its order
 pub data AreDeclarations : List ℕ → List SheetDecl → Type 0 where
   no_part : AreDeclarations [] []
   one_part : (b : ℕ) (bs : List ℕ) (decls : List SheetDecl) → AreDeclarations (behind_part 0 (b ∷ bs)) decls →
-      AreDeclarations (b ∷ bs) (with_found (declaration_of (part_to 0 (b ∷ bs))) decls)
+      AreDeclarations (b ∷ bs) (with_found (declaration_of_part (part_to 0 (b ∷ bs))) decls)

@@ -49,21 +49,21 @@ OpenCommentEnds = (inner : List ℕ) → has_comment_end inner ≡ false →
     plain_text (47 ∷ 42 ∷ inner) ≡ plain_text (47 ∷ 42 ∷ inner ++ 42 ∷ 47 ∷ [])
 
 -- where a text ends: outside of strings, comments and escapes, or in one
-abbrev pub place_after : Place → List ℕ → Place
-place_after place [] = place
-place_after place (b ∷ bs) = place_after (place_behind place b bs) bs
+abbrev pub place_after_text : Place → List ℕ → Place
+place_after_text place [] = place
+place_after_text place (b ∷ bs) = place_after_text (place_behind place b bs) bs
 
 -- how many braces are open at the end of what is seen of a text, with so many before it; one that closes nothing doesn't count
-abbrev pub open_after : ℕ → List ℕ → ℕ
-open_after depth [] = depth
-open_after depth (b ∷ bs) =
-    if b == 123 then open_after (depth + 1) bs
-    else (if b == 125 then open_after (depth - 1) bs else open_after depth bs)
+abbrev pub depth_after : ℕ → List ℕ → ℕ
+depth_after depth [] = depth
+depth_after depth (b ∷ bs) =
+    if b == 123 then depth_after (depth + 1) bs
+    else (if b == 125 then depth_after (depth - 1) bs else depth_after depth bs)
 
 -- a text whose last statement lacks its `}`
 pub record LacksBrace (text : List ℕ) : Type 0 where
-  pub outside : place_after Outside text ≡ Outside
-  pub one_open : open_after 0 (plain_text text) ≡ 1
+  pub outside : place_after_text Outside text ≡ Outside
+  pub one_open : depth_after 0 (plain_text text) ≡ 1
 
 -- such a text and the same with its `}` are one sheet (4.2)
 abbrev pub OpenBlockEnds : Type 0
@@ -81,7 +81,7 @@ ends_at_rule b = (b == 59) || (b == 123)
 
 -- a statement that begins with `@` and has no block ends with its first semicolon; what stands behind it is a sheet as it is alone (4.1.5)
 abbrev pub AtRuleSaysNothing : Type 0
-AtRuleSaysNothing = (inner rest : List ℕ) (rules : List RuleValue) → place_after Outside inner ≡ Outside →
+AtRuleSaysNothing = (inner rest : List ℕ) (rules : List RuleValue) → place_after_text Outside inner ≡ Outside →
     list_any ends_at_rule (plain_text inner) ≡ false → IsSheet rest rules → IsSheet (64 ∷ inner ++ 59 ∷ rest) rules
 
 -- a printed sheet reads as itself: as the rule sets that it spells, in their order, whatever white space stands where the grammar lets

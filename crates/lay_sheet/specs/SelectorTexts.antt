@@ -32,8 +32,8 @@ begins_name [] = false
 begins_name (b ∷ bs) = if b == 45 then begins_plain_name bs else is_name_start b
 
 -- the name that a text begins with
-abbrev pub name_of : List ℕ → Option (List ℕ)
-name_of text = if begins_name text then Some (leading is_name_part text) else None
+abbrev pub name_at_front : List ℕ → Option (List ℕ)
+name_at_front text = if begins_name text then Some (leading is_name_part text) else None
 
 -- whether a tag or `*` may stand behind the joint
 abbrev pub begins_compound : Joint → Bool
@@ -46,9 +46,9 @@ begins_compound Adjacent = true
 abbrev pub simple_of : Joint → List ℕ → Option Simple
 simple_of joint [] = None
 simple_of joint (b ∷ bs) =
-    if b == 46 then option_map Class (name_of bs)
-    else (if b == 35 then option_map Label (name_of bs)
-    else (if begins_compound joint then (if b == 42 then Some Universal else option_map Tag (name_of (b ∷ bs)))
+    if b == 46 then option_map Class (name_at_front bs)
+    else (if b == 35 then option_map Label (name_at_front bs)
+    else (if begins_compound joint then (if b == 42 then Some Universal else option_map Tag (name_at_front (b ∷ bs)))
     else None))
 
 abbrev pub behind_simple : List ℕ → List ℕ

@@ -6,7 +6,7 @@ ghost use Rattle.std.specs.Result.{result_ok};
 ghost use Rattle.lay_values.specs.Reading.{without_end, read_declaration};
 ghost use Rattle.lay_sheet.specs.Lists.{with_found};
 ghost use Rattle.lay_sheet.specs.Declarations.{before_exclamation, before_important, text_of, named_by};
-ghost use Rattle.lay_sheet.specs.Declarations.{named, weighed, declared, declaration_of, AreDeclarations};
+ghost use Rattle.lay_sheet.specs.Declarations.{declaration_named, weighed, declared, declaration_of_part, AreDeclarations};
 ghost use Rattle.lay_sheet.specs.Pieces.{block_to, behind_block};
 
 use crate::pieces::{behind_first, split_before, split_part};
@@ -91,7 +91,7 @@ fn named_in_any_case(
     name: &[u8],
     value: &[u8],
 ) -> Result<Option<SheetDecl>, NoMemory>
-    ensures { IfOk result (λ d. d ≡ named important name.now value.now) }
+    ensures { IfOk result (λ d. d ≡ declaration_named important name.now value.now) }
 {
     let Some(name) = text_of(name) else {
         return Ok(None);
@@ -112,7 +112,7 @@ fn named(
     name: &[u8],
     value: &[u8],
 ) -> Result<Option<SheetDecl>, NoMemory>
-    ensures { IfOk result (λ d. d ≡ named important name.now value.now) }
+    ensures { IfOk result (λ d. d ≡ declaration_named important name.now value.now) }
 {
     // Most names have no capital, and what is read then is UTF-8.
     if let Some(decl) = read_bytes(name, value) {
@@ -145,7 +145,7 @@ fn declared(alloc: Global, name: &[u8], rest: &[u8]) -> Result<Option<SheetDecl>
 
 /// The declaration that a part of a block is.
 fn declaration_of(alloc: Global, part: &[u8]) -> Result<Option<SheetDecl>, NoMemory>
-    ensures { IfOk result (λ d. d ≡ declaration_of part.now) }
+    ensures { IfOk result (λ d. d ≡ declaration_of_part part.now) }
 {
     let (name, rest) = split_before(b':', part);
     declared(alloc, trimmed(name), rest)
@@ -162,7 +162,7 @@ fn push_found(decls: &mut Vec<SheetDecl>, found: Option<SheetDecl>) -> Result<()
 
 /// Adds the declaration that a part of a block is, if it is one.
 fn push_part(alloc: Global, decls: &mut Vec<SheetDecl>, part: &[u8]) -> Result<(), NoMemory>
-    ensures { OnOk result (decls.new.items ≡ decls.old.items ++ with_found (declaration_of part.now) []) }
+    ensures { OnOk result (decls.new.items ≡ decls.old.items ++ with_found (declaration_of_part part.now) []) }
 {
     let found = declaration_of(alloc, part)?;
     push_found(decls, found)

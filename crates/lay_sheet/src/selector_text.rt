@@ -3,7 +3,7 @@
 ghost use Rattle.std.specs.Prelude.{◌≡◌, ◌≤◌, ◌<◌, IfOk, length, Some, None, option_map};
 ghost use Rattle.lay_values.specs.Numbers.{leading, behind};
 ghost use Rattle.lay_values.specs.Reading.{without_front};
-ghost use Rattle.lay_sheet.specs.SelectorTexts.{is_name_start, is_name_part, begins_plain_name, begins_name, name_of};
+ghost use Rattle.lay_sheet.specs.SelectorTexts.{is_name_start, is_name_part, begins_plain_name, begins_name, name_at_front};
 ghost use Rattle.lay_sheet.specs.SelectorTexts.{begins_compound, simple_of, behind_simple, begins_with_space, joint_of};
 ghost use Rattle.lay_sheet.specs.SelectorTexts.{behind_sign, behind_joint, AreSteps, IsSelectorText, AreSelectors};
 
@@ -60,7 +60,7 @@ fn split_name(text: &[u8]) -> (&[u8], &[u8])
 
 /// The name that a text begins with.
 fn name_of(alloc: Global, text: &[u8]) -> Result<Option<Name>, NoMemory>
-    ensures { IfOk result (λ n. n ≡ name_of text.now) }
+    ensures { IfOk result (λ n. n ≡ name_at_front text.now) }
 {
     if !begins_name(text) {
         return Ok(None);
@@ -75,7 +75,7 @@ fn begins_compound(joint: Joint) -> bool
 }
 
 fn class_of(alloc: Global, text: &[u8]) -> Result<Option<Simple>, NoMemory>
-    ensures { IfOk result (λ s. s ≡ option_map Simple.Class (name_of text.now)) }
+    ensures { IfOk result (λ s. s ≡ option_map Simple.Class (name_at_front text.now)) }
 {
     match name_of(alloc, text)? {
         Some(name) => Ok(Some(Simple::Class(name))),
@@ -84,7 +84,7 @@ fn class_of(alloc: Global, text: &[u8]) -> Result<Option<Simple>, NoMemory>
 }
 
 fn label_of(alloc: Global, text: &[u8]) -> Result<Option<Simple>, NoMemory>
-    ensures { IfOk result (λ s. s ≡ option_map Simple.Label (name_of text.now)) }
+    ensures { IfOk result (λ s. s ≡ option_map Simple.Label (name_at_front text.now)) }
 {
     match name_of(alloc, text)? {
         Some(name) => Ok(Some(Simple::Label(name))),
@@ -93,7 +93,7 @@ fn label_of(alloc: Global, text: &[u8]) -> Result<Option<Simple>, NoMemory>
 }
 
 fn tag_of(alloc: Global, text: &[u8]) -> Result<Option<Simple>, NoMemory>
-    ensures { IfOk result (λ s. s ≡ option_map Simple.Tag (name_of text.now)) }
+    ensures { IfOk result (λ s. s ≡ option_map Simple.Tag (name_at_front text.now)) }
 {
     match name_of(alloc, text)? {
         Some(name) => Ok(Some(Simple::Tag(name))),

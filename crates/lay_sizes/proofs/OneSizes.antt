@@ -14,7 +14,7 @@ use Rattle.lay_sizes.specs.declared.sizing.WidthRule.TheVariants.{Fills, Inline,
 use Rattle.lay_sizes.specs.declared.sizing.ContainingBlock.{ContainingBlock}
 use Rattle.lay_sizes.specs.UsedLengths.{block_of}
 use Rattle.lay_sizes.specs.ReplacedBoxes.{replaced_size_of}
-use Rattle.lay_sizes.specs.BoxSizes.{IsUsedWidth, inline_widths, widths_beside, with_width}
+use Rattle.lay_sizes.specs.BoxSizes.{IsUsedWidth, inline_used_widths, widths_beside, with_width}
 use Rattle.lay_sizes.specs.Laws.{OneBoxSizes}
 
 abbrev widths_of : ℤ → ℤ → ℤ → BlockOut
@@ -30,7 +30,7 @@ held_same used x y p q =
 
 one_used_width : (containing : ContainingBlock) (rule : WidthRule) (s : Style) (x y : BlockOut) → IsUsedWidth containing rule s x → IsUsedWidth containing rule s y → x ≡ y
 one_used_width containing Fills s x y p q = one_block_width_lem (block_of containing.width s) x y p q
-one_used_width containing Inline s x y p q = held_same (inline_widths (block_of containing.width s)) x y p q
+one_used_width containing Inline s x y p q = held_same (inline_used_widths (block_of containing.width s)) x y p q
 one_used_width containing (ShrinksToFit preferred_minimum preferred) s x y p q =
     one_float_width_lem (block_of containing.width s) preferred_minimum preferred x y p q
 one_used_width containing (ReplacedBlock natural) s x y p q =

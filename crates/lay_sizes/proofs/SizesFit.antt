@@ -22,7 +22,7 @@ use Rattle.lay_sizes.specs.declared.sizing.ContainingBlock.{ContainingBlock}
 use Rattle.lay_sizes.specs.declared.replaced.NaturalSize.{NaturalSize}
 use Rattle.lay_sizes.specs.ReplacedBoxes.{replaced_of, replaced_size_of}
 use Rattle.lay_sizes.specs.UsedLengths.{used_size, used_vertical_margin, used_height, used_min_height, edge_of, block_of}
-use Rattle.lay_sizes.specs.BoxSizes.{IsUsedWidth, height_of, inline_widths, min_height_of, natural_of, widths_beside}
+use Rattle.lay_sizes.specs.BoxSizes.{IsUsedWidth, height_of, inline_used_widths, min_height_of, natural_of, widths_beside}
 use Rattle.lay_sizes.specs.SizeBounds.{IsInset, IsUsedSizeOrAuto}
 use Rattle.lay_sizes.specs.Laws.{SizesFit}
 
@@ -57,7 +57,7 @@ held_fit used out held = record {
 
 widths_fit : (containing : ContainingBlock) (rule : WidthRule) (s : Style) (out : BlockOut) → IsUsedWidth containing rule s out → WidthsFit out
 widths_fit containing Fills s out is = held_fit is.used out is.held
-widths_fit containing Inline s out is = held_fit (inline_widths (block_of containing.width s)) out is
+widths_fit containing Inline s out is = held_fit (inline_used_widths (block_of containing.width s)) out is
 widths_fit containing (ShrinksToFit preferred_minimum preferred) s out is = held_fit is.used out is.held
 widths_fit containing (ReplacedBlock natural) s out is = held_fit is.used out is.held
 widths_fit containing (Replaced natural) s out is =

@@ -27,8 +27,8 @@ widths_beside b width = record { margin_left = (or_zero b.margin_left).0; width 
 
 -- 10.3.1, of an inline box: "The 'width' property does not apply. A computed value of 'auto' for 'margin-left' or
 -- 'margin-right' becomes a used value of '0'." How wide it is, is said by its lines.
-abbrev pub inline_widths : BlockIn → UsedWidths
-inline_widths b = widths_beside b (pos 0)
+abbrev pub inline_used_widths : BlockIn → UsedWidths
+inline_used_widths b = widths_beside b (pos 0)
 
 -- the same block, with this width given and no bounds
 abbrev pub with_width : BlockIn → Length → BlockIn
@@ -50,7 +50,7 @@ with_width b width = record {
 -- floats, auto ones become 0 (10.3.2, 10.3.6).
 abbrev pub IsUsedWidth : ContainingBlock → WidthRule → Style → BlockOut → Type 0
 IsUsedWidth containing Fills s out = IsUsedBlock (block_of containing.width s) out
-IsUsedWidth containing Inline s out = IsHeld (inline_widths (block_of containing.width s)) out
+IsUsedWidth containing Inline s out = IsHeld (inline_used_widths (block_of containing.width s)) out
 IsUsedWidth containing (ShrinksToFit preferred_minimum preferred) s out =
     IsUsedFloat (block_of containing.width s) preferred_minimum preferred out
 IsUsedWidth containing (ReplacedBlock natural) s out =

@@ -8,8 +8,8 @@ use Rattle.lay_widths.specs.declared.widths.BlockOut.{BlockOut}
 use Rattle.lay_sizes.specs.declared.sizing.BoxSizes.{BoxSizes}
 use Rattle.lay_sizes.specs.SizeBounds.{SizeFits}
 
-abbrev pub no_widths : BlockOut
-no_widths = record { margin_left = no_length; width = no_length; margin_right = no_length }
+abbrev pub no_block_widths : BlockOut
+no_block_widths = record { margin_left = no_length; width = no_length; margin_right = no_length }
 
 abbrev pub no_edges : Sides
 no_edges = record { top = no_length; right = no_length; bottom = no_length; left = no_length }
@@ -17,7 +17,7 @@ no_edges = record { top = no_length; right = no_length; bottom = no_length; left
 abbrev pub no_sizes : BoxSizes
 no_sizes = record {
   containing = no_length;
-  widths = no_widths;
+  widths = no_block_widths;
   edges = no_edges;
   margin_top = no_length;
   margin_bottom = no_length;

@@ -13,7 +13,7 @@ use Rattle.lay_space.specs.declared.breaks.Entry.TheVariants.{Content, Break}
 use Rattle.lay_space.specs.declared.segment.Segment.{Segment}
 use Rattle.lay_space.specs.Tokens.{tokens_of, without_leading_spaces}
 use Rattle.lay_space.specs.Breaks.{entries_of}
-use Rattle.lay_space.specs.Segments.{part_of, cluster_bytes, joined, placed, text_of, last_segment, cut}
+use Rattle.lay_space.specs.Segments.{bytes_between, cluster_bytes, joined, placed, text_of, last_segment, cut}
 use Rattle.lay_space.specs.AnchorLaws.{is_anchor, without_anchors, segment_without_anchors, has_any, AnchorsMoveNoBreak}
 use Rattle.lay_space.proofs.AnchorBreaks.{moved, kept, kept_entries, entries_kept}
 use Rattle.lay_space.proofs.AnchorTokens.{place, bytes_kept, tokens_kept, leading_kept, leading_ends, tokens_end}
@@ -29,7 +29,7 @@ moved_append items [] b = refl
 moved_append items (c ∷ a) b = ap (λ cs. moved (place items) c ∷ cs) (moved_append items a b)
 
 cluster_kept : (items : List Item) (c : Cluster) → cluster_bytes (without_anchors items) (moved (place items) c) ≡ cluster_bytes items c
-cluster_kept items c = ap (λ b. part_of b c.from c.to) (bytes_kept items c.item)
+cluster_kept items c = ap (λ b. bytes_between b c.from c.to) (bytes_kept items c.item)
 
 joined_kept : (items : List Item) (cs : List Cluster) → joined (without_anchors items) (moved_all items cs) ≡ joined items cs
 joined_kept items [] = refl

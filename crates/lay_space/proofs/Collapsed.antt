@@ -4,7 +4,7 @@ use Rattle.std.proofs.lemmas.Bool.{ne_eqb, eq-eqb, cases_eq}
 use Rattle.lay_space.specs.declared.item.Mode.{Mode}
 use Rattle.lay_space.specs.Modes.{joins_lines}
 use Rattle.lay_space.specs.WhiteSpace.{strip, as_space, squeeze}
-use Rattle.lay_space.specs.Laws.{IsCollapsed, NoSpaceAfterSpace}
+use Rattle.lay_space.specs.Laws.{IsSpaceCollapsed, NoSpaceAfterSpace}
 
 not_tab : (j : Bool) (c : ℕ) → (if c == 9 then 32 else (if j && c == 10 then 32 else c)) ≢ 9
 not_tab j c e =
@@ -20,16 +20,16 @@ not_tab j c e =
       | inr no_ten ↦ other (sym (ap (λ b. if b then 32 else c) (ne_eqb c 10 no_ten)) ∙ is)
     ]
 
-one : (after_space : Bool) (d : ℕ) (ys : List ℕ) → d ≢ 9 → IsCollapsed after_space (squeeze after_space ys) → IsCollapsed (d == 32) (squeeze (d == 32) ys)
-    → IsCollapsed after_space (if after_space && d == 32 then squeeze after_space ys else (d ∷ squeeze (d == 32) ys))
+one : (after_space : Bool) (d : ℕ) (ys : List ℕ) → d ≢ 9 → IsSpaceCollapsed after_space (squeeze after_space ys) → IsSpaceCollapsed (d == 32) (squeeze (d == 32) ys)
+    → IsSpaceCollapsed after_space (if after_space && d == 32 then squeeze after_space ys else (d ∷ squeeze (d == 32) ys))
 one false d ys tab here next = (tab, (λ e. absurd cc), next)
 one true d ys tab here next =
     elim (cases_eq d 32) [
-      | inl space ↦ subst (λ b. IsCollapsed true (if b then squeeze true ys else (d ∷ squeeze (d == 32) ys))) (sym (eq-eqb d 32 space)) here
-      | inr other ↦ subst (λ b. IsCollapsed true (if b then squeeze true ys else (d ∷ squeeze (d == 32) ys))) (sym (ne_eqb d 32 other)) (tab, (λ e. other), next)
+      | inl space ↦ subst (λ b. IsSpaceCollapsed true (if b then squeeze true ys else (d ∷ squeeze (d == 32) ys))) (sym (eq-eqb d 32 space)) here
+      | inr other ↦ subst (λ b. IsSpaceCollapsed true (if b then squeeze true ys else (d ∷ squeeze (d == 32) ys))) (sym (ne_eqb d 32 other)) (tab, (λ e. other), next)
     ]
 
-squeezed : (m : Mode) (after_space : Bool) (cs : List ℕ) → IsCollapsed after_space (squeeze after_space (map (as_space m) cs))
+squeezed : (m : Mode) (after_space : Bool) (cs : List ℕ) → IsSpaceCollapsed after_space (squeeze after_space (map (as_space m) cs))
 squeezed m after_space [] = tt
 squeezed m after_space (c ∷ cs) =
     one after_space (as_space m c) (map (as_space m) cs) (not_tab (joins_lines m) c) (squeezed m after_space cs) (squeezed m (as_space m c == 32) cs)

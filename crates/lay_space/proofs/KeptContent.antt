@@ -7,8 +7,8 @@ use Rattle.lay_space.specs.declared.tokens.Token.{Token}
 use Rattle.lay_space.specs.declared.tokens.Token.TheVariants.{Cluster, TextEnd, Atomic, Start, End, Float, Anchor}
 use Rattle.lay_space.specs.declared.breaks.Entry.{Entry}
 use Rattle.lay_space.specs.declared.breaks.Entry.TheVariants.{Content, Break}
-use Rattle.lay_space.specs.Breaks.{broken, front_break, back_break, break_after, breaks_before, solid_after, is_solid, settled, goes_back, waits, is_start, flushed, entries_of}
-use Rattle.lay_space.specs.Laws.{content_of, is_out_of_flow, floats_pass, BreaksKeepContent}
+use Rattle.lay_space.specs.Breaks.{broken, front_break, back_break, break_after, breaks_before, solid_after, is_solid_token, settled, goes_back, waits, is_start, flushed, entries_of}
+use Rattle.lay_space.specs.Laws.{content_of, is_token_out_of_flow, floats_pass, BreaksKeepContent}
 
 content_append : (a b : List Entry) → content_of (a ++ b) ≡ content_of a ++ content_of b
 content_append [] b = refl
@@ -81,7 +81,7 @@ content_one false (Some f) x es = refl
 pub content_broken : (solid : Bool) (xs : List Token) → content_of (broken solid xs) ≡ xs
 content_broken solid [] = refl
 content_broken solid (x ∷ xs) =
-    let after = solid_after (break_after x xs) ((solid && not (breaks_before x xs)) || is_solid x) in
+    let after = solid_after (break_after x xs) ((solid && not (breaks_before x xs)) || is_solid_token x) in
     content_one (solid && breaks_before x xs) (break_after x xs) x (broken after xs) ∙ ap (λ ys. x ∷ ys) (content_broken after xs)
 
 keeps_all : (p : Token → Bool) (Holds : Bool → Bool → List Entry → Type 0) → Stays p Holds → Grows Holds → ((f : Bool) → Holds f false []) → (xs : List Token)
@@ -93,7 +93,7 @@ none_more : (p : Token → Bool) (held : List Entry) (x : Token) → p x ≡ fal
 none_more p held x fails none = passing_append p held (Content x ∷ []) ∙ ap (λ b. passing p held ++ cond b (x ∷ []) []) fails ∙ append-nil (passing p held) ∙ none
 
 abbrev pub in_flow : Token → Bool
-in_flow x = not (is_out_of_flow x)
+in_flow x = not (is_token_out_of_flow x)
 
 -- the start of an inline box is the first in flow that waits
 abbrev pub WaitsInFlow : Bool → Bool → List Entry → Type 0
@@ -119,9 +119,9 @@ flow_grows (Anchor n) f started held is stays can = λ e. none_more in_flow held
 
 -- behind a break that isn't forced no float waits
 abbrev pub WaitsOut : Bool → Bool → List Entry → Type 0
-WaitsOut f started held = f ≡ false → passing is_out_of_flow held ≡ []
+WaitsOut f started held = f ≡ false → passing is_token_out_of_flow held ≡ []
 
-out_stays : Stays is_out_of_flow WaitsOut
+out_stays : Stays is_token_out_of_flow WaitsOut
 out_stays (Cluster c) f started held is back passes = absurd cc
 out_stays TextEnd f started held is back passes = absurd cc
 out_stays (Atomic n m) f started held is back passes = absurd cc
@@ -132,10 +132,10 @@ out_stays (Anchor n) f started held is back passes = is (not-true f back)
 
 out_grows : Grows WaitsOut
 out_grows (Cluster c) f started held is stays can = absurd cc
-out_grows TextEnd f started held is stays can = λ e. none_more is_out_of_flow held TextEnd refl (is e)
+out_grows TextEnd f started held is stays can = λ e. none_more is_token_out_of_flow held TextEnd refl (is e)
 out_grows (Atomic n m) f started held is stays can = absurd cc
-out_grows (Start n takes) f started held is stays can = λ e. none_more is_out_of_flow held (Start n takes) refl (is e)
-out_grows (End n) f started held is stays can = λ e. none_more is_out_of_flow held (End n) refl (is e)
+out_grows (Start n takes) f started held is stays can = λ e. none_more is_token_out_of_flow held (Start n takes) refl (is e)
+out_grows (End n) f started held is stays can = λ e. none_more is_token_out_of_flow held (End n) refl (is e)
 out_grows (Float n) f started held is stays can = λ e. absurd (both_ways f e (not-false f stays))
 out_grows (Anchor n) f started held is stays can = λ e. absurd (both_ways f e (not-false f stays))
 
@@ -167,6 +167,6 @@ met_grows (Anchor n) f started held is stays can = λ e. absurd (both_ways f e (
 pub breaks_keep_content_lem : BreaksKeepContent
 breaks_keep_content_lem xs = record {
   flow = keeps_all in_flow WaitsInFlow flow_stays flow_grows (λ f e. refl) xs;
-  out_of_flow = keeps_all is_out_of_flow WaitsOut out_stays out_grows (λ f e. refl) xs;
+  out_of_flow = keeps_all is_token_out_of_flow WaitsOut out_stays out_grows (λ f e. refl) xs;
   met = keeps_all is_met WaitsMet met_stays met_grows (λ f e. refl) xs;
 }

@@ -10,7 +10,7 @@ use Rattle.lay_space.specs.declared.item.Item.{Item}
 use Rattle.lay_space.specs.declared.item.Item.TheVariants.{Text, Atomic, Start, End, Float, Anchor}
 use Rattle.lay_space.specs.Modes.{collapses, joins_lines}
 use Rattle.lay_space.specs.WhiteSpace.{is_blank, runs_to_linefeed, strip, as_space, squeeze, left_over, ends_in_space, text_left, space_after, processed}
-use Rattle.lay_space.specs.Laws.{IsCollapsed}
+use Rattle.lay_space.specs.Laws.{IsSpaceCollapsed}
 use Rattle.lay_space.specs.WhiteSpaceLaws.{AreUtf8, words, ends_in_white, with_words, OnlyWhiteSpaceGoes, HasNoLinefeed, ends_in_collapsible, IsCollapsedText, IsCollapsedContent, ContentCollapses}
 use Rattle.lay_space.proofs.Collapsed.{no_space_after_space_lem}
 use Rattle.lay_space.proofs.Words.{Same, left_same, ends_white}
@@ -129,7 +129,7 @@ left_of m a text utf8 c = ap (λ k. chars (if k then encode_utf8_all (left_over 
 
 collapsed_text : (m : Mode) (a : Bool) (text : List ℕ) → IsUtf8 text → IsCollapsedText a m (chars (text_left a m text))
 collapsed_text m a text utf8 = (
-  (λ c. subst (IsCollapsed a) (sym (left_of m a text utf8 c)) (no_space_after_space_lem m false a (chars text))),
+  (λ c. subst (IsSpaceCollapsed a) (sym (left_of m a text utf8 c)) (no_space_after_space_lem m false a (chars text))),
   (λ j. subst HasNoLinefeed (sym (left_of m a text utf8 (joins_collapses m j))) (squeezed_no_linefeed m j a (strip false (chars text)))),
 )
 

@@ -11,7 +11,7 @@ use Rattle.lay_space.specs.declared.breaks.Entry.TheVariants.{Content, Break}
 use Rattle.lay_space.specs.Tokens.{next_place}
 use Rattle.lay_space.specs.Segments.{cluster_bytes, joined, placed, text_of, last_segment, cut}
 use Rattle.lay_space.specs.Laws.{content_of}
-use Rattle.lay_space.specs.SegmentLaws.{apart, by_cluster, all_items}
+use Rattle.lay_space.specs.SegmentLaws.{apart, by_cluster, items_of_segments}
 use Rattle.std.proofs.lemmas.List.{length-append, take_at, drop_at}
 
 -- a cluster as a text of its own
@@ -119,7 +119,7 @@ all_one None c [] one is = (refl, refl, tt)
 all_one None c (e ∷ cs) one is = absurd is
 all_one (Some d) c cs one is = all_more d c cs one.0 one.1 is
 
-all_last : (xs : List Item) → by_cluster (all_items (last_segment xs)) ≡ by_cluster xs
+all_last : (xs : List Item) → by_cluster (items_of_segments (last_segment xs)) ≡ by_cluster xs
 all_last [] = refl
 all_last (x ∷ xs) = ap by_cluster (append-nil (x ∷ xs))
 
@@ -129,11 +129,11 @@ here items last current cs is = by_cluster_append current (text_of items cs) ∙
 
 abbrev pub CutKeeps : List Item → List Entry → Type 0
 CutKeeps items es = (last : Option Cluster) (current : List Item) (cs : List Cluster) → Rows last (content_of es) → AllOf last cs
-    → by_cluster (all_items (cut items current cs es)) ≡ by_cluster current ++ lone_all items cs ++ lones items (content_of es)
+    → by_cluster (items_of_segments (cut items current cs es)) ≡ by_cluster current ++ lone_all items cs ++ lones items (content_of es)
 
 -- an item is put behind the text
 put : (items : List Item) (es : List Entry) (last : Option Cluster) (current : List Item) (cs : List Cluster) (x : Item) → by_cluster (x ∷ []) ≡ x ∷ [] → CutKeeps items es → Rows last (content_of es) → AllOf last cs
-    → by_cluster (all_items (cut items (current ++ text_of items cs ++ x ∷ []) [] es)) ≡ by_cluster current ++ lone_all items cs ++ x ∷ lones items (content_of es)
+    → by_cluster (items_of_segments (cut items (current ++ text_of items cs ++ x ∷ []) [] es)) ≡ by_cluster current ++ lone_all items cs ++ x ∷ lones items (content_of es)
 put items es last current cs x alone rest rows is =
     rest last (current ++ text_of items cs ++ x ∷ []) [] rows tt
     ∙ ap (λ a. a ++ lones items (content_of es))
@@ -145,8 +145,8 @@ pub cut_keeps : (items : List Item) (es : List Entry) → CutKeeps items es
 cut_keeps items [] last current cs rows is =
     all_last (current ++ text_of items cs) ∙ here items last current cs is ∙ sym (append-nil (by_cluster current ++ lone_all items cs))
 cut_keeps items (Break g ∷ es) last current cs rows is =
-    by_cluster_append (current ++ text_of items cs) (all_items (cut items [] [] es))
-    ∙ ap (λ a. a ++ by_cluster (all_items (cut items [] [] es))) (here items last current cs is)
+    by_cluster_append (current ++ text_of items cs) (items_of_segments (cut items [] [] es))
+    ∙ ap (λ a. a ++ by_cluster (items_of_segments (cut items [] [] es))) (here items last current cs is)
     ∙ ap (λ a. by_cluster current ++ lone_all items cs ++ a) (cut_keeps items es last [] [] rows tt)
 cut_keeps items (Content (token.Cluster c) ∷ es) last current cs rows is =
     cut_keeps items es (Some c) current (cs ++ c ∷ []) rows.1 (all_one last c cs rows.0 is)

@@ -12,9 +12,9 @@ use Rattle.lay_space.specs.declared.tokens.Token.{Token}
 use Rattle.lay_space.specs.declared.tokens.Token.TheVariants as token
 use Rattle.lay_space.specs.Tokens.{next_place, kind_of, cluster_tokens, tokens_of, is_collapsible, begins_line, without_leading_spaces}
 use Rattle.lay_space.specs.Breaks.{entries_of}
-use Rattle.lay_space.specs.Segments.{is_boundary, bytes_of, part_of, cluster_bytes, segments_of}
-use Rattle.lay_space.specs.Laws.{content_of, is_out_of_flow}
-use Rattle.lay_space.specs.SegmentLaws.{StandOnBoundaries, AreMeasured, apart, by_cluster, of_tokens, is_float_or_anchor, all_items, SegmentsKeepClusters, TokensHoldClusters}
+use Rattle.lay_space.specs.Segments.{is_boundary, bytes_of, bytes_between, cluster_bytes, segments_of}
+use Rattle.lay_space.specs.Laws.{content_of, is_token_out_of_flow}
+use Rattle.lay_space.specs.SegmentLaws.{StandOnBoundaries, AreTextsMeasured, apart, by_cluster, of_tokens, is_float_or_anchor, items_of_segments, SegmentsKeepClusters, TokensHoldClusters}
 use Rattle.lay_space.proofs.KeptContent.{breaks_keep_content_lem}
 use Rattle.lay_space.proofs.SegmentClusters.{lone, lones, Named, IsOf, Rows, cut_keeps}
 
@@ -81,7 +81,7 @@ leading_rows true last (token.Anchor n ∷ xs) rows = leading_rows true last xs 
 leading_rows false last (token.Anchor n ∷ xs) rows = leading_rows false last xs rows
 
 abbrev pub flow_of : List Token → List Token
-flow_of xs = filter (λ x. not (is_out_of_flow x)) xs
+flow_of xs = filter (λ x. not (is_token_out_of_flow x)) xs
 
 rows_flow : (last : Option Cluster) (xs : List Token) → Rows last xs → Rows last (flow_of xs)
 rows_flow last [] rows = rows
@@ -113,7 +113,7 @@ lones_flow items (token.End n ∷ xs) = ap (λ ys. item.End n ∷ ys) (lones_flo
 lones_flow items (token.Float n ∷ xs) = lones_flow items xs
 lones_flow items (token.Anchor n ∷ xs) = lones_flow items xs
 
-lones_out : (items : List Item) (xs : List Token) → filter is_float_or_anchor (lones items xs) ≡ lones items (filter is_out_of_flow xs)
+lones_out : (items : List Item) (xs : List Token) → filter is_float_or_anchor (lones items xs) ≡ lones items (filter is_token_out_of_flow xs)
 lones_out items [] = refl
 lones_out items (token.Cluster c ∷ xs) = lones_out items xs
 lones_out items (token.TextEnd ∷ xs) = lones_out items xs
@@ -141,7 +141,7 @@ next_boundary : (text : List ℕ) (ws : List ClusterWidth) → StandOnBoundaries
 next_boundary text [] is = ap (λ b. b || (nat_lt (length text) (length text) && (nat_lt (slice_index text (length text)) 128 || nat_lt 191 (slice_index text (length text))))) (eq-eqb (length text) (length text) refl)
 next_boundary text (w ∷ ws) is = is.0
 
-part_whole : (text : List ℕ) (from to : ℕ) → from ≤ to → is_boundary text from ≡ true → is_boundary text to ≡ true → part_of text from to ≡ slice_range text from to
+part_whole : (text : List ℕ) (from to : ℕ) → from ≤ to → is_boundary text from ≡ true → is_boundary text to ≡ true → bytes_between text from to ≡ slice_range text from to
 part_whole text from to up starts ends =
     let all : (not (nat_lt to from) && is_boundary text from && is_boundary text to) ≡ true =
     and_from (not (nat_lt to from) && is_boundary text from) (is_boundary text to)
@@ -152,7 +152,7 @@ clusters_whole : (items : List Item) (k node : ℕ) (m : Mode) (text : List ℕ)
     → Whole items ((cluster_tokens k node m text ws ++ token.TextEnd ∷ []) ++ rest)
 clusters_whole items k node m text [] rest e is whole = whole
 clusters_whole items k node m text (w ∷ ws) rest e is whole = (
-  subst (λ bytes. part_of bytes w.place (next_place text ws) ≡ slice_range bytes w.place (next_place text ws)) (sym e)
+  subst (λ bytes. bytes_between bytes w.place (next_place text ws) ≡ slice_range bytes w.place (next_place text ws)) (sym e)
       (part_whole text w.place (next_place text ws) is.1 is.0 (next_boundary text ws is.2)),
   clusters_whole items k node m text ws rest e is.2 whole,
 )
@@ -176,7 +176,7 @@ from_all items i =
     let place : i + 0 ≡ i = omega arith in
     ap (slice_get items) place
 
-tokens_whole : (items : List Item) (k : ℕ) (xs : List Item) → From items k xs → AreMeasured xs → Whole items (tokens_of k xs)
+tokens_whole : (items : List Item) (k : ℕ) (xs : List Item) → From items k xs → AreTextsMeasured xs → Whole items (tokens_of k xs)
 tokens_whole items k [] is measured = tt
 tokens_whole items k (item.Text node text m widths ∷ xs) is measured =
     clusters_whole items k node m text widths (tokens_of (k + 1) xs) (ap bytes_of (from_first items k (item.Text node text m widths) xs is)) measured.0
@@ -227,7 +227,7 @@ segments_keep_clusters_lem items measured =
     let keeps = breaks_keep_content_lem tokens in
     let content = content_of (entries_of tokens) in
     let rows = rows_of_flow None content (subst (Rows None) (sym keeps.flow) (rows_flow None tokens (leading_rows true None (tokens_of 0 items) (tokens_rows 0 items)))) in
-    let cuts : by_cluster (all_items (segments_of items)) ≡ lones items content = cut_keeps items (entries_of tokens) None [] [] rows tt in
+    let cuts : by_cluster (items_of_segments (segments_of items)) ≡ lones items content = cut_keeps items (entries_of tokens) None [] [] rows tt in
     let whole : lones items tokens ≡ of_tokens items tokens = lones_plain items tokens (leading_whole items true (tokens_of 0 items) (tokens_whole items 0 items (from_all items) measured)) in
     record {
       flow = ap (filter (λ x. not (is_float_or_anchor x))) cuts ∙ lones_flow items content ∙ ap (lones items) keeps.flow

@@ -18,14 +18,14 @@ use Rattle.lay_space.specs.declared.breaks.Entry.{Entry}
 use Rattle.lay_space.specs.declared.breaks.Entry.TheVariants.{Content, Break}
 use Rattle.lay_space.specs.Modes.{wraps}
 
-abbrev pub is_solid : Token → Bool
-is_solid (Cluster c) = true
-is_solid TextEnd = false
-is_solid (Atomic n m) = true
-is_solid (Start n takes) = false
-is_solid (End n) = false
-is_solid (Float n) = false
-is_solid (Anchor n) = false
+abbrev pub is_solid_token : Token → Bool
+is_solid_token (Cluster c) = true
+is_solid_token TextEnd = false
+is_solid_token (Atomic n m) = true
+is_solid_token (Start n takes) = false
+is_solid_token (End n) = false
+is_solid_token (Float n) = false
+is_solid_token (Anchor n) = false
 
 abbrev pub is_preserved_space : Token → Bool
 is_preserved_space (Cluster c) = kind_is c.kind
@@ -114,7 +114,7 @@ abbrev pub broken : Bool → List Token → List Entry
 broken solid [] = []
 broken solid (x ∷ xs) =
     front_break (solid && breaks_before x xs) ++ Content x ∷ back_break (break_after x xs)
-    ++ broken (solid_after (break_after x xs) ((solid && not (breaks_before x xs)) || is_solid x)) xs
+    ++ broken (solid_after (break_after x xs) ((solid && not (breaks_before x xs)) || is_solid_token x)) xs
 
 -- What stands right after a break and goes before it: floats and anchors, unless the break is forced, and the end of an
 -- inline box or of a text, unless an inline box starts between (`started`).

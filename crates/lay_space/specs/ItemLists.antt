@@ -5,6 +5,6 @@ use Rattle.lay_space.specs.declared.item.Items.{Items}
 use Rattle.lay_space.specs.declared.item.Items.TheVariants.{One, Many}
 
 -- the items, in order
-abbrev pub listed : Items → List Item
-listed (One item) = item ∷ []
-listed (Many items) = items.items
+abbrev pub items_listed : Items → List Item
+items_listed (One item) = item ∷ []
+items_listed (Many items) = items.items

@@ -12,13 +12,13 @@ use Rattle.lay_space.specs.Breaks.{entries_of}
 use Rattle.lay_space.specs.BreakPlaces.{is_break_or_solid, with_breaks}
 
 -- none of these is a tab, and none a space that stands after a space (`after_space` says so of the first)
-abbrev pub IsCollapsed : Bool → List ℕ → Type 0
-IsCollapsed after_space [] = Unit {0}
-IsCollapsed after_space (c ∷ cs) = (c ≢ 9) × (after_space ≡ true → c ≢ 32) × IsCollapsed (c == 32) cs
+abbrev pub IsSpaceCollapsed : Bool → List ℕ → Type 0
+IsSpaceCollapsed after_space [] = Unit {0}
+IsSpaceCollapsed after_space (c ∷ cs) = (c ≢ 9) × (after_space ≡ true → c ≢ 32) × IsSpaceCollapsed (c == 32) cs
 
 abbrev pub NoSpaceAfterSpace : Type 0
 NoSpaceAfterSpace =
-    (m : Mode) (after_linefeed after_space : Bool) (cs : List ℕ) → IsCollapsed after_space (left_over m after_linefeed after_space cs)
+    (m : Mode) (after_linefeed after_space : Bool) (cs : List ℕ) → IsSpaceCollapsed after_space (left_over m after_linefeed after_space cs)
 
 -- the content of entries, without the breaks
 abbrev pub content_of : List Entry → List Token
@@ -26,14 +26,14 @@ content_of [] = []
 content_of (Content x ∷ xs) = x ∷ content_of xs
 content_of (Break forced ∷ xs) = content_of xs
 
-abbrev pub is_out_of_flow : Token → Bool
-is_out_of_flow (Cluster c) = false
-is_out_of_flow TextEnd = false
-is_out_of_flow (Atomic n m) = false
-is_out_of_flow (Start n takes) = false
-is_out_of_flow (End n) = false
-is_out_of_flow (Float n) = true
-is_out_of_flow (Anchor n) = true
+abbrev pub is_token_out_of_flow : Token → Bool
+is_token_out_of_flow (Cluster c) = false
+is_token_out_of_flow TextEnd = false
+is_token_out_of_flow (Atomic n m) = false
+is_token_out_of_flow (Start n takes) = false
+is_token_out_of_flow (End n) = false
+is_token_out_of_flow (Float n) = true
+is_token_out_of_flow (Anchor n) = true
 
 -- what a float or an anchor may stand before though it comes behind it
 abbrev pub floats_pass : Token → Bool
@@ -47,8 +47,8 @@ floats_pass (Anchor n) = false
 
 -- what is in flow keeps its order, and so do floats and anchors, and these with what they don't pass
 pub record KeepsContent (xs ys : List Token) : Type 0 where
-  pub flow : filter (λ x. not (is_out_of_flow x)) ys ≡ filter (λ x. not (is_out_of_flow x)) xs
-  pub out_of_flow : filter is_out_of_flow ys ≡ filter is_out_of_flow xs
+  pub flow : filter (λ x. not (is_token_out_of_flow x)) ys ≡ filter (λ x. not (is_token_out_of_flow x)) xs
+  pub out_of_flow : filter is_token_out_of_flow ys ≡ filter is_token_out_of_flow xs
   pub met : filter (λ x. not (floats_pass x)) ys ≡ filter (λ x. not (floats_pass x)) xs
 
 abbrev pub BreaksKeepContent : Type 0

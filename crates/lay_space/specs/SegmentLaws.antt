@@ -18,14 +18,14 @@ abbrev pub StandOnBoundaries : List ℕ → List ClusterWidth → Type 0
 StandOnBoundaries text [] = Unit {0}
 StandOnBoundaries text (w ∷ ws) = (is_boundary text w.place ≡ true) × (w.place ≤ next_place text ws) × StandOnBoundaries text ws
 
-abbrev pub AreMeasured : List Item → Type 0
-AreMeasured [] = Unit {0}
-AreMeasured (item.Text node text m widths ∷ xs) = StandOnBoundaries text widths × AreMeasured xs
-AreMeasured (item.Atomic n m ∷ xs) = AreMeasured xs
-AreMeasured (item.Start n takes ∷ xs) = AreMeasured xs
-AreMeasured (item.End n ∷ xs) = AreMeasured xs
-AreMeasured (item.Float n ∷ xs) = AreMeasured xs
-AreMeasured (item.Anchor n ∷ xs) = AreMeasured xs
+abbrev pub AreTextsMeasured : List Item → Type 0
+AreTextsMeasured [] = Unit {0}
+AreTextsMeasured (item.Text node text m widths ∷ xs) = StandOnBoundaries text widths × AreTextsMeasured xs
+AreTextsMeasured (item.Atomic n m ∷ xs) = AreTextsMeasured xs
+AreTextsMeasured (item.Start n takes ∷ xs) = AreTextsMeasured xs
+AreTextsMeasured (item.End n ∷ xs) = AreTextsMeasured xs
+AreTextsMeasured (item.Float n ∷ xs) = AreTextsMeasured xs
+AreTextsMeasured (item.Anchor n ∷ xs) = AreTextsMeasured xs
 
 -- each cluster of a text as a text of its own
 abbrev pub apart : ℕ → Mode → List ℕ → List ClusterWidth → List Item
@@ -64,9 +64,9 @@ is_float_or_anchor (item.End n) = false
 is_float_or_anchor (item.Float n) = true
 is_float_or_anchor (item.Anchor n) = true
 
-abbrev pub all_items : List Segment → List Item
-all_items [] = []
-all_items (s ∷ ss) = s.items ++ all_items ss
+abbrev pub items_of_segments : List Segment → List Item
+items_of_segments [] = []
+items_of_segments (s ∷ ss) = s.items ++ items_of_segments ss
 
 pub record HoldsSame (xs ys : List Item) : Type 0 where
   pub flow : filter (λ x. not (is_float_or_anchor x)) ys ≡ filter (λ x. not (is_float_or_anchor x)) xs
@@ -74,8 +74,8 @@ pub record HoldsSame (xs ys : List Item) : Type 0 where
 
 abbrev pub SegmentsKeepClusters : Type 0
 SegmentsKeepClusters =
-    (items : List Item) → AreMeasured items
-    → HoldsSame (of_tokens items (without_leading_spaces true (tokens_of 0 items))) (by_cluster (all_items (segments_of items)))
+    (items : List Item) → AreTextsMeasured items
+    → HoldsSame (of_tokens items (without_leading_spaces true (tokens_of 0 items))) (by_cluster (items_of_segments (segments_of items)))
 
 -- which is the content itself, where no space is first
 abbrev pub TokensHoldClusters : Type 0

@@ -21,8 +21,8 @@ is_boundary text at =
     at == length text || (nat_lt at (length text) && (nat_lt (slice_index text at) 128 || nat_lt 191 (slice_index text at)))
 
 -- the bytes between two places, and none where the text can't be cut there
-abbrev pub part_of : List ℕ → ℕ → ℕ → List ℕ
-part_of text from to =
+abbrev pub bytes_between : List ℕ → ℕ → ℕ → List ℕ
+bytes_between text from to =
     if not (nat_lt to from) && is_boundary text from && is_boundary text to then slice_range text from to else []
 
 abbrev pub bytes_of : Option Item → List ℕ
@@ -35,7 +35,7 @@ bytes_of (Some (item.Float n)) = []
 bytes_of (Some (item.Anchor n)) = []
 
 abbrev pub cluster_bytes : List Item → Cluster → List ℕ
-cluster_bytes items c = part_of (bytes_of (slice_get items c.item)) c.from c.to
+cluster_bytes items c = bytes_between (bytes_of (slice_get items c.item)) c.from c.to
 
 abbrev pub joined : List Item → List Cluster → List ℕ
 joined items [] = []

@@ -8,7 +8,7 @@ use Rattle.lay_space.specs.declared.item.Item.{Item}
 use Rattle.lay_space.specs.declared.item.Item.TheVariants.{Text, Atomic, Start, End, Float, Anchor}
 use Rattle.lay_space.specs.Modes.{collapses, joins_lines}
 use Rattle.lay_space.specs.WhiteSpace.{is_blank, ends_in_space, processed}
-use Rattle.lay_space.specs.Laws.{IsCollapsed}
+use Rattle.lay_space.specs.Laws.{IsSpaceCollapsed}
 
 abbrev pub AreUtf8 : List Item → Type 0
 AreUtf8 [] = Unit {0}
@@ -20,18 +20,18 @@ AreUtf8 (Float n ∷ xs) = AreUtf8 xs
 AreUtf8 (Anchor n ∷ xs) = AreUtf8 xs
 
 -- a space, a tab, a carriage return or a linefeed
-abbrev pub is_white : ℕ → Bool
-is_white c = is_blank c || c == 10
+abbrev pub is_white_code : ℕ → Bool
+is_white_code c = is_blank c || c == 10
 
 -- Characters with each row of white space as one space, of which `goes_on` says whether one stands before them.
 abbrev pub words : Bool → List ℕ → List ℕ
 words goes_on [] = []
-words goes_on (c ∷ cs) = if is_white c then (if goes_on then words true cs else 32 ∷ words true cs) else (c ∷ words false cs)
+words goes_on (c ∷ cs) = if is_white_code c then (if goes_on then words true cs else 32 ∷ words true cs) else (c ∷ words false cs)
 
 -- whether what follows these characters stands behind white space
 abbrev pub ends_in_white : Bool → List ℕ → Bool
 ends_in_white goes_on [] = goes_on
-ends_in_white goes_on (c ∷ cs) = ends_in_white (is_white c) cs
+ends_in_white goes_on (c ∷ cs) = ends_in_white (is_white_code c) cs
 
 -- Content with the words of its texts. Rows of white space go on from text to text, which an atomic box parts.
 abbrev pub with_words : Bool → List Item → List Item
@@ -56,7 +56,7 @@ abbrev pub ends_in_collapsible : Bool → Mode → List ℕ → Bool
 ends_in_collapsible after_space m text = if collapses m then ends_in_space after_space (chars text) else after_space && length text == 0
 
 abbrev pub IsCollapsedText : Bool → Mode → List ℕ → Type 0
-IsCollapsedText after_space m cs = (collapses m ≡ true → IsCollapsed after_space cs) × (joins_lines m ≡ true → HasNoLinefeed cs)
+IsCollapsedText after_space m cs = (collapses m ≡ true → IsSpaceCollapsed after_space cs) × (joins_lines m ≡ true → HasNoLinefeed cs)
 
 abbrev pub IsCollapsedContent : Bool → List Item → Type 0
 IsCollapsedContent after_space [] = Unit {0}

@@ -16,7 +16,7 @@ ghost use Rattle.std.specs.Prelude.{
 ghost use Rattle.lay_space.specs.declared.breaks.Entry.{Entry};
 ghost use Rattle.lay_space.specs.declared.breaks.Entry.TheVariants.{Content, Break};
 ghost use Rattle.lay_space.specs.Breaks.{
-  is_solid,
+  is_solid_token,
   is_preserved_space,
   space_follows,
   break_after_cluster,
@@ -180,7 +180,7 @@ fn is_preserved_space(token: Token) -> bool
 }
 
 fn is_solid(token: Token) -> bool
-    ensures { result ≡ is_solid token }
+    ensures { result ≡ is_solid_token token }
 {
     match token {
         Token::Cluster(_) | Token::Atomic(_, _) => true,
@@ -189,7 +189,7 @@ fn is_solid(token: Token) -> bool
 }
 
 fn solid_now(token: Token, before: bool, solid: bool) -> bool
-    ensures { result ≡ (solid && not before) || is_solid token }
+    ensures { result ≡ (solid && not before) || is_solid_token token }
 {
     let kept = solid && !before;
     let own = is_solid(token);

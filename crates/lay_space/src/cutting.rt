@@ -25,7 +25,7 @@ ghost use Rattle.lay_space.specs.declared.breaks.Entry.TheVariants as entry;
 ghost use Rattle.lay_space.specs.Segments.{
   is_boundary,
   is_cluster,
-  part_of,
+  bytes_between,
   bytes_of,
   cluster_bytes,
   joined,
@@ -293,7 +293,7 @@ fn text_at(items: &[Item], at: usize) -> &str
 }
 
 fn part(text: &str, from: usize, to: usize) -> &str
-    ensures { result.now ≡ part_of text.now from to }
+    ensures { result.now ≡ bytes_between text.now from to }
 {
     if from <= to && is_boundary(text, from) && is_boundary(text, to) {
         return &text[from..to];

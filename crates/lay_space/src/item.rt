@@ -83,11 +83,11 @@ enum Items {
 impl Model for ItemList {
     ghost use Rattle.std.specs.Prelude.{List};
     ghost use Rattle.lay_space.specs.declared.item.Item.{Item};
-    ghost use Rattle.lay_space.specs.ItemLists.{listed};
+    ghost use Rattle.lay_space.specs.ItemLists.{items_listed};
 
     ghost Value = { List Item };
 
-    ghost view = { λ l. listed l.items };
+    ghost view = { λ l. items_listed l.items };
 }
 
 impl ItemList {

@@ -27,10 +27,10 @@ is_inherited _ = false
 
 -- a property's value: that of its declaration, where `inherit` takes the parent's; without one the parent's
 -- for an inherited property, and else the initial one
-abbrev pub value_from : {A : Type 0} → Option Given → Bool → A → A → (Given → A) → A
-value_from None inherited parent initial computed = if inherited then parent else initial
-value_from (Some Inherit) inherited parent initial computed = parent
-value_from (Some v) inherited parent initial computed = computed v
+abbrev pub computed_or_inherited : {A : Type 0} → Option Given → Bool → A → A → (Given → A) → A
+computed_or_inherited None inherited parent initial computed = if inherited then parent else initial
+computed_or_inherited (Some Inherit) inherited parent initial computed = parent
+computed_or_inherited (Some v) inherited parent initial computed = computed v
 
 abbrev pub cascaded : {A : Type 0} → Property → List Declaration → A → A → (Given → A) → A
-cascaded p ds parent initial computed = value_from (declared_value p ds) (is_inherited p) parent initial computed
+cascaded p ds parent initial computed = computed_or_inherited (declared_value p ds) (is_inherited p) parent initial computed

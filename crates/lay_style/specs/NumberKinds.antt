@@ -4,7 +4,7 @@ use Rattle.lay_style.specs.declared.values.Numbers.TheVariants.{Never, FromZero,
 use Rattle.lay_style.specs.Values.{no_number, from_zero, any_number}
 use Rattle.lay_style.specs.Values as values
 
-abbrev pub numbers_of : Numbers → values.Numbers
-numbers_of Never = no_number
-numbers_of FromZero = from_zero
-numbers_of Any = any_number
+abbrev pub number_range_of : Numbers → values.Numbers
+number_range_of Never = no_number
+number_range_of FromZero = from_zero
+number_range_of Any = any_number

@@ -115,23 +115,23 @@ percentages_of WordSpacing = no_number
 percentages_of BorderSpacing = no_number
 percentages_of p = lengths_of p
 
-abbrev pub is_within : Numbers → ℕ → ℤ → Bool
-is_within no_number limit v = false
-is_within from_zero limit v = int_le (pos 0) v && int_le v (pos limit)
-is_within any_number limit v = int_le (neg_ℤ (pos limit)) v && int_le v (pos limit)
+abbrev pub is_number_within : Numbers → ℕ → ℤ → Bool
+is_number_within no_number limit v = false
+is_number_within from_zero limit v = int_le (pos 0) v && int_le v (pos limit)
+is_number_within any_number limit v = int_le (neg_ℤ (pos limit)) v && int_le v (pos limit)
 
 -- a whole number, in thousandths
 abbrev pub is_whole : ℤ → Bool
 is_whole v = int_eq (int_rem_euclid v (pos 1000)) (pos 0)
 
 abbrev pub is_number_of : Property → ℤ → Bool
-is_number_of ZIndex v = is_within any_number (10 ^ 12) v && is_whole v
-is_number_of LineHeight v = is_within from_zero (10 ^ 12) v
+is_number_of ZIndex v = is_number_within any_number (10 ^ 12) v && is_whole v
+is_number_of LineHeight v = is_number_within from_zero (10 ^ 12) v
 is_number_of _ v = false
 
 abbrev pub is_spacing : OneLength → Bool
-is_spacing (one_length u) = is_within from_zero (2 ^ 31) u.0
-is_spacing (one_em e) = is_within from_zero (10 ^ 12) e
+is_spacing (one_length u) = is_number_within from_zero (2 ^ 31) u.0
+is_spacing (one_em e) = is_number_within from_zero (10 ^ 12) e
 
 abbrev pub is_pair_of : Property → OneLength → OneLength → Bool
 is_pair_of BorderSpacing a b = is_spacing a && is_spacing b
@@ -140,9 +140,9 @@ is_pair_of _ a b = false
 -- whether the property takes this value
 abbrev pub is_value_of : Property → Given → Bool
 is_value_of p (Keyword w) = takes_word p w
-is_value_of p (Length u) = is_within (lengths_of p) (2 ^ 31) u.0
-is_value_of p (Em e) = is_within (lengths_of p) (10 ^ 12) e
-is_value_of p (Percent h) = is_within (percentages_of p) (2 ^ 30) h.0
+is_value_of p (Length u) = is_number_within (lengths_of p) (2 ^ 31) u.0
+is_value_of p (Em e) = is_number_within (lengths_of p) (10 ^ 12) e
+is_value_of p (Percent h) = is_number_within (percentages_of p) (2 ^ 30) h.0
 is_value_of p (Number n) = is_number_of p n
 is_value_of p (Pair a b) = is_pair_of p a b
 is_value_of p Inherit = true

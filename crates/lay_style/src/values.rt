@@ -1,9 +1,9 @@
 //! The values that each property takes, as `specs/Values.antt` has them.
 
 ghost use Rattle.std.specs.Prelude.{◌≡◌, ◌≤◌, ◌^◌};
-ghost use Rattle.lay_style.specs.Values.{takes_word, lengths_of, percentages_of, is_within, is_whole};
+ghost use Rattle.lay_style.specs.Values.{takes_word, lengths_of, percentages_of, is_number_within, is_whole};
 ghost use Rattle.lay_style.specs.Values.{is_number_of, is_spacing, is_pair_of, is_value_of};
-ghost use Rattle.lay_style.specs.NumberKinds.{numbers_of};
+ghost use Rattle.lay_style.specs.NumberKinds.{number_range_of};
 
 use crate::property::{Given, OneLength, Property, Word};
 use crate::words::{
@@ -92,7 +92,7 @@ fn takes_word(property: Property, word: Word) -> bool
 
 /// The property's lengths, in 1/64 px or in em.
 fn lengths_of(property: Property) -> Numbers
-    ensures { numbers_of result ≡ lengths_of property }
+    ensures { number_range_of result ≡ lengths_of property }
 {
     match property {
         Property::Top
@@ -130,7 +130,7 @@ fn lengths_of(property: Property) -> Numbers
 
 /// The property's percentages.
 fn percentages_of(property: Property) -> Numbers
-    ensures { numbers_of result ≡ percentages_of property }
+    ensures { number_range_of result ≡ percentages_of property }
 {
     match property {
         Property::BorderTopWidth
@@ -147,7 +147,7 @@ fn percentages_of(property: Property) -> Numbers
 /// Whether it is such a number, at most the limit from 0.
 fn is_within(numbers: Numbers, limit: u64, v: i64) -> bool
     requires { limit ≤ 10 ^ 12 }
-    ensures { result ≡ is_within (numbers_of numbers) limit v }
+    ensures { result ≡ is_number_within (number_range_of numbers) limit v }
 {
     let limit = limit as i64;
     match numbers {

@@ -6,8 +6,8 @@ use Rattle.lay_table.specs.TableInputs.{TableInput}
 use Rattle.lay_table.specs.TableRows.{TableRows}
 use Rattle.lay_table.proofs.OneTableRows.{one_table_rows_lem}
 use Rattle.lay_table.specs.Laws.{OneTablePlacement}
-use Rattle.lay_table.specs.TablePlacements.{placement_of}
-use Rattle.lay_table.specs.TableStandings.{HasTablePlaces, TablePlaces, content_corner}
+use Rattle.lay_table.specs.TablePlacements.{placement_of_table}
+use Rattle.lay_table.specs.TableStandings.{HasTablePlaces, TablePlaces, table_content_corner}
 use Rattle.lay_table.specs.WrapperFlow.{boxes_in_wrapper}
 use Rattle.lay_table.proofs.WrapperBoxes.{is_wrapper_tree}
 
@@ -17,9 +17,9 @@ one_places i p q a b =
     let there : IsFlowOf (boxes_in_wrapper i p.rows.tracks) q.flow =
     subst (λ (r : TableRows). IsFlowOf (boxes_in_wrapper i r.tracks) q.flow) (sym rows) b.flow in
     let flow = one_flow_of_lem (boxes_in_wrapper i p.rows.tracks) p.flow q.flow (is_wrapper_tree i p.rows.tracks) a.flow there in
-    let content = a.content ∙ ap (content_corner i) flow ∙ sym b.content in
+    let content = a.content ∙ ap (table_content_corner i) flow ∙ sym b.content in
     λ j. record { rows = rows j; columns = (a.columns ∙ sym b.columns) j; flow = flow j; content = content j }
 
 pub one_table_placement_lem : OneTablePlacement
 one_table_placement_lem i p q a b =
-    a.answer_is ∙ ap (placement_of i) (one_places i a.places b.places a.has_places b.has_places) ∙ sym b.answer_is
+    a.answer_is ∙ ap (placement_of_table i) (one_places i a.places b.places a.has_places b.has_places) ∙ sym b.answer_is

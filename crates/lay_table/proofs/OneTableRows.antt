@@ -12,7 +12,7 @@ use Rattle.lay_table_sizes.proofs.OneCellSizes.{one_cell_sizes_lem}
 use Rattle.lay_table.specs.RowLaws.{CellsAreSizedOnce, OneTableRows}
 use Rattle.lay_table.specs.RowNeeds.{needs_of, rows_in}
 use Rattle.lay_table.specs.TableInputs.{TableInput, grid_of}
-use Rattle.lay_table.specs.TableRows.{AreTracks, HaveCellSizes, bottoms_of, used_size}
+use Rattle.lay_table.specs.TableRows.{AreTracks, HaveCellSizes, bottoms_of, height_as_size}
 use Rattle.lay_table.specs.Tracks.{Tracks}
 
 one_cell_list : (i : TableInput) (x y : List BoxSizes) → HaveCellSizes i x → HaveCellSizes i y → x ≡ y
@@ -23,7 +23,7 @@ one_cell_list i x y a b =
 one_tracks : (rows : RowsIn) (t u : Tracks) → AreTracks rows t → AreTracks rows u → t ≡ u
 one_tracks rows t u a b =
     let same = one_heights_lem rows a.heights b.heights a.are_heights b.are_heights in
-    a.used ∙ ap (λ (heights : List Length). (let v : Tracks = record { lengths = map used_size heights; spacing = rows.spacing } in v)) same ∙ sym b.used
+    a.used ∙ ap (λ (heights : List Length). (let v : Tracks = record { lengths = map height_as_size heights; spacing = rows.spacing } in v)) same ∙ sym b.used
 
 pub one_table_rows_lem : OneTableRows
 one_table_rows_lem i x y a b =

@@ -19,7 +19,7 @@ use Rattle.lay_table_sizes.specs.declared.cell_size.CellSize.{CellSize}
 use Rattle.lay_table.specs.RowLaws.{IsSizedIn, SomeTableRows}
 use Rattle.lay_table.specs.RowNeeds.{cell_of, needs_of, rows_in, style_of, table_sizes}
 use Rattle.lay_table.specs.TableInputs.{TableInput, grid_of}
-use Rattle.lay_table.specs.TableRows.{HaveCellSizes, bottoms_of, cell_size_of, used_size}
+use Rattle.lay_table.specs.TableRows.{HaveCellSizes, bottoms_of, cell_size_of, height_as_size}
 use Rattle.lay_table.specs.Tracks.{Tracks}
 
 -- a list of so many entries, each of which is as it has to be at its place
@@ -84,7 +84,7 @@ pub some_table_rows_lem : SomeTableRows
 some_table_rows_lem i =
     let cells = cell_list i in
     let heights = rows_have_heights_lem (rows_in i cells.0) in
-    let tracks : Tracks = record { lengths = map used_size heights.0; spacing = (rows_in i cells.0).spacing } in
+    let tracks : Tracks = record { lengths = map height_as_size heights.0; spacing = (rows_in i cells.0).spacing } in
     let baselines = baseline_list (needs_of i cells.0) (length (grid_of i).rows) in
     let bottoms = baseline_list (bottoms_of i cells.0 tracks) (length (grid_of i).rows) in (
       record { cells = cells.0; tracks = tracks; baselines = baselines.0; bottoms = bottoms.0 },

@@ -8,7 +8,7 @@ use Rattle.lay_placements.specs.declared.standing.Standing.{Standing}
 use Rattle.lay_placements.specs.Standings.{no_standing, standing_at}
 use Rattle.lay_table.specs.TableInputs.{TableInput}
 use Rattle.lay_table.specs.PlaceBounds.{AreStandings}
-use Rattle.lay_table.specs.TablePlacements.{standings_to}
+use Rattle.lay_table.specs.TablePlacements.{table_standings_to}
 use Rattle.lay_table.specs.TableStandings.{TablePlaces, number_in, standing_by, standing_of}
 
 -- one more of them
@@ -20,20 +20,20 @@ one_more places f k n old s is = let e : n + 1 ≡ suc n = omega arith in rw e (
     by true = is
     by false = refl
 
-count_to : (i : TableInput) (p : TablePlaces) (n : ℕ) → length (standings_to i p n) ≡ n
+count_to : (i : TableInput) (p : TablePlaces) (n : ℕ) → length (table_standings_to i p n) ≡ n
 count_to i p zero = refl
 count_to i p (suc n) = let more = count_to i p n in rw (length-append, more) (omega arith)
 
-each_to : (i : TableInput) (p : TablePlaces) (n k : ℕ) → k < n → standing_at (standings_to i p n) k ≡ standing_of i p k
+each_to : (i : TableInput) (p : TablePlaces) (n k : ℕ) → k < n → standing_at (table_standings_to i p n) k ≡ standing_of i p k
 each_to i p zero k less = absurd (omega (arith, less))
 each_to i p (suc n) k less = elim (cases_lt k n) [
-  | inl low ↦ get_or-append (standings_to i p n) (standing_of i p n ∷ []) no_standing k (omega (arith, low, count_to i p n)) ∙ each_to i p n k low
+  | inl low ↦ get_or-append (table_standings_to i p n) (standing_of i p n ∷ []) no_standing k (omega (arith, low, count_to i p n)) ∙ each_to i p n k low
   | inr high ↦ (
       let q : k ≡ n = omega (arith, less, high) in
-      subst (λ (j : ℕ). standing_at (standings_to i p (suc n)) j ≡ standing_of i p k) (count_to i p n ∙ sym q) (get_or-append_seam (standings_to i p n) (standing_of i p n) [] no_standing ∙ ap (standing_of i p) (sym q)))
+      subst (λ (j : ℕ). standing_at (table_standings_to i p (suc n)) j ≡ standing_of i p k) (count_to i p n ∙ sym q) (get_or-append_seam (table_standings_to i p n) (standing_of i p n) [] no_standing ∙ ap (standing_of i p) (sym q)))
 ]
 
-pub are_all : (i : TableInput) (p : TablePlaces) (standings : List Standing) → AreStandings i p standings → standings ≡ standings_to i p (length i.boxes)
+pub are_all : (i : TableInput) (p : TablePlaces) (standings : List Standing) → AreStandings i p standings → standings ≡ table_standings_to i p (length i.boxes)
 are_all i p standings are =
-    ext_get_or no_standing standings (standings_to i p (length i.boxes)) (are.count ∙ sym (count_to i p (length i.boxes)))
+    ext_get_or no_standing standings (table_standings_to i p (length i.boxes)) (are.count ∙ sym (count_to i p (length i.boxes)))
     (λ k less. (let within : k < length i.boxes = omega (arith, less, are.count) in are.each k within ∙ sym (each_to i p (length i.boxes) k within)))

@@ -11,7 +11,7 @@ use Rattle.lay_units.specs.declared.records.Len.TheVariants as len
 use Rattle.lay_doc.specs.Tree.{IsTree}
 use Rattle.lay_flow.specs.declared.blocks.flow_box.FlowBox.{FlowBox}
 use Rattle.lay_flow.specs.Blocks.BlockPositions.{given_or_auto}
-use Rattle.lay_flow.specs.Blocks.Boxes.{box_at, no_box, parent_at, parents_of}
+use Rattle.lay_flow.specs.Blocks.Boxes.{box_at, no_flow_box, parent_at, parents_of}
 use Rattle.lay_flow.specs.Blocks.FlowBoxes.{AreFlowBoxes, IsFlowTree, KindFits, is_in_lines, may_hold}
 use Rattle.lay_flow.specs.Blocks.Weights.{weight}
 use Rattle.lay_flow.proofs.BlocksLemmas.BoxTrees.{parent_is, parents_length}
@@ -25,7 +25,7 @@ use Rattle.lay_table.specs.TableInputs.{TableInput}
 use Rattle.lay_table.specs.Tracks.{Tracks}
 use Rattle.lay_table.specs.Captions.{captions_of}
 use Rattle.lay_table.specs.PlaceBounds.{AllFit}
-use Rattle.lay_table.specs.WrapperFlow.{box_inside, boxes_in_wrapper, caption_inside, captions_inside, places_in_wrapper, table_box, wrapper_box}
+use Rattle.lay_table.specs.WrapperFlow.{box_inside, boxes_in_wrapper, caption_inside, captions_inside, places_in_wrapper, table_own_box, wrapper_box}
 use Rattle.lay_table.proofs.ColumnSteps.{mapped_more}
 
 -- a box that stands in the wrapper
@@ -51,13 +51,13 @@ captions_are_inside i (place ∷ places) = cons_all Inside (caption_inside i pla
 abbrev others : TableInput → Tracks → List FlowBox
 others i rows =
     captions_inside i (captions_of i.boxes).above
-    ++ box_inside (sizes_at i.sizes 0).edges.left (table_box (table_sizes i) rows)
+    ++ box_inside (sizes_at i.sizes 0).edges.left (table_own_box (table_sizes i) rows)
     ∷ captions_inside i (captions_of i.boxes).below
 
 others_inside : (i : TableInput) (rows : Tracks) → All Inside (others i rows)
 others_inside i rows =
-    All-append Inside (captions_inside i (captions_of i.boxes).above) (box_inside (sizes_at i.sizes 0).edges.left (table_box (table_sizes i) rows) ∷ captions_inside i (captions_of i.boxes).below) (captions_are_inside i (captions_of i.boxes).above)
-    (cons_all Inside _ (captions_inside i (captions_of i.boxes).below) (inside (sizes_at i.sizes 0).edges.left (table_box (table_sizes i) rows)) (captions_are_inside i (captions_of i.boxes).below))
+    All-append Inside (captions_inside i (captions_of i.boxes).above) (box_inside (sizes_at i.sizes 0).edges.left (table_own_box (table_sizes i) rows) ∷ captions_inside i (captions_of i.boxes).below) (captions_are_inside i (captions_of i.boxes).above)
+    (cons_all Inside _ (captions_inside i (captions_of i.boxes).below) (inside (sizes_at i.sizes 0).edges.left (table_own_box (table_sizes i) rows)) (captions_are_inside i (captions_of i.boxes).below))
 
 held_by : (z : BoxSizes) (b : FlowBox) → Inside b → may_hold (wrapper_box z).kind b.kind ≡ true
 held_by z b is = let e = is.alone in rw e refl
@@ -65,7 +65,7 @@ held_by z b is = let e = is.alone in rw e refl
 -- all parents are the wrapper
 no_parents : (z : BoxSizes) (bs : List FlowBox) → All Inside bs → (k : ℕ) → k < length (wrapper_box z ∷ bs) → parent_at (wrapper_box z ∷ bs) k ≡ 0
 no_parents z bs all zero less = refl
-no_parents z bs all (suc k) less = (all k no_box (omega (arith, less))).parent
+no_parents z bs all (suc k) less = (all k no_flow_box (omega (arith, less))).parent
 
 tree_of : (z : BoxSizes) (bs : List FlowBox) → All Inside bs → IsTree (parents_of (wrapper_box z ∷ bs))
 tree_of z bs all = record {
@@ -94,7 +94,7 @@ flow_tree z bs all = record {
     from : (k : ℕ) → 0 < k → k < length boxes → may_hold (box_at boxes (parent_at boxes k)).kind (box_at boxes k).kind ≡ true
     from zero positive less = absurd (omega (arith, positive))
     from (suc k) positive less =
-        let is = all k no_box (omega (arith, less)) in
+        let is = all k no_flow_box (omega (arith, less)) in
         subst (λ (p : ℕ). may_hold (box_at boxes p).kind (box_at boxes (suc k)).kind ≡ true) (sym is.parent) (held_by z _ is)
 
 pub is_wrapper_tree : (i : TableInput) (rows : Tracks) → IsFlowTree (boxes_in_wrapper i rows)
@@ -129,7 +129,7 @@ pub are_wrapper_boxes : (i : TableInput) (rows : Tracks) (boxes : List FlowBox) 
 are_wrapper_boxes i rows boxes are fit light = record {
   is_tree = rw are (is_wrapper_tree i rows);
   light = light;
-  fits = λ k less. fit k no_box less;
+  fits = λ k less. fit k no_flow_box less;
 }
 
 -- they are as many as their places

@@ -6,7 +6,7 @@ use Rattle.lay_style.specs.declared.style_words.CaptionSide.TheVariants as side
 use Rattle.lay_style.specs.ComputedStyle.{style_at}
 use Rattle.lay_box_tree.specs.declared.box_tree.BoxNode.{BoxNode}
 use Rattle.lay_box_tree.specs.BoxColumns.{box_styles}
-use Rattle.lay_box_tree.specs.Kinds.{is_caption}
+use Rattle.lay_box_tree.specs.Kinds.{is_caption_kind}
 use Rattle.lay_table_grid.specs.TableBoxes.{kind_at}
 
 abbrev pub is_side : CaptionSide → CaptionSide → Bool
@@ -17,7 +17,7 @@ is_side _ _ = false
 -- the box at k is a caption on this side of the table
 abbrev pub is_caption_on : CaptionSide → List BoxNode → ℕ → Bool
 is_caption_on side boxes k =
-    is_caption (kind_at boxes k) && is_side (style_at (box_styles boxes) k).table.caption_side side
+    is_caption_kind (kind_at boxes k) && is_side (style_at (box_styles boxes) k).table.caption_side side
 
 -- the places of such captions among the first n boxes
 abbrev pub captions_to : CaptionSide → List BoxNode → (n : ℕ) → List ℕ

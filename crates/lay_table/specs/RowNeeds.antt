@@ -55,8 +55,8 @@ row_spacing grid = between grid.rows
     between (row ∷ rows) = grid.spacing.down
 
 -- the height of its own that a row of this style has
-abbrev pub own_height : Style → Length
-own_height s = or_zero (used_height auto s.sizing.height)
+abbrev pub row_own_height : Style → Length
+row_own_height s = or_zero (used_height auto s.sizing.height)
 
 abbrev pub no_row : TableRow
 no_row = record { place = 0; group = 0 }
@@ -68,7 +68,7 @@ row_style i r = style_of i (slice_index_or (grid_of i).rows r no_row).place
 -- those of the first n rows
 abbrev pub own_heights_to : TableInput → (n : ℕ) → List Length
 own_heights_to i zero = []
-own_heights_to i (suc r) = own_heights_to i r ++ own_height (row_style i r) ∷ []
+own_heights_to i (suc r) = own_heights_to i r ++ row_own_height (row_style i r) ∷ []
 
 abbrev pub own_heights : TableInput → List Length
 own_heights i = own_heights_to i (length (grid_of i).rows)

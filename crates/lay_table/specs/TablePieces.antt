@@ -72,12 +72,12 @@ abbrev pub inner_width : TableInput → ℕ → Length
 inner_width i k = width_of_cell (cell_at i.table k) (own_box_at i.inner k)
 
 -- the pieces of the box at k
-abbrev pub pieces_of_box : TableInput → TablePlaces → ℕ → List Frag
-pieces_of_box i p k =
+abbrev pub table_pieces_of_box : TableInput → TablePlaces → ℕ → List Frag
+table_pieces_of_box i p k =
     if is_inner i.boxes k then spliced (inner_width i k) (standing_of i p k) (inner_pieces_at i.pieces k)
     else pieces_by i p k (extent_by_kind (kind_at i.boxes k))
 
 -- the pieces of the first n boxes, each with its part
 abbrev pub pieces_to : TableInput → TablePlaces → (n : ℕ) → List Frag
 pieces_to i p zero = []
-pieces_to i p (suc k) = with_pieces (pieces_to i p k) (pieces_of_box i p k)
+pieces_to i p (suc k) = with_pieces (pieces_to i p k) (table_pieces_of_box i p k)

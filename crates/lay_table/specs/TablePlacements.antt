@@ -14,27 +14,27 @@ use Rattle.lay_table.specs.TablePieces.{pieces_to}
 use Rattle.lay_table.specs.TableStandings.{HasTablePlaces, TablePlaces, standing_of}
 
 -- the baseline of the first row, below the top of the wrapper
-abbrev pub first_baseline : TablePlaces → Option Length
-first_baseline p = of p.rows.tracks.lengths
+abbrev pub first_row_baseline : TablePlaces → Option Length
+first_row_baseline p = of p.rows.tracks.lengths
   where
     of : List Length → Option Length
     of [] = None
     of (height ∷ heights) = Some (record { 0 = p.content.y.0 +ℤ start_of p.rows.tracks 0 +ℤ (row_baseline p.rows 0).0 })
 
 -- where the first n boxes stand
-abbrev pub standings_to : TableInput → TablePlaces → (n : ℕ) → List Standing
-standings_to i p zero = []
-standings_to i p (suc k) = standings_to i p k ++ standing_of i p k ∷ []
+abbrev pub table_standings_to : TableInput → TablePlaces → (n : ℕ) → List Standing
+table_standings_to i p zero = []
+table_standings_to i p (suc k) = table_standings_to i p k ++ standing_of i p k ∷ []
 
-abbrev pub placement_of : TableInput → TablePlaces → Placement
-placement_of i p = record {
-  own = own_box (sizes_at i.sizes 0) (box_place_at p.flow.boxes 0).height (first_baseline p);
+abbrev pub placement_of_table : TableInput → TablePlaces → Placement
+placement_of_table i p = record {
+  own = own_box (sizes_at i.sizes 0) (box_place_at p.flow.boxes 0).height (first_row_baseline p);
   pieces = pieces_to i p (length i.boxes);
-  standings = standings_to i p (length i.boxes);
+  standings = table_standings_to i p (length i.boxes);
 }
 
 -- this is the placement of the table
 pub record IsTablePlacement (i : TableInput) (answer : Placement) : Type 0 where
   pub places : TablePlaces
   pub has_places : HasTablePlaces i places
-  pub answer_is : answer ≡ placement_of i places
+  pub answer_is : answer ≡ placement_of_table i places

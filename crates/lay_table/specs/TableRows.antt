@@ -48,14 +48,14 @@ pub record HaveCellSizes (i : TableInput) (cells : List BoxSizes) : Type 0 where
       → IsCellSized (content_block (table_sizes i)) (cell_size_of i c) (style_of i (cell_of i c).place) (sizes_at cells c)
 
 -- a height as a used size
-abbrev pub used_size : Length → Length
-used_size height = record { 0 = clamp_size_of height.0 }
+abbrev pub height_as_size : Length → Length
+height_as_size height = record { 0 = clamp_size_of height.0 }
 
 -- rows as low as they can be
 pub record AreTracks (rows : RowsIn) (t : Tracks) : Type 0 where
   pub heights : List Length
   pub are_heights : AreHeights rows heights
-  pub used : t ≡ record { lengths = map used_size heights; spacing = rows.spacing }
+  pub used : t ≡ record { lengths = map height_as_size heights; spacing = rows.spacing }
 
 -- the height of the border box of the cell c: that of its rows, with the spacings between them
 abbrev pub cell_height : TableInput → Tracks → ℕ → Length
@@ -98,12 +98,12 @@ shift_by Middle row own natural height = record { 0 = half_of (height.0 -ℤ nat
 shift_by Bottom row own natural height = record { 0 = height.0 -ℤ natural.0 }
 
 -- the baseline of the cell c itself
-abbrev pub own_baseline : TableInput → TableRows → ℕ → Length
-own_baseline i rows c = cell_baseline (natural_box i c) (sizes_at rows.cells c)
+abbrev pub cell_own_baseline : TableInput → TableRows → ℕ → Length
+cell_own_baseline i rows c = cell_baseline (natural_box i c) (sizes_at rows.cells c)
 
-abbrev pub shift_of : TableInput → TableRows → ℕ → Length
-shift_of i rows c =
-    shift_by (align_of i c) (row_baseline rows (cell_of i c).row) (own_baseline i rows c)
+abbrev pub cell_shift : TableInput → TableRows → ℕ → Length
+cell_shift i rows c =
+    shift_by (align_of i c) (row_baseline rows (cell_of i c).row) (cell_own_baseline i rows c)
     (natural_box i c).height (cell_height i rows.tracks c)
 
 -- The height of the content of the table box: its rows and the spacings, or without rows what the table asks for.
@@ -112,4 +112,4 @@ table_content table rows = over rows.lengths
   where
     over : List Length → Length
     over [] = least_height table
-    over (height ∷ heights) = used_size (record { 0 = end_of rows })
+    over (height ∷ heights) = height_as_size (record { 0 = end_of rows })

@@ -15,11 +15,11 @@ use Rattle.lay_flow.specs.Blocks.Lengths.{length_at}
 use Rattle.lay_placements.specs.declared.corner.Corner.{Corner}
 use Rattle.lay_placements.specs.declared.standing.Standing.{Standing}
 use Rattle.lay_placements.specs.Standings.{no_standing}
-use Rattle.lay_table_grid.specs.TableBoxes.{is_row_group, kind_at}
+use Rattle.lay_table_grid.specs.TableBoxes.{is_row_group_kind, kind_at}
 use Rattle.lay_table_grid.specs.TableGrid.{TableGridValue}
 use Rattle.lay_table.specs.RowNeeds.{cell_of, table_sizes}
 use Rattle.lay_table.specs.TableInputs.{TableInput, grid_of}
-use Rattle.lay_table.specs.TableRows.{HasRows, TableRows, cell_height, shift_of}
+use Rattle.lay_table.specs.TableRows.{HasRows, TableRows, cell_height, cell_shift}
 use Rattle.lay_table.specs.Tracks.{Tracks, extent_of, start_of}
 use Rattle.lay_table.specs.Captions.{captions_of, table_number}
 use Rattle.lay_table.specs.Groups.{rows_before, rows_within}
@@ -45,14 +45,14 @@ abbrev pub columns_of : TableInput → Tracks
 columns_of i = record { lengths = i.table.columns; spacing = column_spacing (grid_of i) }
 
 -- the corner of the content of the table box
-abbrev pub content_in : TableInput → BoxPlace → Corner
-content_in i place = record {
+abbrev pub content_corner_at : TableInput → BoxPlace → Corner
+content_corner_at i place = record {
   x = record { 0 = place.corner.x.0 +ℤ (table_sizes i).edges.left.0 };
   y = record { 0 = place.corner.y.0 +ℤ (table_sizes i).edges.top.0 };
 }
 
-abbrev pub content_corner : TableInput → FlowPlacesValue → Corner
-content_corner i flow = content_in i (box_place_at flow.boxes (table_number (captions_of i.boxes)))
+abbrev pub table_content_corner : TableInput → FlowPlacesValue → Corner
+table_content_corner i flow = content_corner_at i (box_place_at flow.boxes (table_number (captions_of i.boxes)))
 
 -- the workings
 pub record TablePlaces : Type 0 where
@@ -67,14 +67,14 @@ pub record HasTablePlaces (i : TableInput) (p : TablePlaces) : Type 0 where
   pub rows : HasRows i p.rows
   pub columns : p.columns ≡ columns_of i
   pub flow : IsFlowOf (boxes_in_wrapper i p.rows.tracks) p.flow
-  pub content : p.content ≡ content_corner i p.flow
+  pub content : p.content ≡ table_content_corner i p.flow
 
 -- a corner that lies so far in it
-abbrev pub corner_inside : Corner → (across down : ℤ) → Corner
-corner_inside content across down = record { x = record { 0 = content.x.0 +ℤ across }; y = record { 0 = content.y.0 +ℤ down } }
+abbrev pub corner_within : Corner → (across down : ℤ) → Corner
+corner_within content across down = record { x = record { 0 = content.x.0 +ℤ across }; y = record { 0 = content.y.0 +ℤ down } }
 
-abbrev pub flow_standing : BoxPlace → Standing
-flow_standing place = record {
+abbrev pub table_flow_standing : BoxPlace → Standing
+table_flow_standing place = record {
   corner = record { x = place.corner.x; y = place.corner.y };
   height = place.height;
   shift = no_length;
@@ -83,7 +83,7 @@ flow_standing place = record {
 -- the row r
 abbrev pub row_standing : TablePlaces → ℕ → Standing
 row_standing p r = record {
-  corner = corner_inside p.content (start_of p.columns 0) (start_of p.rows.tracks r);
+  corner = corner_within p.content (start_of p.columns 0) (start_of p.rows.tracks r);
   height = record { 0 = length_at p.rows.tracks.lengths r };
   shift = no_length;
 }
@@ -91,9 +91,9 @@ row_standing p r = record {
 -- the cell c
 abbrev pub cell_standing : TableInput → TablePlaces → ℕ → Standing
 cell_standing i p c = record {
-  corner = corner_inside p.content (start_of p.columns (cell_of i c).column) (start_of p.rows.tracks (cell_of i c).row);
+  corner = corner_within p.content (start_of p.columns (cell_of i c).column) (start_of p.rows.tracks (cell_of i c).row);
   height = cell_height i p.rows.tracks c;
-  shift = shift_of i p.rows c;
+  shift = cell_shift i p.rows c;
 }
 
 -- the height of a row group of so many rows from this one on
@@ -106,7 +106,7 @@ abbrev pub group_standing : TableInput → TablePlaces → ℕ → Standing
 group_standing i p k =
     let first : ℕ = rows_before i.boxes (grid_of i).rows k in
     record {
-      corner = corner_inside p.content (start_of p.columns 0) (start_of p.rows.tracks first);
+      corner = corner_within p.content (start_of p.columns 0) (start_of p.rows.tracks first);
       height = group_height p.rows.tracks first (rows_within (grid_of i).rows k);
       shift = no_length;
     }
@@ -125,7 +125,7 @@ standing_by numbered other (Some n) = numbered n
 
 -- the box at k, where it is a row group or nothing
 abbrev pub group_or_none : TableInput → TablePlaces → ℕ → Standing
-group_or_none i p k = if is_row_group (kind_at i.boxes k) then group_standing i p k else no_standing
+group_or_none i p k = if is_row_group_kind (kind_at i.boxes k) then group_standing i p k else no_standing
 
 -- where it may be a cell, too, or a row
 abbrev pub cell_or_group : TableInput → TablePlaces → ℕ → Standing
@@ -137,4 +137,4 @@ part_standing i p k = standing_by (row_standing p) (cell_or_group i p k) (number
 -- the box at k
 abbrev pub standing_of : TableInput → TablePlaces → ℕ → Standing
 standing_of i p k =
-    standing_by (λ n. flow_standing (box_place_at p.flow.boxes n)) (part_standing i p k) (number_of (places_in_wrapper i) k)
+    standing_by (λ n. table_flow_standing (box_place_at p.flow.boxes n)) (part_standing i p k) (number_of (places_in_wrapper i) k)

@@ -53,8 +53,8 @@ box_inside left o = record {
 }
 
 -- the table box, and a caption, as they are seen from outside
-abbrev pub table_box : BoxSizes → Tracks → OwnBox
-table_box table rows = own_box table (border_height table (table_content table rows)) None
+abbrev pub table_own_box : BoxSizes → Tracks → OwnBox
+table_own_box table rows = own_box table (border_height table (table_content table rows)) None
 
 abbrev pub caption_inside : TableInput → ℕ → FlowBox
 caption_inside i k = box_inside (sizes_at i.sizes 0).edges.left (own_box_at i.inner k)
@@ -67,5 +67,5 @@ abbrev pub boxes_in_wrapper : TableInput → Tracks → List FlowBox
 boxes_in_wrapper i rows =
     wrapper_box (sizes_at i.sizes 0)
     ∷ captions_inside i (captions_of i.boxes).above
-    ++ box_inside (sizes_at i.sizes 0).edges.left (table_box (table_sizes i) rows)
+    ++ box_inside (sizes_at i.sizes 0).edges.left (table_own_box (table_sizes i) rows)
     ∷ captions_inside i (captions_of i.boxes).below

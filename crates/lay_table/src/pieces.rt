@@ -9,7 +9,7 @@ ghost use Rattle.lay_sizes.specs.BoxSizes.{border_width};
 ghost use Rattle.lay_sizes.specs.SizeColumns.{sizes_at};
 ghost use Rattle.lay_table_grid.specs.TableBoxes.{kind_at};
 ghost use Rattle.lay_table.specs.PlaceBounds.{AreStandings};
-ghost use Rattle.lay_table.specs.TablePieces.{extent_by_kind, inner_width, piece_of, pieces_of_box, pieces_to, rows_width};
+ghost use Rattle.lay_table.specs.TablePieces.{extent_by_kind, inner_width, piece_of, table_pieces_of_box, pieces_to, rows_width};
 ghost use Rattle.lay_table.specs.TableStandings.{standing_of};
 
 use crate::cells::{own_box_at, sizes_at, table_sizes};
@@ -77,7 +77,7 @@ fn push_box(
 ) -> Result<(), NoMemory>
     requires standings { AreStandings input.now places.now standings.now }
     requires place { k < length input.now.boxes }
-    ensures { OnOk result (pieces.new ≡ with_pieces pieces.old (pieces_of_box input.now places.now k)) }
+    ensures { OnOk result (pieces.new ≡ with_pieces pieces.old (table_pieces_of_box input.now places.now k)) }
 {
     let standing = standing_at(input, places, standings, k);
     if is_inner(input, k) {

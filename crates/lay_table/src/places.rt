@@ -6,7 +6,7 @@ ghost use Rattle.lay_placements.specs.Corners.{IsCornerNear};
 ghost use Rattle.lay_table.specs.Captions.{ArePlaces, captions_of};
 ghost use Rattle.lay_table.specs.PlaceBounds.{PlacesFit};
 ghost use Rattle.lay_table.specs.WrapperFlow.{places_in_wrapper};
-ghost use Rattle.lay_table.specs.TableStandings.{HasTablePlaces, column_spacing, columns_of, content_corner, content_in};
+ghost use Rattle.lay_table.specs.TableStandings.{HasTablePlaces, column_spacing, columns_of, table_content_corner, content_corner_at};
 
 use crate::captions::Captions;
 use crate::cells::table_sizes;
@@ -110,7 +110,7 @@ fn content_corner(
 ) -> Result<Corner, NoMemory>
     requires captions { captions.now ≡ captions_of input.now.boxes }
     requires count { length flow.now.boxes ≡ length (places_in_wrapper input.now) }
-    ensures corner { IfOk result (λ c. c ≡ content_corner input.now flow.now) }
+    ensures corner { IfOk result (λ c. c ≡ table_content_corner input.now flow.now) }
     ensures near { IfOk result IsCornerNear }
 {
     content_in(input, place_at(flow, captions.table_number()))
@@ -118,7 +118,7 @@ fn content_corner(
 
 /// That of a table box whose border box stands here.
 fn content_in(input: &TableInput, place: BoxPlace) -> Result<Corner, NoMemory>
-    ensures corner { IfOk result (λ c. c ≡ content_in input.now place) }
+    ensures corner { IfOk result (λ c. c ≡ content_corner_at input.now place) }
     ensures near { IfOk result IsCornerNear }
 {
     let table = table_sizes(input);

@@ -5,7 +5,7 @@ ghost use Rattle.lay_flow.specs.Blocks.FlowPlaces.{box_place_at};
 ghost use Rattle.lay_sizes.specs.OwnBoxes.{IsBaseline, OwnBoxFits, own_box};
 ghost use Rattle.lay_sizes.specs.SizeColumns.{sizes_at};
 ghost use Rattle.lay_table.specs.PlaceBounds.{PlacesFit};
-ghost use Rattle.lay_table.specs.TablePlacements.{IsTablePlacement, first_baseline};
+ghost use Rattle.lay_table.specs.TablePlacements.{IsTablePlacement, first_row_baseline};
 
 use crate::captions::captions_of;
 use crate::pieces::pieces_of;
@@ -43,7 +43,7 @@ pub fn table_placement(alloc: Global, input: &TableInput) -> Result<Placement, N
 fn own_box_of(input: &TableInput, places: &TablePlaces) -> Result<OwnBox, NoMemory>
     requires { PlacesFit input.now places.now }
     ensures value { IfOk result
-        (λ o. o ≡ own_box (sizes_at input.now.sizes 0) (box_place_at places.now.flow.boxes 0).height (first_baseline places.now)) }
+        (λ o. o ≡ own_box (sizes_at input.now.sizes 0) (box_place_at places.now.flow.boxes 0).height (first_row_baseline places.now)) }
     ensures fits { IfOk result OwnBoxFits }
 {
     let baseline = first_baseline(input, places)?;
@@ -54,7 +54,7 @@ fn own_box_of(input: &TableInput, places: &TablePlaces) -> Result<OwnBox, NoMemo
 /// The baseline of the first row. NoMemory is the answer where it is more than 2^59 units away.
 fn first_baseline(input: &TableInput, places: &TablePlaces) -> Result<Option<Unit>, NoMemory>
     requires { PlacesFit input.now places.now }
-    ensures value { IfOk result (λ b. b ≡ first_baseline places.now) }
+    ensures value { IfOk result (λ b. b ≡ first_row_baseline places.now) }
     ensures near { IfOk result (λ b. IfSome b (λ u. IsBaseline u.0)) }
 {
     let _ = input;

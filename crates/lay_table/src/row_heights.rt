@@ -6,7 +6,7 @@ ghost use Rattle.lay_grid.specs.RowsFit.{RowCellFits, RowsFit};
 ghost use Rattle.lay_sizes.specs.SizeBounds.{SizeFits};
 ghost use Rattle.lay_sizes.specs.SizeColumns.{HaveSizeBounds};
 ghost use Rattle.lay_table.specs.RowBounds.{RowsFitTable};
-ghost use Rattle.lay_table.specs.TableRows.{AreTracks, HasRows, bottom_of, bottoms_of, cell_height, table_content, used_size};
+ghost use Rattle.lay_table.specs.TableRows.{AreTracks, HasRows, bottom_of, bottoms_of, cell_height, table_content, height_as_size};
 
 use crate::cells::{cell_boxes, cell_of, sizes_at};
 use crate::near::near_difference;
@@ -85,7 +85,7 @@ fn row_tracks(alloc: Global, rows_in: &RowsIn) -> Result<Tracks, NoMemory>
 
 /// These heights as used sizes.
 fn used_sizes(alloc: Global, heights: &[Unit]) -> Result<Vec<Unit>, NoMemory>
-    ensures { IfOk result (λ v. v.items ≡ map used_size heights.now) }
+    ensures { IfOk result (λ v. v.items ≡ map height_as_size heights.now) }
 {
     let mut used = Vec::new(alloc);
     for height in heights {
@@ -95,7 +95,7 @@ fn used_sizes(alloc: Global, heights: &[Unit]) -> Result<Vec<Unit>, NoMemory>
 }
 
 fn used_size(height: Unit) -> Unit
-    ensures value { result ≡ used_size height }
+    ensures value { result ≡ height_as_size height }
     ensures size { IsUsedSize result.0 }
 {
     clamp_size(i128::from(height.0))

@@ -11,7 +11,7 @@ ghost use Rattle.lay_sizes.specs.UsedLengths.{or_zero};
 ghost use Rattle.lay_table.specs.NeedBounds.{NeedFits, NeedsFit};
 ghost use Rattle.lay_table.specs.RowNeeds.{align_of, baseline_if, border_height, cell_baseline, cell_of, content_edge, least_height};
 ghost use Rattle.lay_table.specs.RowNeeds.{left_for_rows, natural_box, need_by_content, needs_of, needs_of_cell};
-ghost use Rattle.lay_table.specs.RowNeeds.{own_height, own_heights, row_cell, row_spacing, row_style, rows_in};
+ghost use Rattle.lay_table.specs.RowNeeds.{row_own_height, own_heights, row_cell, row_spacing, row_style, rows_in};
 
 use crate::cell_align::CellAlign;
 use crate::cells::{align_of, cell_of, natural_box, sizes_at, style_of, table_sizes};
@@ -110,7 +110,7 @@ fn row_style(input: &TableInput, r: usize) -> &Style
 }
 
 fn own_height(style: &Style) -> Unit
-    ensures value { result ≡ own_height style.now }
+    ensures value { result ≡ row_own_height style.now }
     ensures size { IsUsedSize result.0 }
 {
     match style.sizing.height {

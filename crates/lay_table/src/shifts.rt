@@ -4,7 +4,7 @@ ghost use Rattle.std.specs.Prelude.{◌≡◌, ◌<◌, length, IfOk};
 ghost use Rattle.lay_units.specs.Units.{half_of, IsNear};
 ghost use Rattle.lay_grid.specs.RowBaselines.{baseline_at};
 ghost use Rattle.lay_table.specs.RowBounds.{RowsFitTable};
-ghost use Rattle.lay_table.specs.TableRows.{own_baseline, row_baseline, shift_by, shift_of};
+ghost use Rattle.lay_table.specs.TableRows.{cell_own_baseline, row_baseline, shift_by, cell_shift};
 
 use crate::cell_align::CellAlign;
 use crate::cells::{align_of, cell_of, natural_box, sizes_at};
@@ -42,7 +42,7 @@ fn baseline_at(baselines: &[Option<Unit>], r: usize) -> Option<Unit>
 pub fn shift_of(input: &TableInput, rows: &TableRows, c: usize) -> Result<Unit, NoMemory>
     requires fit { RowsFitTable input.now rows.now }
     requires cell { c < length input.now.table.grid.cells }
-    ensures shift { IfOk result (λ u. u ≡ shift_of input.now rows.now c) }
+    ensures shift { IfOk result (λ u. u ≡ cell_shift input.now rows.now c) }
     ensures near { IfOk result (λ u. IsNear u.0) }
 {
     let cell = cell_of(input, c);
@@ -62,7 +62,7 @@ pub fn shift_of(input: &TableInput, rows: &TableRows, c: usize) -> Result<Unit, 
 fn own_baseline(input: &TableInput, rows: &TableRows, c: usize) -> Unit
     requires fit { RowsFitTable input.now rows.now }
     requires cell { c < length input.now.table.grid.cells }
-    ensures { result ≡ own_baseline input.now rows.now c }
+    ensures { result ≡ cell_own_baseline input.now rows.now c }
 {
     cell_baseline(natural_box(input, c), sizes_at(&rows.cells, c))
 }

@@ -5,11 +5,11 @@ ghost use Rattle.lay_units.specs.Units.{IsNear};
 ghost use Rattle.lay_flow.specs.Blocks.FlowPlaces.{IsNearPlace, box_place_at};
 ghost use Rattle.lay_placements.specs.Corners.{IsCornerNear};
 ghost use Rattle.lay_placements.specs.Standings.{AreNearStandings, IsStandingNear, standing_at};
-ghost use Rattle.lay_table_grid.specs.TableBoxes.{is_row_group};
+ghost use Rattle.lay_table_grid.specs.TableBoxes.{is_row_group_kind};
 ghost use Rattle.lay_table.specs.Captions.{ArePlaces, captions_of};
 ghost use Rattle.lay_table.specs.GroupCounts.{AreGroupCounts};
 ghost use Rattle.lay_table.specs.PlaceBounds.{AreStandings, PlacesFit};
-ghost use Rattle.lay_table.specs.TableStandings.{cell_places, cell_standing, corner_inside, flow_standing, group_height};
+ghost use Rattle.lay_table.specs.TableStandings.{cell_places, cell_standing, corner_within, table_flow_standing, group_height};
 ghost use Rattle.lay_table.specs.TableStandings.{group_or_none, group_standing, number_of, row_places, row_standing, standing_by};
 ghost use Rattle.lay_table.specs.WrapperFlow.{places_in_wrapper};
 
@@ -131,7 +131,7 @@ fn group_height(rows: &Tracks, first: usize, count: usize) -> Result<Unit, NoMem
 
 /// A corner that lies so far in this one.
 fn corner_inside(content: Corner, across: Unit, down: Unit) -> Result<Corner, NoMemory>
-    ensures corner { IfOk result (λ c. c ≡ corner_inside content across.0 down.0) }
+    ensures corner { IfOk result (λ c. c ≡ corner_within content across.0 down.0) }
     ensures near { IfOk result IsCornerNear }
 {
     let x = near_sum(content.x, across)?;
@@ -263,7 +263,7 @@ fn put_in_flow(standings: &mut Vec<Standing>, places: &TablePlaces, in_flow: &[u
     ensures count { length standings.new.items ≡ length standings.old.items }
     ensures each { (k : ℕ) → k < length standings.old.items
         → standing_at standings.new.items k
-        ≡ standing_by (λ n. flow_standing (box_place_at places.now.flow.boxes n)) (standing_at standings.old.items k)
+        ≡ standing_by (λ n. table_flow_standing (box_place_at places.now.flow.boxes n)) (standing_at standings.old.items k)
         (number_of in_flow.now k) }
     ensures near { AreNearStandings standings.new.items }
 {
@@ -275,7 +275,7 @@ fn put_in_flow(standings: &mut Vec<Standing>, places: &TablePlaces, in_flow: &[u
 
 fn flow_standing(place: BoxPlace) -> Standing
     requires { IsNearPlace place }
-    ensures value { result ≡ flow_standing place }
+    ensures value { result ≡ table_flow_standing place }
     ensures near { IsStandingNear result }
 {
     Standing {

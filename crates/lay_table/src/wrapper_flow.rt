@@ -9,7 +9,7 @@ ghost use Rattle.lay_sizes.specs.SizeColumns.{sizes_at};
 ghost use Rattle.lay_table.specs.Captions.{ArePlaces, captions_of};
 ghost use Rattle.lay_table.specs.PlaceBounds.{AllFit};
 ghost use Rattle.lay_table.specs.WrapperFlow.{box_inside, boxes_in_wrapper, caption_inside};
-ghost use Rattle.lay_table.specs.WrapperFlow.{captions_inside, places_in_wrapper, table_box, wrapper_box};
+ghost use Rattle.lay_table.specs.WrapperFlow.{captions_inside, places_in_wrapper, table_own_box, wrapper_box};
 
 use crate::captions::Captions;
 use crate::cells::{own_box_at, sizes_at, table_sizes};
@@ -111,7 +111,7 @@ fn caption_inside(input: &TableInput, k: usize) -> FlowBox
 /// The table box, from outside.
 fn table_box(table: BoxSizes, rows: &Tracks) -> OwnBox
     requires { SizeFits table }
-    ensures value { result ≡ table_box table rows.now }
+    ensures value { result ≡ table_own_box table rows.now }
     ensures fits { OwnBoxFits result }
 {
     let height = border_height(table, table_content(&table, rows));

@@ -3,14 +3,14 @@ use Rattle.std.proofs.Common.{◌≡◌, ℕ, ◌+◌, ◌<◌, Bool, true, fals
 use Rattle.std.proofs.lemmas.List.{get_or_default, length-append}
 use Rattle.lay_table_grid.specs.declared.placed.PlacedCell.{PlacedCell}
 use Rattle.lay_table_grid.specs.MeetingBorders.{covering, covers, item}
-use Rattle.lay_table_grid.specs.Pass.Slots.{AreSlots, covering_from, entry_at, first_of, only_if}
+use Rattle.lay_table_grid.specs.Pass.Slots.{AreSlots, covering_from, entry_at, first_present, only_if}
 
 at_end : (earlier cells : List PlacedCell) (x : PlacedCell) → slice_get (earlier ++ x ∷ cells) (length earlier) ≡ Some x
 at_end [] cells x = refl
 at_end (y ∷ earlier) cells x = at_end earlier cells x
 
 by_test : (earlier cells : List PlacedCell) (x : PlacedCell) (rest : Option PlacedCell) (found : Option ℕ) (b : Bool) → item (earlier ++ x ∷ cells) found ≡ rest
-    → item (earlier ++ x ∷ cells) (first_of (only_if b (length earlier)) found) ≡ (if b then Some x else rest)
+    → item (earlier ++ x ∷ cells) (first_present (only_if b (length earlier)) found) ≡ (if b then Some x else rest)
 by_test earlier cells x rest found true e = at_end earlier cells x
 by_test earlier cells x rest found false e = e
 

@@ -4,7 +4,7 @@ use Rattle.std.specs.Prelude.{⊤}
 use Rattle.lay_box_tree.specs.declared.box_tree.BoxNode.{BoxNode}
 use Rattle.lay_table_grid.specs.declared.rows.TableRow.{TableRow}
 use Rattle.lay_table_grid.specs.PlacedCells.{places_of_cells}
-use Rattle.lay_table_grid.specs.TableBoxes.{cells_of_row, cells_of_rows, column_boxes_of, column_count, columns_from, has_columns, is_cell_of, is_ranked, is_table, places_from, places_of, ranked_places, row_at, row_places}
+use Rattle.lay_table_grid.specs.TableBoxes.{cells_of_row, cells_of_rows, column_boxes_of, column_count, columns_from, has_columns, is_cell_of, is_ranked, is_table_kind, places_from, places_of, ranked_places, row_at, drawn_row_places}
 use Rattle.lay_table_grid.specs.declared.grid.TableCell.{TableCell}
 use Rattle.lay_table_grid.specs.GridLaws.{GridsAreOfBoxes}
 use Rattle.lay_table_grid.specs.TableGrid.{placed_of}
@@ -38,7 +38,7 @@ first_below : (n : ℕ) (xs : List ℕ) → 0 < n → Below n xs → slice_index
 first_below n [] some below = some
 first_below n (x ∷ xs) some below = below.0
 
-rows_below : (boxes : List BoxNode) → Below (length boxes) (row_places boxes)
+rows_below : (boxes : List BoxNode) → Below (length boxes) (drawn_row_places boxes)
 rows_below boxes =
     both (length boxes) (ranked_places boxes 0) (ranked_places boxes 1 ++ ranked_places boxes 2) (of_boxes (is_ranked boxes 0) boxes)
     (both (length boxes) (ranked_places boxes 1) (ranked_places boxes 2) (of_boxes (is_ranked boxes 1) boxes) (of_boxes (is_ranked boxes 2) boxes))
@@ -71,9 +71,9 @@ columns boxes n k (box ∷ rest) fits =
 pub grids_are_of_boxes_lem : GridsAreOfBoxes
 grids_are_of_boxes_lem boxes grid some is = record {
   table = subst (λ (k : ℕ). k < length boxes) (sym is.table)
-      (first_below (length boxes) (places_of (λ b. is_table b.kind) boxes) some (of_boxes (λ b. is_table b.kind) boxes));
+      (first_below (length boxes) (places_of (λ b. is_table_kind b.kind) boxes) some (of_boxes (λ b. is_table_kind b.kind) boxes));
   rows = subst (λ (rows : List TableRow). All (λ (row : TableRow). row.place < length boxes) rows) (sym is.rows)
-      (rows_at (length boxes) boxes (row_places boxes) (rows_below boxes));
+      (rows_at (length boxes) boxes (drawn_row_places boxes) (rows_below boxes));
   cells = cells_at (length boxes) grid.cells (subst (Below (length boxes)) (sym is.cells.places) (cells_below boxes grid.rows));
   column_boxes = subst (λ (ks : List ℕ). All (λ (k : ℕ). k < length boxes) ks) (sym is.column_boxes)
       (at (length boxes) (column_boxes_of boxes) (columns boxes (length boxes) 0 boxes (omega arith)));

@@ -14,7 +14,7 @@ use Rattle.lay_table_grid.specs.TableParts.{TableParts}
 use Rattle.lay_table_grid.specs.declared.elements.Element.{Element}
 use Rattle.lay_table_grid.specs.declared.elements.Side.{Side}
 use Rattle.lay_table_grid.specs.declared.elements.Side.TheVariants as side
-use Rattle.lay_table_grid.specs.MeetingBorders.{above_and_below, among, are_one, before, border_of, border_of_box, cell_element, cells_above, cells_left, column_element, column_ends, column_group_element, covering_in, group_element, is_inside_column_group, is_inside_group, left_and_right, lines_above, lines_left, meeting_above, meeting_left, place_of, rim_above, rim_left, row_element, row_ends, table_element, unless, where_so, width_on}
+use Rattle.lay_table_grid.specs.MeetingBorders.{above_and_below, among, are_one, before, border_of, border_of_box, cell_element, cells_above, cells_left, column_element, column_ends, column_group_element, covering_in, group_element, is_inside_column_group, is_inside_group, left_and_right, lines_above, lines_left, meeting_above, meeting_left, cell_box_place, rim_above, rim_left, row_element, row_ends, table_element, unless, where_so, width_on}
 use Rattle.lay_table_grid.specs.Pass.UsedBorders.{AreUsed}
 
 abbrev Used : List Cand → Type 0
@@ -78,7 +78,7 @@ used_above p r c =
     let all = both (cells_above p above below) (lines_above p r ++ rim_above p r c) (stacked p (cell_element above) (cell_element below))
     (both (lines_above p r) (rim_above p r c) lines rim) in
     used_at (meeting_above p r c)
-    (used_unless (are_one (place_of above) (place_of below)) (cells_above p above below ++ (lines_above p r ++ rim_above p r c)) all)
+    (used_unless (are_one (cell_box_place above) (cell_box_place below)) (cells_above p above below ++ (lines_above p r ++ rim_above p r c)) all)
 
 pub used_left : (p : TableParts) (r c : ℕ) → AreUsed (meeting_left p r c)
 used_left p r c =
@@ -94,7 +94,7 @@ used_left p r c =
     let all = both (cells_left p left right) (lines_left p c ++ rim_left p r c) (abreast p (cell_element left) (cell_element right))
     (both (lines_left p c) (rim_left p r c) lines rim) in
     used_at (meeting_left p r c)
-    (used_unless (are_one (place_of left) (place_of right)) (cells_left p left right ++ (lines_left p c ++ rim_left p r c)) all)
+    (used_unless (are_one (cell_box_place left) (cell_box_place right)) (cells_left p left right ++ (lines_left p c ++ rim_left p r c)) all)
 
 drawn_used : (s : BorderStyle) (width : ℤ) → IsUsedSize width → IsUsedSize (drawn_width s width)
 drawn_used style.None width used = zero_is_size

@@ -23,7 +23,7 @@ use Rattle.lay_borders.specs.declared.candidate.Cand.{Cand}
 use Rattle.lay_borders.specs.declared.candidate.Origin.TheVariants as origin
 use Rattle.lay_table_grid.specs.declared.rows.TableRow.{TableRow}
 use Rattle.lay_table_grid.specs.declared.placed.PlacedCell.{PlacedCell}
-use Rattle.lay_table_grid.specs.TableBoxes.{is_column, is_column_group, is_row_group, kind_at}
+use Rattle.lay_table_grid.specs.TableBoxes.{is_column_kind, is_column_group_kind, is_row_group_kind, kind_at}
 use Rattle.lay_table_grid.specs.TableParts.{TableParts}
 use Rattle.lay_table_grid.specs.declared.elements.Element.{Element}
 use Rattle.lay_table_grid.specs.declared.elements.Side.{Side}
@@ -113,9 +113,9 @@ covering_in cells (Some r) None = None
 covering_in cells (Some r) (Some c) = covering cells r c
 
 -- the place of a cell's box, which is its own alone
-abbrev pub place_of : Option PlacedCell → Option ℕ
-place_of None = None
-place_of (Some placed) = Some placed.place
+abbrev pub cell_box_place : Option PlacedCell → Option ℕ
+cell_box_place None = None
+cell_box_place (Some placed) = Some placed.place
 
 abbrev pub cell_element : Option PlacedCell → Option Element
 cell_element None = None
@@ -127,13 +127,13 @@ cell_element (Some placed) = Some (record {
 })
 
 -- the row with this number
-abbrev pub row_of : ℕ → Option TableRow → Option Element
-row_of r None = None
-row_of r (Some row) = Some (record { place = row.place; origin = origin.Row; row = r; column = 0 })
+abbrev pub row_with_number : ℕ → Option TableRow → Option Element
+row_with_number r None = None
+row_with_number r (Some row) = Some (record { place = row.place; origin = origin.Row; row = r; column = 0 })
 
 abbrev pub row_element : TableParts → Option ℕ → Option Element
 row_element p None = None
-row_element p (Some r) = row_of r (slice_get p.rows r)
+row_element p (Some r) = row_with_number r (slice_get p.rows r)
 
 -- what each row stands in
 abbrev pub row_groups : TableParts → List ℕ
@@ -143,7 +143,7 @@ row_groups p = map (λ row. row.group) p.rows
 abbrev pub group_of : TableParts → ℕ → Option ℕ → Option Element
 group_of p r None = None
 group_of p r (Some group) =
-    if is_row_group (kind_at p.boxes group)
+    if is_row_group_kind (kind_at p.boxes group)
     then Some (record { place = group; origin = origin.RowGroup; row = first_of_run (row_groups p) r; column = 0 })
     else None
 
@@ -155,7 +155,7 @@ group_element p (Some r) = group_of p r (slice_get (row_groups p) r)
 abbrev pub column_of : TableParts → ℕ → Option ℕ → Option Element
 column_of p c None = None
 column_of p c (Some k) =
-    if is_column (kind_at p.boxes k)
+    if is_column_kind (kind_at p.boxes k)
     then Some (record { place = k; origin = origin.Column; row = 0; column = c })
     else None
 
@@ -165,7 +165,7 @@ column_element p (Some c) = column_of p c (slice_get p.column_boxes c)
 
 -- what a column stands in: its box, where that is a column group, or else the parent of that
 abbrev pub around_column : List BoxNode → ℕ → ℕ
-around_column boxes k = if is_column_group (kind_at boxes k) then k else box_parent boxes k
+around_column boxes k = if is_column_group_kind (kind_at boxes k) then k else box_parent boxes k
 
 abbrev pub column_groups : TableParts → List ℕ
 column_groups p = map (around_column p.boxes) p.column_boxes
@@ -174,7 +174,7 @@ column_groups p = map (around_column p.boxes) p.column_boxes
 abbrev pub column_group_of : TableParts → ℕ → Option ℕ → Option Element
 column_group_of p c None = None
 column_group_of p c (Some group) =
-    if is_column_group (kind_at p.boxes group)
+    if is_column_group_kind (kind_at p.boxes group)
     then Some (record { place = group; origin = origin.ColumnGroup; row = 0; column = first_of_run (column_groups p) c })
     else None
 
@@ -236,7 +236,7 @@ abbrev pub meeting_above : TableParts → ℕ → ℕ → List Cand
 meeting_above p r c =
     let above = covering_in p.cells (before r) (Some c) in
     let below = covering_in p.cells (among (length p.rows) r) (Some c) in
-    unless (are_one (place_of above) (place_of below))
+    unless (are_one (cell_box_place above) (cell_box_place below))
     (cells_above p above below ++ (lines_above p r ++ rim_above p r c))
 
 -- the borders of columns and column groups on the left of the column c
@@ -259,5 +259,5 @@ abbrev pub meeting_left : TableParts → ℕ → ℕ → List Cand
 meeting_left p r c =
     let left = covering_in p.cells (Some r) (before c) in
     let right = covering_in p.cells (Some r) (among p.columns c) in
-    unless (are_one (place_of left) (place_of right))
+    unless (are_one (cell_box_place left) (cell_box_place right))
     (cells_left p left right ++ (lines_left p c ++ rim_left p r c))

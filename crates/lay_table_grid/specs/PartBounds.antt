@@ -12,14 +12,14 @@ pub record CoversRows (rows : ℕ) (placed : PlacedCell) : Type 0 where
   pub some_columns : 1 ≤ placed.cell.area.columns
 
 -- and all these among so many
-pub record IsInside (rows columns : ℕ) (placed : PlacedCell) : Type 0 where
+pub record IsPlacedInGrid (rows columns : ℕ) (placed : PlacedCell) : Type 0 where
   pub covers : CoversRows rows placed
   pub last_column : right_edge placed.cell ≤ columns
 
 -- counts fit, and cells lie inside the grid
-pub record PartsFit (p : TableParts) : Type 0 where
+pub record TablePartsFit (p : TableParts) : Type 0 where
   pub rows : length p.rows < 2 ^ 32
   pub columns : p.columns < 2 ^ 32
   pub column_boxes : length p.column_boxes ≤ p.columns
-  pub cells : All (IsInside (length p.rows) p.columns) p.cells
+  pub cells : All (IsPlacedInGrid (length p.rows) p.columns) p.cells
   pub few : length p.cells < 2 ^ 32

@@ -10,15 +10,15 @@ use Rattle.std.specs.List.{list_any}
 use Rattle.lay_box_tree.specs.declared.box_tree.BoxKind.{BoxKind}
 use Rattle.lay_box_tree.specs.declared.box_tree.BoxKind.TheVariants as kind
 use Rattle.lay_box_tree.specs.declared.box_tree.BoxNode.{BoxNode}
-use Rattle.lay_box_tree.specs.Kinds.{is_cell}
+use Rattle.lay_box_tree.specs.Kinds.{is_cell_kind}
 use Rattle.lay_box_tree.specs.Containers.{box_parent}
 use Rattle.lay_grid.specs.declared.cells.RowSpec.{RowSpec}
 use Rattle.lay_grid.specs.declared.cells.Span.{Span}
 use Rattle.lay_table_grid.specs.declared.rows.TableRow.{TableRow}
 
-abbrev pub is_table : BoxKind → Bool
-is_table kind.Table = true
-is_table _ = false
+abbrev pub is_table_kind : BoxKind → Bool
+is_table_kind kind.Table = true
+is_table_kind _ = false
 
 abbrev pub is_header_group : BoxKind → Bool
 is_header_group kind.HeaderGroup = true
@@ -29,23 +29,23 @@ is_footer_group kind.FooterGroup = true
 is_footer_group _ = false
 
 -- one of the three kinds of row groups
-abbrev pub is_row_group : BoxKind → Bool
-is_row_group kind.RowGroup = true
-is_row_group kind.HeaderGroup = true
-is_row_group kind.FooterGroup = true
-is_row_group _ = false
+abbrev pub is_row_group_kind : BoxKind → Bool
+is_row_group_kind kind.RowGroup = true
+is_row_group_kind kind.HeaderGroup = true
+is_row_group_kind kind.FooterGroup = true
+is_row_group_kind _ = false
 
-abbrev pub is_row : BoxKind → Bool
-is_row kind.Row = true
-is_row _ = false
+abbrev pub is_row_kind : BoxKind → Bool
+is_row_kind kind.Row = true
+is_row_kind _ = false
 
-abbrev pub is_column : BoxKind → Bool
-is_column (kind.Column span) = true
-is_column _ = false
+abbrev pub is_column_kind : BoxKind → Bool
+is_column_kind (kind.Column span) = true
+is_column_kind _ = false
 
-abbrev pub is_column_group : BoxKind → Bool
-is_column_group (kind.ColumnGroup span) = true
-is_column_group _ = false
+abbrev pub is_column_group_kind : BoxKind → Bool
+is_column_group_kind (kind.ColumnGroup span) = true
+is_column_group_kind _ = false
 
 abbrev pub kind_at : List BoxNode → ℕ → BoxKind
 kind_at boxes k = slice_index_or (map (λ b. b.kind) boxes) k kind.Block
@@ -61,7 +61,7 @@ places_of test boxes = places_from test 0 boxes
 
 -- the table box
 abbrev pub table_place : List BoxNode → ℕ
-table_place boxes = slice_index (places_of (λ b. is_table b.kind) boxes) 0
+table_place boxes = slice_index (places_of (λ b. is_table_kind b.kind) boxes) 0
 
 -- the first header group and the first footer group, if there is one
 abbrev pub header_place : List BoxNode → Option ℕ
@@ -85,25 +85,25 @@ rank_of header footer box = if is_in header box then 0 else (if is_in footer box
 
 abbrev pub is_ranked : List BoxNode → ℕ → BoxNode → Bool
 is_ranked boxes rank box =
-    is_row box.kind && (rank_of (header_place boxes) (footer_place boxes) box == rank)
+    is_row_kind box.kind && (rank_of (header_place boxes) (footer_place boxes) box == rank)
 
 abbrev pub ranked_places : List BoxNode → ℕ → List ℕ
 ranked_places boxes rank = places_of (is_ranked boxes rank) boxes
 
 -- the places of the rows as they are drawn
-abbrev pub row_places : List BoxNode → List ℕ
-row_places boxes = ranked_places boxes 0 ++ (ranked_places boxes 1 ++ ranked_places boxes 2)
+abbrev pub drawn_row_places : List BoxNode → List ℕ
+drawn_row_places boxes = ranked_places boxes 0 ++ (ranked_places boxes 1 ++ ranked_places boxes 2)
 
 -- a row, and what it stands in: its row group or the table box
 abbrev pub row_at : List BoxNode → ℕ → TableRow
 row_at boxes k = record { place = k; group = box_parent boxes k }
 
 abbrev pub rows_of : List BoxNode → List TableRow
-rows_of boxes = map (row_at boxes) (row_places boxes)
+rows_of boxes = map (row_at boxes) (drawn_row_places boxes)
 
 -- the cells of the row at this place
 abbrev pub is_cell_of : ℕ → BoxNode → Bool
-is_cell_of row box = is_cell box.kind && (box.parent == row)
+is_cell_of row box = is_cell_kind box.kind && (box.parent == row)
 
 abbrev pub cells_of_row : List BoxNode → ℕ → List ℕ
 cells_of_row boxes row = places_of (is_cell_of row) boxes
@@ -120,7 +120,7 @@ span_of _ = record { columns = 1; rows = 1 }
 
 -- a row group that is drawn where it stands in the document: any but the first header group and the first footer group
 abbrev pub stays_at : List BoxNode → ℕ → Bool
-stays_at boxes k = is_row_group (kind_at boxes k) && not (is_place (header_place boxes) k || is_place (footer_place boxes) k)
+stays_at boxes k = is_row_group_kind (kind_at boxes k) && not (is_place (header_place boxes) k || is_place (footer_place boxes) k)
 
 -- how many of those stand before the box at k
 abbrev pub groups_before : List BoxNode → ℕ → ℕ
@@ -131,7 +131,7 @@ groups_before boxes (suc k) = groups_before boxes k + (if stays_at boxes k then 
 -- together where no row group is drawn between them, be it an empty one; they have a number past those of the boxes.
 abbrev pub group_number : List BoxNode → TableRow → ℕ
 group_number boxes row =
-    if is_row_group (kind_at boxes row.group) then row.group else length boxes + groups_before boxes row.place
+    if is_row_group_kind (kind_at boxes row.group) then row.group else length boxes + groups_before boxes row.place
 
 -- the rows as a grid takes them: the group of each and what its cells span
 abbrev pub row_spec : List BoxNode → TableRow → RowSpec
@@ -145,7 +145,7 @@ row_specs boxes rows = map (row_spec boxes) rows
 
 -- columns are in the box at this place
 abbrev pub has_columns : List BoxNode → ℕ → Bool
-has_columns boxes k = list_any (λ b. is_column b.kind && (b.parent == k)) boxes
+has_columns boxes k = list_any (λ b. is_column_kind b.kind && (b.parent == k)) boxes
 
 -- for how many columns a box stands: a column group with columns in it for none
 abbrev pub column_count : (divided : Bool) → BoxKind → ℕ

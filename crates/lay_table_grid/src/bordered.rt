@@ -1,7 +1,7 @@
 //! Cells with their borders.
 
 ghost use Rattle.std.specs.Prelude.{◌≡◌, ◌^◌, ◌<◌, length, map, All, IfOk, ℕ};
-ghost use Rattle.lay_table_grid.specs.PartBounds.{IsInside};
+ghost use Rattle.lay_table_grid.specs.PartBounds.{IsPlacedInGrid};
 ghost use Rattle.lay_table_grid.specs.TableParts.{TableParts};
 ghost use Rattle.lay_table_grid.specs.UsedSides.{AreUsedSides};
 ghost use Rattle.lay_table_grid.specs.CellAreas.{IsInsideGrid};
@@ -60,7 +60,7 @@ fn cells_between(
     edges: &Edges<'_>,
     placed: &[PlacedCell],
 ) -> Result<Vec<TableCell>, NoMemory>
-    requires inside { All (IsInside (length edges.now.rows) edges.now.columns) placed.now }
+    requires inside { All (IsPlacedInGrid (length edges.now.rows) edges.now.columns) placed.now }
     requires rows { length edges.now.rows < 2 ^ 32 }
     requires columns { edges.now.columns < 2 ^ 32 }
     ensures placed { IfOk result (λ cells. map placed_of cells.items ≡ placed.now) }
@@ -80,7 +80,7 @@ fn collapsed_cell(
     edges: &Edges<'_>,
     placed: PlacedCell,
 ) -> Result<TableCell, NoMemory>
-    requires inside { IsInside (length edges.now.rows) edges.now.columns placed }
+    requires inside { IsPlacedInGrid (length edges.now.rows) edges.now.columns placed }
     requires rows { length edges.now.rows < 2 ^ 32 }
     requires columns { edges.now.columns < 2 ^ 32 }
     ensures placed { IfOk result (λ cell. placed_of cell ≡ placed) }
@@ -98,7 +98,7 @@ fn area_of(placed: PlacedCell) -> CellArea
     requires rows { placed.cell.area.end < 2 ^ 32 }
     requires columns { placed.cell.left < 2 ^ 32 }
     ensures stand { stand_of result ≡ placed.cell }
-    ensures inside { (rows columns : ℕ) → IsInside rows columns placed → IsInsideGrid rows columns result }
+    ensures inside { (rows columns : ℕ) → IsPlacedInGrid rows columns placed → IsInsideGrid rows columns result }
 {
     CellArea {
         row: placed.cell.area.row as u32,

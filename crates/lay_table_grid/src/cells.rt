@@ -5,7 +5,7 @@ ghost use Rattle.lay_grid.specs.declared.cells.Span.{Span};
 ghost use Rattle.lay_grid.specs.Slots.{SpanRows};
 ghost use Rattle.lay_table_grid.specs.TableBoxes.{cells_of_rows, kind_at, row_spec, row_specs, span_of};
 ghost use Rattle.lay_table_grid.specs.Pass.CellLists.{AreCellLists, Adds, CellListsTo, IsRowOf};
-ghost use Rattle.lay_table_grid.specs.Pass.GroupCounts.{AreGroupCounts};
+ghost use Rattle.lay_table_grid.specs.Pass.GroupCounts.{CountsGroups};
 ghost use Rattle.lay_table_grid.specs.Pass.SpanColumns.{SpanColumns};
 
 use crate::group_numbers::{group_counts, group_number};
@@ -89,7 +89,7 @@ fn row_spec(
 ) -> Result<RowSpec, NoMemory>
     requires row { IsRowOf boxes.now row }
     requires lists { AreCellLists boxes.now lists.now }
-    requires counts { AreGroupCounts boxes.now counts.now }
+    requires counts { CountsGroups boxes.now counts.now }
     ensures spec { IfOk result (λ spec. spec ≡ row_spec boxes.now row) }
     ensures rows { IfOk result (λ spec. All (λ (span : Span). 1 ≤ span.rows) spec.cells) }
     ensures columns { IfOk result (λ spec. All (λ (span : Span). 1 ≤ span.columns) spec.cells) }

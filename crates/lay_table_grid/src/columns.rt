@@ -2,7 +2,7 @@
 
 ghost use Rattle.std.specs.Prelude.{◌≡◌, ◌+◌, ◌<◌, ◌++◌, length, replicate, IfOk, OnOk};
 ghost use Rattle.lay_table_grid.specs.TableBoxes.{column_boxes_of, column_count};
-ghost use Rattle.lay_table_grid.specs.Pass.ColumnMarks.{AreColumnMarks, AreColumnsTo, ColumnMarksTo, Marks};
+ghost use Rattle.lay_table_grid.specs.Pass.ColumnMarks.{AreColumnMarks, AreColumnsTo, ColumnMarksTo, MarksColumn};
 
 use crate::kinds::is_column;
 use lay_box_tree::{BoxKind, BoxNode};
@@ -79,7 +79,7 @@ fn note_column(marks: &mut Vec<bool>, boxes: &[BoxNode], k: usize)
 }
 
 fn mark(marks: &mut Vec<bool>, at: usize)
-    ensures { Marks at marks.old.items marks.new.items }
+    ensures { MarksColumn at marks.old.items marks.new.items }
 {
     if at < marks.len() {
         marks[at] = true;

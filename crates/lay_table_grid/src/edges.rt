@@ -1,7 +1,7 @@
 //! The edges of a table's grid, and the elements whose borders end at them (CSS 2.2, 17.6.2.1).
 
 ghost use Rattle.std.specs.Prelude.{◌≡◌, ◌<◌, length, All, IfOk, IfSome};
-ghost use Rattle.lay_table_grid.specs.Pass.EdgeBounds.{IsCounted};
+ghost use Rattle.lay_table_grid.specs.Pass.EdgeBounds.{IsBorderCounted};
 ghost use Rattle.lay_table_grid.specs.MeetingBorders.{column_element, column_group_element, covering};
 ghost use Rattle.lay_table_grid.specs.MeetingBorders.{covering_in, group_element};
 ghost use Rattle.lay_table_grid.specs.MeetingBorders.{is_inside_column_group, is_inside_group};
@@ -40,7 +40,7 @@ pub struct Edges<'a> {
 
 impl<'a> Model for Edges<'a> {
     ghost use Rattle.lay_table_grid.specs.TableParts.{TableParts};
-    ghost use Rattle.lay_table_grid.specs.Pass.EdgeBounds.{AreKnown};
+    ghost use Rattle.lay_table_grid.specs.Pass.EdgeBounds.{AreKnownLines};
 
     ghost Value = { TableParts };
 
@@ -53,7 +53,7 @@ impl<'a> Model for Edges<'a> {
       columns = e.columns;
     } };
 
-    ghost invariant = { λ e. AreKnown
+    ghost invariant = { λ e. AreKnownLines
         (record {
           boxes = e.boxes.now;
           table = e.table;
@@ -128,7 +128,7 @@ impl<'a> Edges<'a> {
     pub(crate) fn cell_in(&self, row: Option<usize>, column: Option<usize>) -> Option<PlacedCell>
         requires { IfSome row (λ r. r < length self.now.rows) }
         ensures cell { result ≡ covering_in self.now.cells row column }
-        ensures counted { IfSome result IsCounted }
+        ensures counted { IfSome result IsBorderCounted }
     {
         match (row, column) {
             (Some(row), Some(column)) => self.cell_at(row, column),
@@ -139,7 +139,7 @@ impl<'a> Edges<'a> {
     fn cell_at(&self, row: usize, column: usize) -> Option<PlacedCell>
         requires { row < length self.now.rows }
         ensures cell { result ≡ covering self.now.cells row column }
-        ensures counted { IfSome result IsCounted }
+        ensures counted { IfSome result IsBorderCounted }
     {
         picked(self.cells, self.slots[row].at(column))
     }
@@ -239,9 +239,9 @@ impl<'a> Edges<'a> {
 
 /// The cell with a number, if there are both.
 fn picked(cells: &[PlacedCell], number: Option<u32>) -> Option<PlacedCell>
-    requires { All IsCounted cells.now }
+    requires { All IsBorderCounted cells.now }
     ensures cell { result ≡ item_of cells.now number }
-    ensures counted { IfSome result IsCounted }
+    ensures counted { IfSome result IsBorderCounted }
 {
     match cells.get(number? as usize) {
         Some(cell) => Some(*cell),

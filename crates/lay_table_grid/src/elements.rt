@@ -4,9 +4,9 @@ ghost use Rattle.std.specs.Prelude.{◌≡◌, ◌++◌, slice_get, IfSome, OnOk
 ghost use Rattle.lay_units.specs.Units.{IsUsedSize};
 ghost use Rattle.lay_style.specs.LengthValues.{size_of};
 ghost use Rattle.lay_table_grid.specs.MeetingBorders.{border_of, border_of_box, border_on};
-ghost use Rattle.lay_table_grid.specs.MeetingBorders.{cell_element, conflict_style, place_of};
+ghost use Rattle.lay_table_grid.specs.MeetingBorders.{cell_element, conflict_style, cell_box_place};
 ghost use Rattle.lay_table_grid.specs.MeetingBorders.{style_on, width_on};
-ghost use Rattle.lay_table_grid.specs.Pass.EdgeBounds.{IsCounted};
+ghost use Rattle.lay_table_grid.specs.Pass.EdgeBounds.{IsBorderCounted};
 
 use crate::placed::PlacedCell;
 use lay_borders::{BorderStyle, Cand, Origin};
@@ -35,7 +35,7 @@ pub struct Element {
 
 /// The element of a cell.
 pub fn cell_element(cell: Option<PlacedCell>) -> Option<Element>
-    requires { IfSome cell IsCounted }
+    requires { IfSome cell IsBorderCounted }
     ensures { result ≡ cell_element cell }
 {
     let placed = cell?;
@@ -49,7 +49,7 @@ pub fn cell_element(cell: Option<PlacedCell>) -> Option<Element>
 
 /// The place of a cell's box.
 pub fn place_of(cell: Option<PlacedCell>) -> Option<usize>
-    ensures { result ≡ place_of cell }
+    ensures { result ≡ cell_box_place cell }
 {
     Some(cell?.place)
 }

@@ -2,7 +2,7 @@
 
 ghost use Rattle.std.specs.Prelude.{◌≡◌, ◌+◌, ◌<◌, ◌≤◌, length, slice_index, IfOk};
 ghost use Rattle.lay_table_grid.specs.Pass.CellLists.{IsRowOf};
-ghost use Rattle.lay_table_grid.specs.Pass.GroupCounts.{AreGroupCounts};
+ghost use Rattle.lay_table_grid.specs.Pass.GroupCounts.{CountsGroups};
 ghost use Rattle.lay_table_grid.specs.TableBoxes.{footer_place, group_number, groups_before};
 ghost use Rattle.lay_table_grid.specs.TableBoxes.{header_place, is_place, stays_at};
 
@@ -14,7 +14,7 @@ use std::alloc::Global;
 
 /// For each box how many row groups stand before it, but for those that are drawn first and last.
 pub fn group_counts(alloc: Global, boxes: &[BoxNode]) -> Result<Vec<usize>, NoMemory>
-    ensures { IfOk result (λ counts. AreGroupCounts boxes.now counts.items) }
+    ensures { IfOk result (λ counts. CountsGroups boxes.now counts.items) }
 {
     let outer = outer_groups(boxes);
     let mut counts = Vec::with_capacity(alloc, boxes.len())?;
@@ -65,7 +65,7 @@ fn is_place(place: Option<usize>, k: usize) -> bool
 /// document.
 pub fn group_number(boxes: &[BoxNode], row: TableRow, counts: &[usize]) -> Result<u32, NoMemory>
     requires row { IsRowOf boxes.now row }
-    requires counts { AreGroupCounts boxes.now counts.now }
+    requires counts { CountsGroups boxes.now counts.now }
     ensures { IfOk result (λ number. number ≡ group_number boxes.now row) }
 {
     if is_row_group_at(boxes, row.group) {

@@ -1,15 +1,15 @@
 //! What the kind of a box says of it in a table (CSS 2.2, 17.2).
 
 ghost use Rattle.std.specs.Prelude.{◌≡◌, ◌≤◌};
-ghost use Rattle.lay_table_grid.specs.TableBoxes.{is_column, is_column_group, is_footer_group};
-ghost use Rattle.lay_table_grid.specs.TableBoxes.{is_header_group, is_row, is_row_group, is_table};
+ghost use Rattle.lay_table_grid.specs.TableBoxes.{is_column_kind, is_column_group_kind, is_footer_group};
+ghost use Rattle.lay_table_grid.specs.TableBoxes.{is_header_group, is_row_kind, is_row_group_kind, is_table_kind};
 ghost use Rattle.lay_table_grid.specs.TableBoxes.{kind_at, span_of};
 
 use lay_box_tree::{BoxKind, BoxNode};
 use lay_grid::Span;
 
 pub fn is_table(kind: &BoxKind) -> bool
-    ensures { result ≡ is_table kind.now }
+    ensures { result ≡ is_table_kind kind.now }
 {
     matches!(kind, BoxKind::Table)
 }
@@ -28,7 +28,7 @@ pub fn is_footer_group(kind: &BoxKind) -> bool
 
 /// Whether it is a row group, of any of the three kinds.
 pub fn is_row_group(kind: &BoxKind) -> bool
-    ensures { result ≡ is_row_group kind.now }
+    ensures { result ≡ is_row_group_kind kind.now }
 {
     matches!(
         kind,
@@ -37,19 +37,19 @@ pub fn is_row_group(kind: &BoxKind) -> bool
 }
 
 pub fn is_row(kind: &BoxKind) -> bool
-    ensures { result ≡ is_row kind.now }
+    ensures { result ≡ is_row_kind kind.now }
 {
     matches!(kind, BoxKind::Row)
 }
 
 pub fn is_column(kind: &BoxKind) -> bool
-    ensures { result ≡ is_column kind.now }
+    ensures { result ≡ is_column_kind kind.now }
 {
     matches!(kind, BoxKind::Column { .. })
 }
 
 pub fn is_column_group(kind: &BoxKind) -> bool
-    ensures { result ≡ is_column_group kind.now }
+    ensures { result ≡ is_column_group_kind kind.now }
 {
     matches!(kind, BoxKind::ColumnGroup { .. })
 }
@@ -74,7 +74,7 @@ pub fn span_of(kind: &BoxKind) -> Span
 
 /// Whether the box at a place is a row group.
 pub fn is_row_group_at(boxes: &[BoxNode], place: usize) -> bool
-    ensures { result ≡ is_row_group (kind_at boxes.now place) }
+    ensures { result ≡ is_row_group_kind (kind_at boxes.now place) }
 {
     match boxes.get(place) {
         Some(node) => is_row_group(&node.kind),
@@ -84,7 +84,7 @@ pub fn is_row_group_at(boxes: &[BoxNode], place: usize) -> bool
 
 /// Whether the box at a place is a column.
 pub fn is_column_at(boxes: &[BoxNode], place: usize) -> bool
-    ensures { result ≡ is_column (kind_at boxes.now place) }
+    ensures { result ≡ is_column_kind (kind_at boxes.now place) }
 {
     match boxes.get(place) {
         Some(node) => is_column(&node.kind),
@@ -94,7 +94,7 @@ pub fn is_column_at(boxes: &[BoxNode], place: usize) -> bool
 
 /// Whether the box at a place is a column group.
 pub fn is_column_group_at(boxes: &[BoxNode], place: usize) -> bool
-    ensures { result ≡ is_column_group (kind_at boxes.now place) }
+    ensures { result ≡ is_column_group_kind (kind_at boxes.now place) }
 {
     match boxes.get(place) {
         Some(node) => is_column_group(&node.kind),

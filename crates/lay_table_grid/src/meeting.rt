@@ -5,7 +5,7 @@ ghost use Rattle.lay_table_grid.specs.MeetingBorders.{above_and_below, cells_abo
 ghost use Rattle.lay_table_grid.specs.MeetingBorders.{column_ends, left_and_right, lines_above};
 ghost use Rattle.lay_table_grid.specs.MeetingBorders.{lines_left, meeting_above, meeting_left};
 ghost use Rattle.lay_table_grid.specs.MeetingBorders.{rim_above, rim_left, row_ends};
-ghost use Rattle.lay_table_grid.specs.Pass.EdgeBounds.{IsCounted};
+ghost use Rattle.lay_table_grid.specs.Pass.EdgeBounds.{IsBorderCounted};
 
 use crate::edges::Edges;
 use crate::elements::{Element, Side, cell_element, place_of, push_border};
@@ -43,8 +43,8 @@ fn push_cells_above(
     above: Option<PlacedCell>,
     below: Option<PlacedCell>,
 ) -> Result<(), NoMemory>
-    requires above { IfSome above IsCounted }
-    requires below { IfSome below IsCounted }
+    requires above { IfSome above IsBorderCounted }
+    requires below { IfSome below IsBorderCounted }
     ensures { OnOk result (borders.new.items ≡ borders.old.items ++ cells_above edges.now above below) }
 {
     push_stacked(borders, edges, cell_element(above), cell_element(below))
@@ -154,8 +154,8 @@ fn push_cells_left(
     left: Option<PlacedCell>,
     right: Option<PlacedCell>,
 ) -> Result<(), NoMemory>
-    requires left { IfSome left IsCounted }
-    requires right { IfSome right IsCounted }
+    requires left { IfSome left IsBorderCounted }
+    requires right { IfSome right IsBorderCounted }
     ensures { OnOk result (borders.new.items ≡ borders.old.items ++ cells_left edges.now left right) }
 {
     push_abreast(borders, edges, cell_element(left), cell_element(right))

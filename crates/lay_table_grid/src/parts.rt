@@ -35,7 +35,7 @@ pub struct Parts<'a> {
 
 impl<'a> Model for Parts<'a> {
     ghost use Rattle.lay_table_grid.specs.TableParts.{TableParts};
-    ghost use Rattle.lay_table_grid.specs.PartBounds.{PartsFit};
+    ghost use Rattle.lay_table_grid.specs.PartBounds.{TablePartsFit};
 
     ghost Value = { TableParts };
 
@@ -48,7 +48,7 @@ impl<'a> Model for Parts<'a> {
       columns = p.columns;
     } };
 
-    ghost invariant = { λ p. PartsFit (record {
+    ghost invariant = { λ p. TablePartsFit (record {
       boxes = p.boxes.now;
       table = p.table;
       rows = p.rows.items;

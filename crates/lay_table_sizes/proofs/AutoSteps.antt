@@ -12,7 +12,7 @@ use Rattle.lay_table_sizes.proofs.AutoWidths.{auto_tables_have_room_lem}
 use Rattle.lay_table_sizes.specs.CaptionWidths.{captions_from, with_box}
 use Rattle.lay_table_sizes.specs.PreferredWidths.{widths_at}
 use Rattle.lay_table_sizes.specs.TableBounds.{TableBoundsValue}
-use Rattle.lay_table_sizes.specs.TableBoxes.{table_block, table_style, wrapper_style}
+use Rattle.lay_table_sizes.specs.TableBoxes.{table_block, style_of_table, wrapper_style}
 use Rattle.lay_table_sizes.specs.WantedWidth.{HasAutoWidth, length_of}
 use Rattle.lay_table_sizes.proofs.CellSteps.{drop_step}
 
@@ -22,7 +22,7 @@ auto_columns_count bounds space widths are = by_lt_z (sum_max bounds) space (λ 
 pub columns_fit : (containing : Length) (boxes : List BoxNode) (g : TableGridValue) (t : TableBoundsValue) (wanted : Length) → HasAutoWidth containing boxes g t wanted
     → least_content g t.columns ≤ℤ wanted.0
 columns_fit containing boxes g t wanted is =
-    let block = table_block g containing (wrapper_style boxes) (table_style boxes g) in
+    let block = table_block g containing (wrapper_style boxes) (style_of_table boxes g) in
     (auto_tables_have_room_lem block (length_of (least_content g t.columns)) (length_of (greatest_content g t.columns)) t.captions wanted is).columns
 
 -- captions are gathered from the last box on

@@ -24,7 +24,7 @@ use Rattle.lay_table_sizes.specs.CellSizes.{cell_size_at}
 use Rattle.lay_table_sizes.specs.ColumnWidths.{columns_in}
 use Rattle.lay_table_sizes.specs.Laws.{OneTableSizes}
 use Rattle.lay_table_sizes.specs.TableBounds.{TableBoundsValue, bounds_of_columns}
-use Rattle.lay_table_sizes.specs.TableBoxes.{table_block, table_style, wrapper_style}
+use Rattle.lay_table_sizes.specs.TableBoxes.{table_block, style_of_table, wrapper_style}
 use Rattle.lay_table_sizes.specs.TableSizes.{AreAutoWidths, AreTableWidthsAs, AreWrapperWidths, HasTableSizes, IsWrapperSized, held, wrapper_block, wrapper_width}
 use Rattle.lay_table_sizes.specs.TableSizesValue.{TableSizesValue}
 use Rattle.lay_table_sizes.specs.WantedWidth.{IsFixedWidth, length_of}
@@ -32,13 +32,13 @@ use Rattle.lay_table_sizes.proofs.OneCellSizes.{same_sizes}
 
 one_fixed_width : (containing : Length) (boxes : List BoxNode) (g : TableGridValue) (x y : Length) → IsFixedWidth containing boxes g x → IsFixedWidth containing boxes g y → x ≡ y
 one_fixed_width containing boxes g x y p q =
-    let out = one_block_width_lem (table_block g containing (wrapper_style boxes) (table_style boxes g)) p.out q.out p.is_used q.is_used in
+    let out = one_block_width_lem (table_block g containing (wrapper_style boxes) (style_of_table boxes g)) p.out q.out p.is_used q.is_used in
     p.wanted_is ∙ ap (λ (o : BlockOut). o.width) out ∙ sym q.wanted_is
 
 one_auto_widths : (containing : Length) (boxes : List BoxNode) (g : TableGridValue) (t : TableBoundsValue) (x y : Length) (v w : List Length)
     → AreAutoWidths containing boxes g t x v → AreAutoWidths containing boxes g t y w → (x ≡ y) × (v ≡ w)
 one_auto_widths containing boxes g t x y v w p q =
-    let block = table_block g containing (wrapper_style boxes) (table_style boxes g) in
+    let block = table_block g containing (wrapper_style boxes) (style_of_table boxes g) in
     let wanted = one_auto_width_lem block (length_of (least_content g t.columns)) (length_of (greatest_content g t.columns)) t.captions x y p.0 q.0 in
     let there : AreAutoColumns t.columns (y.0 -ℤ spaces g) v = subst (λ (u : Length). AreAutoColumns t.columns (u.0 -ℤ spaces g) v) wanted p.1 in
     (wanted, one_list_of_columns_lem t.columns (y.0 -ℤ spaces g) v w there q.1)

@@ -4,14 +4,14 @@ use Rattle.std.specs.Prelude.{ℕ, ◌+◌, ℤ, pos, List, [], ◌∷◌, if◌
 use Rattle.std.specs.Int.{int_max}
 use Rattle.lay_box_tree.specs.declared.box_tree.BoxKind.TheVariants as kind
 use Rattle.lay_box_tree.specs.declared.box_tree.BoxNode.{BoxNode}
-use Rattle.lay_box_tree.specs.Kinds.{is_caption}
+use Rattle.lay_box_tree.specs.Kinds.{is_caption_kind}
 use Rattle.lay_measure.specs.LineParts.{contribution}
 use Rattle.lay_measure.specs.declared.preferred_widths.PreferredWidths.{PreferredWidths}
 use Rattle.lay_table_sizes.specs.PreferredWidths.{widths_at}
 
 -- the greatest of captions that take so much together with a box whose content has these preferred widths
 abbrev pub with_box : BoxNode → PreferredWidths → ℤ → ℤ
-with_box b own least = if is_caption b.kind then int_max (contribution b own).minimum.0 least else least
+with_box b own least = if is_caption_kind b.kind then int_max (contribution b own).minimum.0 least else least
 
 -- that of the captions among these boxes, of which the first stands at k
 abbrev pub captions_from : List PreferredWidths → ℕ → List BoxNode → ℤ

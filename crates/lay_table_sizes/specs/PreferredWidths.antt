@@ -20,7 +20,7 @@ use Rattle.lay_grid.specs.Shares.{own_at}
 use Rattle.lay_table_grid.specs.TableGrid.{IsTableGrid, TableGridValue}
 use Rattle.lay_table_grid.specs.declared.grid.TableCell.{TableCell}
 use Rattle.lay_table_sizes.specs.ColumnWidths.{cell_edges, columns_in, with_spacings}
-use Rattle.lay_table_sizes.specs.TableBoxes.{preferred_edges, table_style}
+use Rattle.lay_table_sizes.specs.TableBoxes.{preferred_edges, style_of_table}
 
 -- the preferred widths at k
 abbrev pub widths_at : List PreferredWidths → ℕ → PreferredWidths
@@ -62,15 +62,15 @@ pub record AreColumnWidths (boxes : List BoxNode) (inner : List PreferredWidths)
   pub each : (i : ℕ) → i < g.columns → widths_at columns i ≡ own_or (own_at owns i) (content_widths boxes inner g.cells i)
 
 -- all of them beside each other
-abbrev pub beside : PreferredWidths → PreferredWidths → PreferredWidths
-beside v w = record {
+abbrev pub widths_added : PreferredWidths → PreferredWidths → PreferredWidths
+widths_added v w = record {
   minimum = record { 0 = v.minimum.0 +ℤ w.minimum.0 };
   preferred = record { 0 = v.preferred.0 +ℤ w.preferred.0 };
 }
 
 abbrev pub all_beside : List PreferredWidths → PreferredWidths
 all_beside [] = no_widths
-all_beside (w ∷ ws) = beside w (all_beside ws)
+all_beside (w ∷ ws) = widths_added w (all_beside ws)
 
 -- a width of a table's content, or its `width` where that is a greater length, between its bounds
 abbrev pub bounded_content : Style → ℤ → ℤ
@@ -89,5 +89,5 @@ pub record HasFixedWidths (boxes : List BoxNode) (inner : List PreferredWidths) 
   pub is_grid : IsTableGrid boxes grid
   pub columns : List PreferredWidths
   pub are_columns : AreColumnWidths boxes inner grid columns
-  pub minimum : w.minimum ≡ table_part grid (table_style boxes grid) (all_beside columns).minimum
-  pub preferred : w.preferred ≡ table_part grid (table_style boxes grid) (all_beside columns).preferred
+  pub minimum : w.minimum ≡ table_part grid (style_of_table boxes grid) (all_beside columns).minimum
+  pub preferred : w.preferred ≡ table_part grid (style_of_table boxes grid) (all_beside columns).preferred

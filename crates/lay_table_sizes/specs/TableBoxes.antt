@@ -18,8 +18,8 @@ use Rattle.lay_table_grid.specs.TableGrid.{TableGridValue}
 abbrev pub wrapper_style : List BoxNode → Style
 wrapper_style boxes = style_of_box boxes 0
 
-abbrev pub table_style : List BoxNode → TableGridValue → Style
-table_style boxes g = style_of_box boxes g.table
+abbrev pub style_of_table : List BoxNode → TableGridValue → Style
+style_of_table boxes g = style_of_box boxes g.table
 
 -- a padding of the table box, beside the width of the wrapper's containing block
 abbrev pub table_padding : TableGridValue → Length → LengthPercentage → Length

@@ -29,7 +29,7 @@ use Rattle.lay_table_sizes.specs.TableLayouts.{is_fixed}
 use Rattle.lay_table_sizes.specs.CellSizes.{cell_size_at}
 use Rattle.lay_table_sizes.specs.ColumnWidths.{columns_in, with_spacings}
 use Rattle.lay_table_sizes.specs.TableBounds.{TableBoundsValue, bounds_of_columns}
-use Rattle.lay_table_sizes.specs.TableBoxes.{table_edges, table_style, wrapper_style}
+use Rattle.lay_table_sizes.specs.TableBoxes.{table_edges, style_of_table, wrapper_style}
 use Rattle.lay_table_sizes.specs.TableSizesValue.{TableSizesValue, cell_at}
 use Rattle.lay_table_sizes.specs.WantedWidth.{HasAutoWidth, IsFixedWidth}
 use Rattle.lay_table_sizes.specs.declared.table_rule.TableRule.{TableRule}
@@ -48,8 +48,8 @@ table_width g wanted columns =
     record { 0 = clamp_size_of (int_max wanted.0 (with_spacings g.spacing.across g.columns (sum_of columns))) }
 
 -- the table box in its wrapper: it has no margins there, and its height is beside the wrapper's containing block
-abbrev pub table_box : TableGridValue → ContainingBlock → Style → (width : Length) → BoxSizes
-table_box g containing s width = record {
+abbrev pub table_box_sizes : TableGridValue → ContainingBlock → Style → (width : Length) → BoxSizes
+table_box_sizes g containing s width = record {
   containing = containing.width;
   widths = record { margin_left = no_length; width = width; margin_right = no_length };
   edges = table_edges g containing.width s;
@@ -130,7 +130,7 @@ pub record HasTableSizes (containing : ContainingBlock) (rule : TableRule) (boun
   pub cell_count : length t.cells ≡ length boxes
   pub cells : (k : ℕ) → k < length boxes → cell_at t k ≡ cell_size_at t.grid.spacing.across t.columns t.grid.cells k
   pub table : BoxSizes
-  pub table_is : table ≡ table_box t.grid containing (table_style boxes t.grid) (table_width t.grid wanted widths)
+  pub table_is : table ≡ table_box_sizes t.grid containing (style_of_table boxes t.grid) (table_width t.grid wanted widths)
   pub wrapper : BoxSizes
   pub wrapper_is : IsWrapperSized rule containing (wrapper_style boxes) table wrapper
   pub count : length sizes ≡ length boxes

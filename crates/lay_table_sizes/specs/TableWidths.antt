@@ -12,7 +12,7 @@ use Rattle.lay_table_sizes.specs.ColumnBounds.{greatest_content, least_content}
 use Rattle.lay_table_sizes.specs.TableLayouts.{is_fixed}
 use Rattle.lay_table_sizes.specs.PreferredWidths.{HasFixedWidths, bounded_content}
 use Rattle.lay_table_sizes.specs.TableBounds.{HasBounds, TableBoundsValue, no_bounds}
-use Rattle.lay_table_sizes.specs.TableBoxes.{preferred_edges, table_style, wrapper_style}
+use Rattle.lay_table_sizes.specs.TableBoxes.{preferred_edges, style_of_table, wrapper_style}
 
 -- the width of the border box of a table whose columns come to so much with their spacings, and whose captions can be so narrow
 abbrev pub auto_part : TableGridValue → Style → (captions : Length) → (content : ℤ) → Length
@@ -24,8 +24,8 @@ pub record HasAutoWidths (boxes : List BoxNode) (inner : List PreferredWidths) (
   pub grid : TableGridValue
   pub is_grid : IsTableGrid boxes grid
   pub bounds : HasBounds boxes inner grid t
-  pub minimum : w.minimum ≡ auto_part grid (table_style boxes grid) t.captions (least_content grid t.columns)
-  pub preferred : w.preferred ≡ auto_part grid (table_style boxes grid) t.captions (greatest_content grid t.columns)
+  pub minimum : w.minimum ≡ auto_part grid (style_of_table boxes grid) t.captions (least_content grid t.columns)
+  pub preferred : w.preferred ≡ auto_part grid (style_of_table boxes grid) t.captions (greatest_content grid t.columns)
 
 abbrev pub HasTableWidthsAs : (is_fixed : Bool) → List BoxNode → List PreferredWidths → PreferredWidths → TableBoundsValue → Type 0
 HasTableWidthsAs true boxes inner w t = HasFixedWidths boxes inner w × (t ≡ no_bounds)

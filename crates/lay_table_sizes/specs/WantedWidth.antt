@@ -10,12 +10,12 @@ use Rattle.lay_table_grid.specs.TableGrid.{TableGridValue}
 use Rattle.lay_table_sizes.specs.AutoWidth.{IsAutoWidth}
 use Rattle.lay_table_sizes.specs.ColumnBounds.{greatest_content, least_content}
 use Rattle.lay_table_sizes.specs.TableBounds.{TableBoundsValue}
-use Rattle.lay_table_sizes.specs.TableBoxes.{table_block, table_style, wrapper_style}
+use Rattle.lay_table_sizes.specs.TableBoxes.{table_block, style_of_table, wrapper_style}
 
 -- the width of a table of the fixed layout
 pub record IsFixedWidth (containing : Length) (boxes : List BoxNode) (g : TableGridValue) (wanted : Length) : Type 0 where
   pub out : BlockOut
-  pub is_used : IsUsedBlock (table_block g containing (wrapper_style boxes) (table_style boxes g)) out
+  pub is_used : IsUsedBlock (table_block g containing (wrapper_style boxes) (style_of_table boxes g)) out
   pub wanted_is : wanted ≡ out.width
 
 abbrev pub length_of : ℤ → Length
@@ -24,5 +24,5 @@ length_of v = record { 0 = v }
 -- the width of a table of the automatic layout
 abbrev pub HasAutoWidth : (containing : Length) → List BoxNode → TableGridValue → TableBoundsValue → (wanted : Length) → Type 0
 HasAutoWidth containing boxes g t wanted =
-    IsAutoWidth (table_block g containing (wrapper_style boxes) (table_style boxes g)) (length_of (least_content g t.columns))
+    IsAutoWidth (table_block g containing (wrapper_style boxes) (style_of_table boxes g)) (length_of (least_content g t.columns))
     (length_of (greatest_content g t.columns)) t.captions wanted

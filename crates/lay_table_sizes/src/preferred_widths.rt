@@ -6,7 +6,7 @@ ghost use Rattle.lay_table_grid.specs.GridBounds.{PlacesAreBelow};
 ghost use Rattle.lay_table_grid.specs.TableGrid.{IsTableGrid};
 ghost use Rattle.lay_table_sizes.specs.Bounds.{most_columns};
 ghost use Rattle.lay_table_sizes.specs.PreferredWidths.{AreColumnWidths, HasFixedWidths, all_beside};
-ghost use Rattle.lay_table_sizes.specs.PreferredWidths.{beside, bounded_content, own_or, table_part};
+ghost use Rattle.lay_table_sizes.specs.PreferredWidths.{widths_added, bounded_content, own_or, table_part};
 
 use crate::column_widths::columns_in;
 use crate::content_widths::{content_widths, widths_at};
@@ -98,7 +98,7 @@ fn all_beside(widths: &[PreferredWidths]) -> Result<PreferredWidths, NoMemory>
 }
 
 fn beside(v: PreferredWidths, w: PreferredWidths) -> Result<PreferredWidths, NoMemory>
-    ensures { IfOk result (λ b. b ≡ beside v w) }
+    ensures { IfOk result (λ b. b ≡ widths_added v w) }
 {
     Ok(PreferredWidths {
         minimum: sum(v.minimum, w.minimum)?,

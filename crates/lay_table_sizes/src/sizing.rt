@@ -8,7 +8,7 @@ ghost use Rattle.lay_sizes.specs.SizeColumns.{HaveSizeBounds, sizes_at};
 ghost use Rattle.lay_table_grid.specs.GridBounds.{PlacesAreBelow};
 ghost use Rattle.lay_table_sizes.specs.Bounds.{most_columns};
 ghost use Rattle.lay_table_sizes.specs.TableSizes.{AreAutoWidths, AreFixedWidths, AreTableWidths, AreTableWidthsAs, HasTableSizes};
-ghost use Rattle.lay_table_sizes.specs.TableSizes.{held, held_width, sizes_of_box, table_box, table_width};
+ghost use Rattle.lay_table_sizes.specs.TableSizes.{held, held_width, sizes_of_box, table_box_sizes, table_width};
 
 use crate::bounds::TableBounds;
 use crate::cells::{cells_of, sum_of};
@@ -177,7 +177,7 @@ fn table_width(grid: &TableGrid, wanted: Unit, columns: &[Unit]) -> Result<Unit,
 /// The table box in its wrapper.
 fn table_box(grid: &TableGrid, containing: ContainingBlock, style: &Style, width: Unit) -> BoxSizes
     requires { IsUsedSize width.0 }
-    ensures value { result ≡ table_box grid.now containing style.now width }
+    ensures value { result ≡ table_box_sizes grid.now containing style.now width }
     ensures fits { SizeFits result }
 {
     BoxSizes {

@@ -12,7 +12,7 @@ use Rattle.lay_valign.specs.declared.parts.LineEdge.TheVariants.{TopEdge, Bottom
 use Rattle.lay_valign.specs.declared.parts.Part.{Part}
 use Rattle.lay_valign.specs.declared.parts.Shift.{Shift}
 use Rattle.lay_valign.specs.declared.parts.Shift.TheVariants.{By, Middle, TextTop, TextBottom, Top, Bottom}
-use Rattle.lay_valign.specs.Parts.{part_at, at, no_part, begins, AreParts}
+use Rattle.lay_valign.specs.Parts.{part_at, at, no_line_part, begins, AreParts}
 use Rattle.lay_valign.specs.Raises.{raise_by, raise_of}
 use Rattle.lay_valign.specs.Subtrees.{Subtrees, AreSubtrees, HasRises, IsGreatest, InSubtree, above_of, below_of, rise_of}
 use Rattle.lay_valign.specs.LineShape.{IsAligned, IsLine, IsRaised, beyond, base_by, base_of, shift_of}
@@ -79,7 +79,7 @@ module _ (strut : Part) (parts : List Part) (are : AreParts (strut ∷ parts)) (
 
   module _ (s : Subtrees) (is : AreSubtrees all s) (u reach up down : ℕ) (upper : IsNear u strut.above.0) (lower : IsNear u strut.below.0) (each : All (PartReaches reach up down) parts) where
     part_reaches : (k : ℕ) → suc k < length all → PartReaches reach up down (part_at parts k)
-    part_reaches k within = each k no_part (omega (arith, within))
+    part_reaches k within = each k no_line_part (omega (arith, within))
 
     over : (k : ℕ) → suc k < length all → IsBetween (reach + raised) (up + raised) (above_of all s.rises (suc k))
     over k within = let w = part_reaches k within in above_by reach up raised _ _ (rise_near s.rises is.rises (suc k) within) w.near_above w.above

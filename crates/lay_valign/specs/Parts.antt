@@ -9,11 +9,11 @@ use Rattle.lay_valign.specs.declared.parts.LineEdge.{LineEdge}
 use Rattle.lay_valign.specs.declared.parts.LineEdge.TheVariants.{TopEdge, BottomEdge}
 use Rattle.lay_valign.specs.declared.parts.Part.{Part}
 
-abbrev pub no_part : Part
-no_part = record { above = no_length; below = no_length; shift = By no_length; parent = 0 }
+abbrev pub no_line_part : Part
+no_line_part = record { above = no_length; below = no_length; shift = By no_length; parent = 0 }
 
 abbrev pub part_at : List Part → ℕ → Part
-part_at parts k = slice_index_or parts k no_part
+part_at parts k = slice_index_or parts k no_line_part
 
 abbrev pub at : List ℤ → ℕ → ℤ
 at numbers k = slice_index_or numbers k (pos 0)

@@ -24,7 +24,7 @@ pub record PartFits (part : Part) : Type 0 where
   pub below : IsPosition part.below.0
   pub shift : IsPosition (length_of part.shift)
 
-pub record ShapeFits (shape : LineShape) : Type 0 where
+pub record LineShapeFits (shape : LineShape) : Type 0 where
   pub above : IsPosition shape.above.0
   pub below : IsPosition shape.below.0
   pub shifts : All (λ (shift : Unit). IsPosition shift.0) shape.shifts
@@ -33,4 +33,4 @@ pub record PartsFit (parts : List Part) : Type 0 where
   pub are_parts : AreParts parts
   pub few : length parts < 2 ^ 32
   pub each : (k : ℕ) → k < length parts → PartFits (part_at parts k)
-  pub shape : (shape : LineShape) → IsShape parts shape → ShapeFits shape
+  pub shape : (shape : LineShape) → IsShape parts shape → LineShapeFits shape

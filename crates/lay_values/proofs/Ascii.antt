@@ -21,7 +21,7 @@ use Rattle.lay_values.specs.Names.{name_of, all_properties, property_of}
 use Rattle.lay_values.specs.Words.{word_name, all_words, word_of, keyword_of}
 use Rattle.lay_values.specs.Numbers.{leading, behind, number_of}
 use Rattle.lay_values.specs.Lengths.{suffix_name, all_suffixes, suffix_of, value_with}
-use Rattle.lay_values.specs.Reading.{is_of_number, is_of_word, without_front, measure_of, one_length_of, spacing_of, spacings_of, numeric_of, begins_with_letter, value_of}
+use Rattle.lay_values.specs.Reading.{is_of_number, is_of_word, without_front, measure_of, one_length_of, one_spacing, spacings_of, numeric_of, begins_with_letter, value_of}
 use Rattle.lay_values.proofs.OneName.{find-passes, property_named}
 use Rattle.lay_values.proofs.Measures.{joined}
 
@@ -119,10 +119,10 @@ spacing-by : (text : List ℕ) (o : Option Given) (l : OneLength) → measure_of
 spacing-by text None l measured is = absurd (none-some l is)
 spacing-by text (Some g) l measured is = measure-low BorderSpacing text g measured
 
-spacing-low : (text : List ℕ) (l : OneLength) → spacing_of text ≡ Some l → list_all is_low text ≡ true
+spacing-low : (text : List ℕ) (l : OneLength) → one_spacing text ≡ Some l → list_all is_low text ≡ true
 spacing-low text l is = spacing-by text (measure_of BorderSpacing text) l refl is
 
-spacings-by : (first second : List ℕ) (a b : Option OneLength) (g : Given) → spacing_of first ≡ a → spacing_of second ≡ b → option_and_then (λ x. option_map (Pair x) b) a ≡ Some g →
+spacings-by : (first second : List ℕ) (a b : Option OneLength) (g : Given) → one_spacing first ≡ a → one_spacing second ≡ b → option_and_then (λ x. option_map (Pair x) b) a ≡ Some g →
     (list_all is_low first ≡ true) × (list_all is_low second ≡ true)
 spacings-by first second None b g one two is = absurd (none-some g is)
 spacings-by first second (Some x) None g one two is = absurd (none-some g is)
@@ -130,7 +130,7 @@ spacings-by first second (Some x) (Some y) g one two is = (spacing-low first x o
 
 spacings-low : (first second : List ℕ) (g : Given) → spacings_of first second ≡ Some g → (list_all is_low first ≡ true) × (list_all is_low second ≡ true)
 spacings-low first [] g is = (measure-low BorderSpacing first g is, refl)
-spacings-low first (b ∷ bs) g is = spacings-by first (b ∷ bs) (spacing_of first) (spacing_of (b ∷ bs)) g refl refl is
+spacings-low first (b ∷ bs) g is = spacings-by first (b ∷ bs) (one_spacing first) (one_spacing (b ∷ bs)) g refl refl is
 
 front-by : (b : ℕ) (bs : List ℕ) (space : Bool) → is_ascii_whitespace b ≡ space → (list_all is_low (without_front bs) ≡ true → list_all is_low bs ≡ true) →
     list_all is_low (drop (cond space (1 + prefix_len is_ascii_whitespace bs) 0) (b ∷ bs)) ≡ true → list_all is_low (b ∷ bs) ≡ true

@@ -6,7 +6,7 @@ use Rattle.lay_style.specs.declared.property.Property.{Property}
 use Rattle.lay_style.specs.Values.{Declaration}
 use Rattle.lay_values.specs.declared.reading.ValueFault.TheVariants.{BadProperty, BadValue}
 use Rattle.lay_values.specs.Names.{name_of, property_of}
-use Rattle.lay_values.specs.Reading.{declared_for, declared_value, read_declaration}
+use Rattle.lay_values.specs.Reading.{declared_for, declaration_from, read_declaration}
 use Rattle.lay_values.proofs.OneName.{own_property, property_named}
 
 none-found : (o : Option Property) → ((p : Property) → o ≡ Some p → ⊥) → o ≡ None
@@ -24,4 +24,4 @@ value-fault (Some d) fault = grind (arith, common_steps)
 pub known_name : (name text : List ℕ) (p : Property) → name_of p ≡ name → read_declaration name text ≡ Err BadProperty → ⊥
 known_name name text p is fault =
     let found : property_of name ≡ Some p = subst (λ n. property_of n ≡ Some p) is (own_property p) in
-    value-fault (declared_value p text) (subst (λ o. declared_for o text ≡ Err BadProperty) found fault)
+    value-fault (declaration_from p text) (subst (λ o. declared_for o text ≡ Err BadProperty) found fault)

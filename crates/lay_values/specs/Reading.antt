@@ -46,13 +46,13 @@ one_length_of (Em e) = Some (one_em e)
 one_length_of _ = None
 
 -- one of two lengths of `border-spacing`
-abbrev pub spacing_of : List ℕ → Option OneLength
-spacing_of text = option_and_then one_length_of (measure_of BorderSpacing text)
+abbrev pub one_spacing : List ℕ → Option OneLength
+one_spacing text = option_and_then one_length_of (measure_of BorderSpacing text)
 
 -- one length, or the second one too
 abbrev pub spacings_of : List ℕ → List ℕ → Option Given
 spacings_of first [] = measure_of BorderSpacing first
-spacings_of first (b ∷ second) = option_and_then (λ x. option_map (Pair x) (spacing_of (b ∷ second))) (spacing_of first)
+spacings_of first (b ∷ second) = option_and_then (λ x. option_map (Pair x) (one_spacing (b ∷ second))) (one_spacing first)
 
 abbrev pub is_of_word : ℕ → Bool
 is_of_word b = not (is_ascii_whitespace b)
@@ -69,12 +69,12 @@ begins_with_letter (b ∷ bs) = is_ascii_alphabetic b
 abbrev pub value_of : Property → List ℕ → Option Given
 value_of p text = if begins_with_letter text then keyword_of text else numeric_of p text
 
-abbrev pub declared_value : Property → List ℕ → Option Declaration
-declared_value p text = option_and_then (declaration_of p) (value_of p (trimmed text))
+abbrev pub declaration_from : Property → List ℕ → Option Declaration
+declaration_from p text = option_and_then (declaration_of p) (value_of p (trimmed text))
 
 abbrev pub declared_for : Option Property → List ℕ → Result Declaration ValueFault
 declared_for None text = Err BadProperty
-declared_for (Some p) text = ok_or (declared_value p text) BadValue
+declared_for (Some p) text = ok_or (declaration_from p text) BadValue
 
 -- the declaration that a name and a text give; `BadProperty` where the name is no property's, and else
 -- `BadValue` where the text is none of its values

@@ -6,8 +6,8 @@ ghost use Rattle.std.specs.Char.{to_ascii_lowercase};
 ghost use Rattle.std.specs.Result.{result_ok};
 ghost use Rattle.lay_style.specs.declared.property.Property.TheVariants.{BorderSpacing};
 ghost use Rattle.lay_values.specs.Numbers.{IsShort, leading, behind, number_of};
-ghost use Rattle.lay_values.specs.Reading.{without_front, trimmed, is_of_number, measure_of, one_length_of, spacing_of, spacings_of};
-ghost use Rattle.lay_values.specs.Reading.{is_of_word, numeric_of, begins_with_letter, value_of, declared_value, read_declaration};
+ghost use Rattle.lay_values.specs.Reading.{without_front, trimmed, is_of_number, measure_of, one_length_of, one_spacing, spacings_of};
+ghost use Rattle.lay_values.specs.Reading.{is_of_word, numeric_of, begins_with_letter, value_of, declaration_from, read_declaration};
 
 use crate::lengths::{suffix_of, value_with};
 use crate::names::{property_named, property_of};
@@ -120,7 +120,7 @@ fn one_length_of(value: Given) -> Option<OneLength>
 
 /// One of two lengths of `border-spacing`.
 fn spacing_of(text: &[u8]) -> Option<OneLength>
-    ensures { result ≡ spacing_of text.now }
+    ensures { result ≡ one_spacing text.now }
 {
     one_length_of(measure_of(Property::BorderSpacing, text)?)
 }
@@ -168,7 +168,7 @@ fn value_of(property: Property, text: &[u8]) -> Option<Given>
 }
 
 fn declared_value(property: Property, text: &[u8]) -> Option<Decl>
-    ensures decl { result ≡ declared_value property text.now }
+    ensures decl { result ≡ declaration_from property text.now }
     ensures utf8 { IfSome result (λ _. is_utf8 text.now ≡ true) }
 {
     let Some(value) = value_of(property, trimmed(text)) else {

@@ -7,7 +7,7 @@ use Rattle.lay_units.specs.declared.records.Len.TheVariants.{Auto as auto, Of as
 use Rattle.lay_units.specs.declared.records.BlockIn.{BlockIn}
 use Rattle.lay_widths.specs.declared.widths.BlockOut.{BlockOut}
 use Rattle.lay_widths.specs.declared.widths.UsedWidths.{UsedWidths}
-use Rattle.lay_widths.specs.Lengths.{across, together}
+use Rattle.lay_widths.specs.Lengths.{sum_of_widths, together}
 use Rattle.lay_widths.specs.BlockWidths.{GivenMargin, SolvesBlock, IsHeld, width_in}
 use Rattle.lay_widths.specs.MinMax.{AtMost, AtLeast, IsBounded}
 use Rattle.lay_widths.specs.FloatWidths.{SolvesFloat}
@@ -23,16 +23,16 @@ same_widths s t l w r =
     e
 
 -- of the three terms any two give the third
-right_follows : (b : BlockIn) (s t : UsedWidths) → across b s ≡ b.containing_width.0 → across b t ≡ b.containing_width.0 → s.margin_left ≡ t.margin_left → s.width ≡ t.width → s ≡ t
+right_follows : (b : BlockIn) (s t : UsedWidths) → sum_of_widths b s ≡ b.containing_width.0 → sum_of_widths b t ≡ b.containing_width.0 → s.margin_left ≡ t.margin_left → s.width ≡ t.width → s ≡ t
 right_follows b s t es et l w = same_widths s t l w (omega (arith, ints))
 
-width_follows : (b : BlockIn) (s t : UsedWidths) → across b s ≡ b.containing_width.0 → across b t ≡ b.containing_width.0 → s.margin_left ≡ t.margin_left → s.margin_right ≡ t.margin_right → s ≡ t
+width_follows : (b : BlockIn) (s t : UsedWidths) → sum_of_widths b s ≡ b.containing_width.0 → sum_of_widths b t ≡ b.containing_width.0 → s.margin_left ≡ t.margin_left → s.margin_right ≡ t.margin_right → s ≡ t
 width_follows b s t es et l r = same_widths s t l (omega (arith, ints)) r
 
-left_follows : (b : BlockIn) (s t : UsedWidths) → across b s ≡ b.containing_width.0 → across b t ≡ b.containing_width.0 → s.width ≡ t.width → s.margin_right ≡ t.margin_right → s ≡ t
+left_follows : (b : BlockIn) (s t : UsedWidths) → sum_of_widths b s ≡ b.containing_width.0 → sum_of_widths b t ≡ b.containing_width.0 → s.width ≡ t.width → s.margin_right ≡ t.margin_right → s ≡ t
 left_follows b s t es et w r = same_widths s t (omega (arith, ints)) w r
 
-given_margin_same : (b : BlockIn) (left right : Len) (rest : ℤ) (s t : UsedWidths) → across b s ≡ b.containing_width.0 → across b t ≡ b.containing_width.0 → s.width ≡ t.width → GivenMargin left right rest s → GivenMargin left right rest t → s ≡ t
+given_margin_same : (b : BlockIn) (left right : Len) (rest : ℤ) (s t : UsedWidths) → sum_of_widths b s ≡ b.containing_width.0 → sum_of_widths b t ≡ b.containing_width.0 → s.width ≡ t.width → GivenMargin left right rest s → GivenMargin left right rest t → s ≡ t
 given_margin_same b (of left) right rest s t es et w p q = right_follows b s t es et (p ∙ sym q) w
 given_margin_same b auto (of right) rest s t es et w p q = left_follows b s t es et w (p ∙ sym q)
 given_margin_same b auto auto rest s t es et w p q = right_follows b s t es et (p ∙ sym q) w

@@ -8,7 +8,7 @@ use Rattle.lay_units.specs.declared.records.Len.TheVariants.{Auto as auto, Of as
 use Rattle.lay_units.specs.declared.records.BlockIn.{BlockIn}
 use Rattle.lay_widths.specs.declared.widths.BlockOut.{BlockOut}
 use Rattle.lay_widths.specs.declared.widths.UsedWidths.{UsedWidths}
-use Rattle.lay_widths.specs.Lengths.{or_zero, across, together}
+use Rattle.lay_widths.specs.Lengths.{or_zero, sum_of_widths, together}
 use Rattle.lay_widths.specs.MinMax.{IsBounded}
 
 -- an auto width: auto margins are zero. Where the rest leaves room the width follows from the equation;
@@ -34,14 +34,14 @@ pub record GivenWidth (b : BlockIn) (width : ℤ) (used : UsedWidths) : Type 0 w
   pub fits : together b width ≤ℤ b.containing_width.0
       → GivenMargin b.margin_left b.margin_right (b.containing_width.0 -ℤ together b width) used
 
-abbrev pub Cases : BlockIn → Len → UsedWidths → Type 0
-Cases b auto used = AutoWidth b used
-Cases b (of width) used = GivenWidth b width.0 used
+abbrev pub WidthCases : BlockIn → Len → UsedWidths → Type 0
+WidthCases b auto used = AutoWidth b used
+WidthCases b (of width) used = GivenWidth b width.0 used
 
 -- the widths that the rules of 10.3.3 give for a computed width
 pub record SolvesBlock (b : BlockIn) (computed : Len) (used : UsedWidths) : Type 0 where
-  pub equation : across b used ≡ b.containing_width.0
-  pub cases : Cases b computed used
+  pub equation : sum_of_widths b used ≡ b.containing_width.0
+  pub cases : WidthCases b computed used
 
 -- margins and width, held within the bounds of used lengths
 pub record IsHeld (used : UsedWidths) (out : BlockOut) : Type 0 where

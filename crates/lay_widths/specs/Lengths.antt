@@ -16,8 +16,8 @@ abbrev pub edges_of : BlockIn → ℤ
 edges_of b = b.border_left.0 +ℤ b.padding_left.0 +ℤ b.padding_right.0 +ℤ b.border_right.0
 
 -- margin-left + border-left + padding-left + width + padding-right + border-right + margin-right
-abbrev pub across : BlockIn → UsedWidths → ℤ
-across b used =
+abbrev pub sum_of_widths : BlockIn → UsedWidths → ℤ
+sum_of_widths b used =
     used.margin_left +ℤ b.border_left.0 +ℤ b.padding_left.0 +ℤ used.width +ℤ b.padding_right.0 +ℤ b.border_right.0 +ℤ used.margin_right
 
 -- the same of a width and the margins that aren't auto

@@ -2,7 +2,7 @@
 
 ghost use Rattle.std.specs.Prelude.{◌≡◌};
 ghost use Rattle.lay_units.specs.Units.{IsPosition};
-ghost use Rattle.lay_widths.specs.Lengths.{BlockFits, IsBelow, LenFits, across};
+ghost use Rattle.lay_widths.specs.Lengths.{BlockFits, IsBelow, LenFits, sum_of_widths};
 ghost use Rattle.lay_widths.specs.BlockWidths.{IsUsedBlock, SolvesBlock, AutoWidth, GivenWidth, width_in};
 
 use crate::min_max::{WidthRules, bounded};
@@ -57,7 +57,7 @@ impl WidthRules for BlockRules<'_> {
 // 2. Where no room is left for a width, it is zero, and margin-right follows.
 fn auto_width(block: &BlockIn) -> UsedWidths
     requires fits { BlockFits block.now }
-    ensures equation { across block.now result ≡ block.now.containing_width.0 }
+    ensures equation { sum_of_widths block.now result ≡ block.now.containing_width.0 }
     ensures widths { AutoWidth block.now result }
 {
     let margin_left = length_or_zero(block.margin_left);
@@ -79,7 +79,7 @@ fn auto_width(block: &BlockIn) -> UsedWidths
 fn given_width(block: &BlockIn, width: i128) -> UsedWidths
     requires fits { BlockFits block.now }
     requires width { IsPosition width }
-    ensures equation { across block.now result ≡ block.now.containing_width.0 }
+    ensures equation { sum_of_widths block.now result ≡ block.now.containing_width.0 }
     ensures widths { GivenWidth block.now width result }
 {
     let room = room_beside(block, width);
@@ -101,7 +101,7 @@ fn margin_right_follows(block: &BlockIn, margin_left: i128, width: i128) -> Used
     requires fits { BlockFits block.now }
     requires margin_left { IsBelow 80 margin_left }
     requires width { IsBelow 80 width }
-    ensures equation { across block.now result ≡ block.now.containing_width.0 }
+    ensures equation { sum_of_widths block.now result ≡ block.now.containing_width.0 }
     ensures left { result.margin_left ≡ margin_left }
     ensures width { result.width ≡ width }
 {

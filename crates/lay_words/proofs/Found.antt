@@ -12,8 +12,8 @@ use Rattle.clap.specs.Kinds.{Kinds}
 use Rattle.clap.specs.Walk.{Row, Text, row_of, rows_of}
 use Rattle.clap.specs.Words.{fault_of, is_simple_and_free, subcommand_of}
 use Rattle.lay_words.specs.declared.form.Form.{Form}
-use Rattle.lay_words.specs.Agree.{Gives, Reads, form_in, values_at}
-use Rattle.lay_words.specs.Grammar.{Pairs, form_named, form_of, form_with, gen_with, given, hit_with, is_odd, number_of, parsed, run_with}
+use Rattle.lay_words.specs.Agree.{Gives, ReadsWords, form_in, values_at}
+use Rattle.lay_words.specs.Grammar.{Pairs, form_named, form_of_words, form_with, gen_with, given, hit_with, is_odd, number_of, parsed, run_with}
 use Rattle.lay_words.specs.Command.{our_app}
 use Rattle.lay_words.proofs.WordKinds.{by_bool}
 use Rattle.lay_words.proofs.Whole.{reads}
@@ -53,19 +53,19 @@ form_same n rows got g = by_bool (bytes_eq n (codes "run"))
     (λ k. rw (r, e, h, k) refl)
     (λ k. rw (r, e, h, k) refl))))
 
-taken : (o : Option (Text × Pairs)) (f : Kinds) (sub : Option (Text × List Row)) → Reads o f sub → f ≡ [] → form_in sub ≡ form_with o
+taken : (o : Option (Text × Pairs)) (f : Kinds) (sub : Option (Text × List Row)) → ReadsWords o f sub → f ≡ [] → form_in sub ≡ form_with o
 taken None f sub r e = absurd (r e)
 taken (Some p) f sub r e = ap form_in r.1.1 ∙ form_same p.0 r.1.0 p.1 r.1.2
 
-refused : (o : Option (Text × Pairs)) (f : Kinds) (sub : Option (Text × List Row)) → Reads o f sub → (f ≡ [] → ⊥) → form_with o ≡ None
+refused : (o : Option (Text × Pairs)) (f : Kinds) (sub : Option (Text × List Row)) → ReadsWords o f sub → (f ≡ [] → ⊥) → form_with o ≡ None
 refused None f sub r e = refl
 refused (Some p) f sub r e = absurd (e r.0)
 
-tidy_form : (words : List Text) → list_any is_odd words ≡ false → form_of words ≡ form_with (parsed words)
+tidy_form : (words : List Text) → list_any is_odd words ≡ false → form_of_words words ≡ form_with (parsed words)
 tidy_form words odd = ap (λ b. if b then None else form_with (parsed words)) odd
 
-pub taken_form : (words : List Text) (sub : Option (Text × List Row)) → list_any is_odd words ≡ false → fault_of our_app words ≡ [] → sub ≡ subcommand_of our_app words → form_in sub ≡ form_of words
+pub taken_form : (words : List Text) (sub : Option (Text × List Row)) → list_any is_odd words ≡ false → fault_of our_app words ≡ [] → sub ≡ subcommand_of our_app words → form_in sub ≡ form_of_words words
 taken_form words sub odd e s = ap form_in s ∙ (taken (parsed words) (fault_of our_app words) (subcommand_of our_app words) (reads words odd) e ∙ sym (tidy_form words odd))
 
-pub refused_form : (words : List Text) → list_any is_odd words ≡ false → (fault_of our_app words ≡ [] → ⊥) → None ≡ form_of words
+pub refused_form : (words : List Text) → list_any is_odd words ≡ false → (fault_of our_app words ≡ [] → ⊥) → None ≡ form_of_words words
 refused_form words odd e = sym (tidy_form words odd ∙ refused (parsed words) (fault_of our_app words) (subcommand_of our_app words) (reads words odd) e)

@@ -14,7 +14,7 @@ use Rattle.clap.specs.Walk.{finished, has_row, nothing_held, rows_after, walk, w
 use Rattle.std.proofs.Common.{◌&&◌, not}
 use Rattle.std.proofs.lemmas.Bool.{or_parts}
 use Rattle.clap.specs.Walk.{Row, Text, Walk, idle, option, settled, used, walked}
-use Rattle.lay_words.specs.Grammar.{Pairs, name_in, options, waits_for, is_known, is_odd}
+use Rattle.lay_words.specs.Grammar.{Pairs, name_or_empty, options, waits_for, is_known, is_odd}
 use Rattle.lay_words.specs.Agree.{Gives}
 use Rattle.lay_words.specs.Command.{option_rule, leaf}
 use Rattle.lay_words.proofs.WordKinds.{Kind, by_bool, kind_of_word, flag, value}
@@ -50,11 +50,11 @@ goes name names from to w ws o turns agrees =
     (sym (or_none _ (walk_fault (leaf name names) [] (walked (map option_rule names) [] from w) ws) _ turns.0))
     (subst (λ x. Agrees o (rest_fault name names x ws) (end_rows names x ws)) (sym turns.1) agrees)
 
-pub step_is : (names : List Text) (x : Option Text) (got : Pairs) (w : Text) (ws : List Text) (lo : Option (Text × Option Text)) (b : Bool) → long_of w ≡ lo → is_known names (name_in lo) ≡ b
+pub step_is : (names : List Text) (x : Option Text) (got : Pairs) (w : Text) (ws : List Text) (lo : Option (Text × Option Text)) (b : Bool) → long_of w ≡ lo → is_known names (name_or_empty lo) ≡ b
     → options names x got (w ∷ ws) ≡ waits_for x got lo w (λ y g. options names y g ws) b
 unfolding options
 step_is names x got w ws lo b l k =
-    ap (λ o. waits_for x got o w (λ y g. options names y g ws) (is_known names (name_in o))) l
+    ap (λ o. waits_for x got o w (λ y g. options names y g ws) (is_known names (name_or_empty o))) l
     ∙ ap (λ c. waits_for x got lo w (λ y g. options names y g ws) c) k
 
 abbrev pub Idle : Text → List Text → List Text → Type 0

@@ -21,8 +21,8 @@ use Rattle.clap.specs.Faults.{check_fault, defaults_fault, level_fault}
 use Rattle.clap.specs.Walk.{finished, nothing_held, rows_after, walk_from}
 use Rattle.clap.specs.Walk.{Held, Row, Rule, Step, Text, Walk, idle, long_or_other, settled, short_or_plain, subcommand_met, subcommand_or_other, trailing, walked, word_met}
 use Rattle.clap.specs.Words.{built, fault_of}
-use Rattle.lay_words.specs.Grammar.{named, parsed, Pairs, options, is_odd, run_options, gen_options, hit_options}
-use Rattle.lay_words.specs.Agree.{Reads}
+use Rattle.lay_words.specs.Grammar.{with_name, parsed, Pairs, options, is_odd, run_options, gen_options, hit_options}
+use Rattle.lay_words.specs.Agree.{ReadsWords}
 use Rattle.lay_words.specs.Command.{our_app, option_rule, leaf}
 use Rattle.lay_words.proofs.WordKinds.{Kind, by_bool, kind_of_word, same_text_at, flag, value}
 use Rattle.lay_words.proofs.Turns.{some_not}
@@ -138,35 +138,35 @@ first_faulty w (value l s d) sub e = some_not kind.UnknownArgument (kind.Invalid
         ∙ (ap (λ b. if b then [] else flag_word_fault [] false (long_of w) w nothing_held) d
         ∙ (ap (λ x. flag_word_fault [] false x w nothing_held) l ∙ ap (λ o. option_map_or (λ flags. bundle_fault [] false flags nothing_held) o []) s))
 
-pub lift : (n : Text) (o : Option Pairs) (f : Kinds) (rows : List Row) (sub : Option (Text × List Row)) → Agrees o f rows → sub ≡ Some (n, rows) → Reads (named n o) f sub
+pub lift : (n : Text) (o : Option Pairs) (f : Kinds) (rows : List Row) (sub : Option (Text × List Row)) → Agrees o f rows → sub ≡ Some (n, rows) → ReadsWords (with_name n o) f sub
 lift n None f rows sub a e = a
 lift n (Some got) f rows sub a e = (a.0, (rows, e, a.1))
 
-pub reads_run : (ws : List Text) → list_any is_odd ws ≡ false → Reads (named (codes "run") (options run_options None [] ws)) (fault_of our_app (codes "run" ∷ ws)) (subcommand_of our_app (codes "run" ∷ ws))
+pub reads_run : (ws : List Text) → list_any is_odd ws ≡ false → ReadsWords (with_name (codes "run") (options run_options None [] ws)) (fault_of our_app (codes "run" ∷ ws)) (subcommand_of our_app (codes "run" ∷ ws))
 reads_run ws odd =
     lift (codes "run") (options run_options None [] ws) (fault_of our_app (codes "run" ∷ ws)) (rows_after (map option_rule run_options) [] ws) (subcommand_of our_app (codes "run" ∷ ws))
     (subst (λ f. Agrees (options run_options None [] ws) f (rows_after (map option_rule run_options) [] ws)) (sym (run_fault ws)) (leaf_agrees (codes "run") run_options ws odd))
     (run_rows ws)
 
-pub reads_gen : (ws : List Text) → list_any is_odd ws ≡ false → Reads (named (codes "gen") (options gen_options None [] ws)) (fault_of our_app (codes "gen" ∷ ws)) (subcommand_of our_app (codes "gen" ∷ ws))
+pub reads_gen : (ws : List Text) → list_any is_odd ws ≡ false → ReadsWords (with_name (codes "gen") (options gen_options None [] ws)) (fault_of our_app (codes "gen" ∷ ws)) (subcommand_of our_app (codes "gen" ∷ ws))
 reads_gen ws odd =
     lift (codes "gen") (options gen_options None [] ws) (fault_of our_app (codes "gen" ∷ ws)) (rows_after (map option_rule gen_options) [] ws) (subcommand_of our_app (codes "gen" ∷ ws))
     (subst (λ f. Agrees (options gen_options None [] ws) f (rows_after (map option_rule gen_options) [] ws)) (sym (gen_fault ws)) (leaf_agrees (codes "gen") gen_options ws odd))
     (gen_rows ws)
 
-pub reads_hit : (ws : List Text) → list_any is_odd ws ≡ false → Reads (named (codes "hit") (options hit_options None [] ws)) (fault_of our_app (codes "hit" ∷ ws)) (subcommand_of our_app (codes "hit" ∷ ws))
+pub reads_hit : (ws : List Text) → list_any is_odd ws ≡ false → ReadsWords (with_name (codes "hit") (options hit_options None [] ws)) (fault_of our_app (codes "hit" ∷ ws)) (subcommand_of our_app (codes "hit" ∷ ws))
 reads_hit ws odd =
     lift (codes "hit") (options hit_options None [] ws) (fault_of our_app (codes "hit" ∷ ws)) (rows_after (map option_rule hit_options) [] ws) (subcommand_of our_app (codes "hit" ∷ ws))
     (subst (λ f. Agrees (options hit_options None [] ws) f (rows_after (map option_rule hit_options) [] ws)) (sym (hit_fault ws)) (leaf_agrees (codes "hit") hit_options ws odd))
     (hit_rows ws)
 
-pub reads_check : (ws : List Text) → list_any is_odd ws ≡ false → Reads (named (codes "check") (options [] None [] ws)) (fault_of our_app (codes "check" ∷ ws)) (subcommand_of our_app (codes "check" ∷ ws))
+pub reads_check : (ws : List Text) → list_any is_odd ws ≡ false → ReadsWords (with_name (codes "check") (options [] None [] ws)) (fault_of our_app (codes "check" ∷ ws)) (subcommand_of our_app (codes "check" ∷ ws))
 reads_check ws odd =
     lift (codes "check") (options [] None [] ws) (fault_of our_app (codes "check" ∷ ws)) (rows_after [] [] ws) (subcommand_of our_app (codes "check" ∷ ws))
     (subst (λ f. Agrees (options [] None [] ws) f (rows_after [] [] ws)) (sym (check_fault_is ws)) (leaf_agrees (codes "check") [] ws odd))
     (check_rows ws)
 
-pub reads_scratch : (ws : List Text) → list_any is_odd ws ≡ false → Reads (named (codes "scratch") (options [] None [] ws)) (fault_of our_app (codes "scratch" ∷ ws)) (subcommand_of our_app (codes "scratch" ∷ ws))
+pub reads_scratch : (ws : List Text) → list_any is_odd ws ≡ false → ReadsWords (with_name (codes "scratch") (options [] None [] ws)) (fault_of our_app (codes "scratch" ∷ ws)) (subcommand_of our_app (codes "scratch" ∷ ws))
 reads_scratch ws odd =
     lift (codes "scratch") (options [] None [] ws) (fault_of our_app (codes "scratch" ∷ ws)) (rows_after [] [] ws) (subcommand_of our_app (codes "scratch" ∷ ws))
     (subst (λ f. Agrees (options [] None [] ws) f (rows_after [] [] ws)) (sym (scratch_fault ws)) (leaf_agrees (codes "scratch") [] ws odd))
@@ -183,30 +183,30 @@ other_word w ws odd r g h k s e = first_faulty w (kind_of_word w odd) (no_name w
 
 -- what is read of a first word and those behind it
 abbrev pub ReadsFrom : List Text → Text → Type 0
-ReadsFrom ws v = Reads (parsed (v ∷ ws)) (fault_of our_app (v ∷ ws)) (subcommand_of our_app (v ∷ ws))
+ReadsFrom ws v = ReadsWords (parsed (v ∷ ws)) (fault_of our_app (v ∷ ws)) (subcommand_of our_app (v ∷ ws))
 
 abbrev pub scratch_or_none : Bool → List Text → Option (Text × Pairs)
-scratch_or_none b ws = if b then named (codes "scratch") (options [] None [] ws) else None
+scratch_or_none b ws = if b then with_name (codes "scratch") (options [] None [] ws) else None
 
 abbrev pub check_or_less : Bool → Bool → List Text → Option (Text × Pairs)
-check_or_less k s ws = if k then named (codes "check") (options [] None [] ws) else scratch_or_none s ws
+check_or_less k s ws = if k then with_name (codes "check") (options [] None [] ws) else scratch_or_none s ws
 
 abbrev pub hit_or_less : Bool → Bool → Bool → List Text → Option (Text × Pairs)
-hit_or_less h k s ws = if h then named (codes "hit") (options hit_options None [] ws) else check_or_less k s ws
+hit_or_less h k s ws = if h then with_name (codes "hit") (options hit_options None [] ws) else check_or_less k s ws
 
 abbrev pub gen_or_less : Bool → Bool → Bool → Bool → List Text → Option (Text × Pairs)
-gen_or_less g h k s ws = if g then named (codes "gen") (options gen_options None [] ws) else hit_or_less h k s ws
+gen_or_less g h k s ws = if g then with_name (codes "gen") (options gen_options None [] ws) else hit_or_less h k s ws
 
 pub not_parsed : (w : Text) (ws : List Text) → bytes_eq (codes "run") w ≡ false → bytes_eq (codes "gen") w ≡ false → bytes_eq (codes "hit") w ≡ false
     → bytes_eq (codes "check") w ≡ false → bytes_eq (codes "scratch") w ≡ false → parsed (w ∷ ws) ≡ None
 not_parsed w ws r g h k s =
-    ap (λ b. if b then named (codes "run") (options run_options None [] ws)
+    ap (λ b. if b then with_name (codes "run") (options run_options None [] ws)
     else gen_or_less (bytes_eq (codes "gen") w) (bytes_eq (codes "hit") w) (bytes_eq (codes "check") w) (bytes_eq (codes "scratch") w) ws) r
     ∙ (ap (λ b. gen_or_less b (bytes_eq (codes "hit") w) (bytes_eq (codes "check") w) (bytes_eq (codes "scratch") w) ws) g
     ∙ (ap (λ b. hit_or_less b (bytes_eq (codes "check") w) (bytes_eq (codes "scratch") w) ws) h
     ∙ (ap (λ b. check_or_less b (bytes_eq (codes "scratch") w) ws) k ∙ ap (λ b. scratch_or_none b ws) s)))
 
-pub reads : (words : List Text) → list_any is_odd words ≡ false → Reads (parsed words) (fault_of our_app words) (subcommand_of our_app words)
+pub reads : (words : List Text) → list_any is_odd words ≡ false → ReadsWords (parsed words) (fault_of our_app words) (subcommand_of our_app words)
 reads [] odd = λ e. some_not kind.MissingSubcommand [] (sym none_fault ∙ e)
 reads (w ∷ ws) odd =
     let tidy = or_parts (is_odd w) (list_any is_odd ws) odd in
@@ -220,4 +220,4 @@ reads (w ∷ ws) odd =
     (λ k. subst (ReadsFrom ws) (same_text_at (codes "check") w k) (reads_check ws tidy.1))
     (λ k. by_bool (bytes_eq (codes "scratch") w)
     (λ s. subst (ReadsFrom ws) (same_text_at (codes "scratch") w s) (reads_scratch ws tidy.1))
-    (λ s. subst (λ o. Reads o (fault_of our_app (w ∷ ws)) (subcommand_of our_app (w ∷ ws))) (sym (not_parsed w ws r g h k s)) (other_word w ws tidy.0 r g h k s))))))
+    (λ s. subst (λ o. ReadsWords o (fault_of our_app (w ∷ ws)) (subcommand_of our_app (w ∷ ws))) (sym (not_parsed w ws r g h k s)) (other_word w ws tidy.0 r g h k s))))))

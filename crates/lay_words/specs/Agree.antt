@@ -17,13 +17,13 @@ values_at id rows = option_map_or (λ r. r.values) (find (λ r. bytes_eq r.id id
 abbrev pub Gives : List Row → Pairs → Type 0
 Gives rows got = (id : Text) → values_at id rows ≡ given id got
 
-abbrev pub Reads : Option (Text × Pairs) → Kinds → Option (Text × List Row) → Type 0
-Reads None f sub = f ≡ [] → ⊥
-Reads (Some p) f sub = (f ≡ []) × ((rows : List Row) × (sub ≡ Some (p.0, rows)) × Gives rows p.1)
+abbrev pub ReadsWords : Option (Text × Pairs) → Kinds → Option (Text × List Row) → Type 0
+ReadsWords None f sub = f ≡ [] → ⊥
+ReadsWords (Some p) f sub = (f ≡ []) × ((rows : List Row) × (sub ≡ Some (p.0, rows)) × Gives rows p.1)
 
 abbrev pub ClapAgrees : Type 0
 ClapAgrees = (words : List Text) → list_any is_odd words ≡ false
-    → Reads (parsed words) (fault_of our_app words) (subcommand_of our_app words)
+    → ReadsWords (parsed words) (fault_of our_app words) (subcommand_of our_app words)
 
 -- the number that was found for an option
 abbrev pub number_found : Text → Option ℕ → ℕ → ℕ → List Row → Option ℕ

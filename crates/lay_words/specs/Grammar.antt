@@ -46,9 +46,9 @@ waits_for None got (Some (n, Some v)) w next known = if known then next None (go
 waits_for (Some n) got None w next known = next None (got ++ (n, w) ∷ [])
 waits_for (Some n) got (Some p) w next known = None
 
-abbrev pub name_in : Option (Text × Option Text) → Text
-name_in None = []
-name_in (Some p) = p.0
+abbrev pub name_or_empty : Option (Text × Option Text) → Text
+name_or_empty None = []
+name_or_empty (Some p) = p.0
 
 -- no option may wait at the end
 abbrev pub at_end : Option Text → Pairs → Option Pairs
@@ -59,7 +59,7 @@ at_end (Some n) got = None
 unfoldable pub options : List Text → Option Text → Pairs → List Text → Option Pairs
 options names waits got [] = at_end waits got
 options names waits got (w ∷ ws) =
-    waits_for waits got (long_of w) w (λ x g. options names x g ws) (is_known names (name_in (long_of w)))
+    waits_for waits got (long_of w) w (λ x g. options names x g ws) (is_known names (name_or_empty (long_of w)))
 
 -- the values of one option, in order
 abbrev pub given : Text → Pairs → List Text
@@ -111,18 +111,18 @@ abbrev pub hit_options : List Text
 hit_options = codes "x" ∷ codes "y" ∷ []
 
 -- the first word and the options behind it
-abbrev pub named : Text → Option Pairs → Option (Text × Pairs)
-named n None = None
-named n (Some got) = Some (n, got)
+abbrev pub with_name : Text → Option Pairs → Option (Text × Pairs)
+with_name n None = None
+with_name n (Some got) = Some (n, got)
 
 abbrev pub parsed : List Text → Option (Text × Pairs)
 parsed [] = None
 parsed (w ∷ ws) =
-    if bytes_eq (codes "run") w then named (codes "run") (options run_options None [] ws)
-    else (if bytes_eq (codes "gen") w then named (codes "gen") (options gen_options None [] ws)
-    else (if bytes_eq (codes "hit") w then named (codes "hit") (options hit_options None [] ws)
-    else (if bytes_eq (codes "check") w then named (codes "check") (options [] None [] ws)
-    else (if bytes_eq (codes "scratch") w then named (codes "scratch") (options [] None [] ws) else None))))
+    if bytes_eq (codes "run") w then with_name (codes "run") (options run_options None [] ws)
+    else (if bytes_eq (codes "gen") w then with_name (codes "gen") (options gen_options None [] ws)
+    else (if bytes_eq (codes "hit") w then with_name (codes "hit") (options hit_options None [] ws)
+    else (if bytes_eq (codes "check") w then with_name (codes "check") (options [] None [] ws)
+    else (if bytes_eq (codes "scratch") w then with_name (codes "scratch") (options [] None [] ws) else None))))
 
 -- the form of a name, by the values of its options
 abbrev pub form_named : Text → (Text → List Text) → Option Form
@@ -141,16 +141,16 @@ form_with None = None
 form_with (Some p) = form_named p.0 (λ id. given id p.1)
 
 -- the form that the words have, or none
-abbrev pub form_of : List Text → Option Form
-form_of words = if list_any is_odd words then None else form_with (parsed words)
+abbrev pub form_of_words : List Text → Option Form
+form_of_words words = if list_any is_odd words then None else form_with (parsed words)
 
 -- the numbers of a form are in their ranges
-abbrev pub IsInRange : Form → Type 0
-IsInRange Scratch = Unit {0}
-IsInRange (Run workers) = (1 ≤ workers) × (workers ≤ 16)
-IsInRange (Gen size seed workers) = (1 ≤ size) × (size ≤ 1000) × (seed ≤ 2147483647) × (1 ≤ workers) × (workers ≤ 16)
-IsInRange (Hit x y) = (x ≤ 1000000) × (y ≤ 1000000)
-IsInRange Check = Unit {0}
+abbrev pub IsFormInRange : Form → Type 0
+IsFormInRange Scratch = Unit {0}
+IsFormInRange (Run workers) = (1 ≤ workers) × (workers ≤ 16)
+IsFormInRange (Gen size seed workers) = (1 ≤ size) × (size ≤ 1000) × (seed ≤ 2147483647) × (1 ≤ workers) × (workers ≤ 16)
+IsFormInRange (Hit x y) = (x ≤ 1000000) × (y ≤ 1000000)
+IsFormInRange Check = Unit {0}
 
 abbrev pub NumbersAreInRange : Type 0
-NumbersAreInRange = (words : List Text) (form : Form) → form_of words ≡ Some form → IsInRange form
+NumbersAreInRange = (words : List Text) (form : Form) → form_of_words words ≡ Some form → IsFormInRange form

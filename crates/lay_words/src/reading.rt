@@ -2,7 +2,7 @@
 
 ghost use Rattle.std.specs.Prelude.{◌≡◌, IfOk, map, string_bytes, Some, None};
 ghost use Rattle.clap.specs.Words.{found_of, rows_of, subcommand_rows_of};
-ghost use Rattle.lay_words.specs.Grammar.{form_of, gen_with, hit_with, run_with, number_of};
+ghost use Rattle.lay_words.specs.Grammar.{form_of_words, gen_with, hit_with, run_with, number_of};
 ghost use Rattle.lay_words.specs.Agree.{form_in, gen_found, hit_found, number_found, run_found};
 
 use crate::command::command;
@@ -16,7 +16,7 @@ use std::alloc::Global;
 
 /// The form of these words; None exactly where they have none of the forms.
 pub fn read_words(alloc: Global, words: &[String]) -> Result<Option<Form>, NoMemory>
-    ensures { IfOk result (λ form. form ≡ form_of (map string_bytes words.now)) }
+    ensures { IfOk result (λ form. form ≡ form_of_words (map string_bytes words.now)) }
 {
     if any_odd(words) {
         return Ok(None);

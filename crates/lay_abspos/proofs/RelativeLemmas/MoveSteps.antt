@@ -11,7 +11,7 @@ use Rattle.lay_box_tree.specs.ContextBoxes.{AreContextBoxes}
 use Rattle.lay_sizes.specs.declared.sizing.BoxSizes.{BoxSizes}
 use Rattle.lay_abspos.specs.declared.relative.offset.Offset.{Offset}
 use Rattle.lay_abspos.specs.Relative.MoveBounds.{AreNearMoves, IsMoveNear}
-use Rattle.lay_abspos.specs.Relative.Moves.{carrier, move_at, move_of, own_offset, sum_of}
+use Rattle.lay_abspos.specs.Relative.Moves.{carrier, move_at, move_of, own_offset, offset_sum}
 
 pub read_before : (ms : List Offset) (m : Offset) (k : ℕ) → k < length ms → move_at (ms ++ m ∷ []) k ≡ move_at ms k
 read_before ms m k lt = grind (arith, elements)
@@ -29,7 +29,7 @@ carrier_before boxes formers k are of positive within =
     former_before boxes k (box_parent boxes k) _ (are.tree.before k positive (omega (arith, within, length-parents boxes))) (of.each k within)
 
 -- by how much another box than the own one is moved
-pub positive_move : (boxes : List BoxNode) (sizes : List BoxSizes) (formers : List (Option ℕ)) (ms : List Offset) (k : ℕ) → 0 < k → move_of boxes sizes formers ms k ≡ sum_of (own_offset boxes sizes k) (move_at ms (carrier boxes formers k))
+pub positive_move : (boxes : List BoxNode) (sizes : List BoxSizes) (formers : List (Option ℕ)) (ms : List Offset) (k : ℕ) → 0 < k → move_of boxes sizes formers ms k ≡ offset_sum (own_offset boxes sizes k) (move_at ms (carrier boxes formers k))
 positive_move boxes sizes formers ms zero positive = absurd (omega arith)
 positive_move boxes sizes formers ms (suc k) positive = refl
 
@@ -38,7 +38,7 @@ pub move_before : (boxes : List BoxNode) (sizes : List BoxSizes) (formers : List
     → ((j : ℕ) → j < k → move_at ms j ≡ move_at ns j) → move_of boxes sizes formers ms k ≡ move_of boxes sizes formers ns k
 move_before boxes sizes formers ms ns zero are of within same = refl
 move_before boxes sizes formers ms ns (suc k) are of within same =
-    ap (sum_of (own_offset boxes sizes (suc k))) (same (carrier boxes formers (suc k)) (carrier_before boxes formers (suc k) are of (omega arith) within))
+    ap (offset_sum (own_offset boxes sizes (suc k))) (same (carrier boxes formers (suc k)) (carrier_before boxes formers (suc k) are of (omega arith) within))
 
 -- with one more those before n + 1 are as they have to be
 pub one_more : (boxes : List BoxNode) (sizes : List BoxSizes) (formers : List (Option ℕ)) (ms : List Offset) (n : ℕ) (m : Offset) → AreContextBoxes boxes → AreFormerParents boxes formers → n < length boxes → length ms ≡ n

@@ -37,8 +37,8 @@ own_offset boxes sizes k =
 abbrev pub carrier : List BoxNode → List (Option ℕ) → ℕ → ℕ
 carrier boxes formers k = unwrap_or (slice_index_or formers k None) (box_parent boxes k)
 
-abbrev pub sum_of : Offset → Offset → Offset
-sum_of a b = record {
+abbrev pub offset_sum : Offset → Offset → Offset
+offset_sum a b = record {
   right = record { 0 = a.right.0 +ℤ b.right.0 };
   down = record { 0 = a.down.0 +ℤ b.down.0 };
 }
@@ -49,7 +49,7 @@ move_at moves k = slice_index_or moves k no_offset
 -- by how much the box at k is moved, where that is known of the boxes before it
 abbrev pub move_of : List BoxNode → List BoxSizes → List (Option ℕ) → List Offset → ℕ → Offset
 move_of boxes sizes formers moves zero = no_offset
-move_of boxes sizes formers moves (suc k) = sum_of (own_offset boxes sizes (suc k)) (move_at moves (carrier boxes formers (suc k)))
+move_of boxes sizes formers moves (suc k) = offset_sum (own_offset boxes sizes (suc k)) (move_at moves (carrier boxes formers (suc k)))
 
 -- these are the moves of the boxes
 pub record HasMoves (boxes : List BoxNode) (sizes : List BoxSizes) (moves : List Offset) : Type 0 where

@@ -4,7 +4,7 @@ ghost use Rattle.std.specs.Prelude.{◌≡◌, ◌<◌, IsFalse, length, IfOk};
 ghost use Rattle.lay_sizes.specs.SizeColumns.{HaveSizeBounds};
 ghost use Rattle.lay_abspos.specs.Relative.FormerParents.{AreFormerParents};
 ghost use Rattle.lay_abspos.specs.Relative.MoveBounds.{AreNearMoves, IsMoveNear};
-ghost use Rattle.lay_abspos.specs.Relative.Moves.{HasMoves, NoneIsRelative, carrier, is_movable, move_of, own_offset, sum_of};
+ghost use Rattle.lay_abspos.specs.Relative.Moves.{HasMoves, NoneIsRelative, carrier, is_movable, move_of, own_offset, offset_sum};
 ghost use Rattle.lay_abspos.specs.Relative.RelativeOffsets.{IsOffsetUsed};
 
 use crate::relative::box_moves::BoxMoves;
@@ -146,7 +146,7 @@ fn former_or_parent(boxes: &ContextBoxes, formers: &[Option<usize>], k: usize) -
 fn sum_of(own: Offset, carried: Offset) -> Result<Offset, NoMemory>
     requires own { IsOffsetUsed own }
     requires carried { IsMoveNear carried }
-    ensures sum { IfOk result (λ o. o ≡ sum_of own carried) }
+    ensures sum { IfOk result (λ o. o ≡ offset_sum own carried) }
     ensures near { IfOk result IsMoveNear }
 {
     let right = near_sum(own.right, carried.right)?;

@@ -24,7 +24,7 @@ use Rattle.lay_boxgen.specs.Display.{element_form, flow_of, is_floated, is_out_o
 use Rattle.lay_boxgen.specs.NodeBoxes.{establishes_context, form_of, node_box, node_flow, replaced_form}
 use Rattle.lay_boxgen.specs.WhiteSpace.{text_form, white_form}
 use Rattle.lay_after_edits.proofs.Cited.{SameNode}
-use Rattle.lay_after_edits.specs.Contexts.Reach.{AreTextsAlike, IsAlike, IsSeen}
+use Rattle.lay_after_edits.specs.Contexts.Reach.{AreTextsAlike, IsAlike, IsTextSeen}
 
 -- what is read of a list at a place
 pub read-there : {X : Type 0} (xs : List X) (k : ℕ) (d y : X) → k < length xs → slice_get xs k ≡ Some y → slice_index_or xs k d ≡ y
@@ -53,11 +53,11 @@ node-flow-alike (Element colspan rowspan) s t a = flow-alike s t a
 node-flow-alike Text s t a = refl
 node-flow-alike (Replaced w h) s t a = flow-alike s t a
 
-form-seen : (r : Bool) (text : List ℕ) (s : Style) → IsSeen text → form_of r Text text s ≡ Some (form.Text Seen)
+form-seen : (r : Bool) (text : List ℕ) (s : Style) → IsTextSeen text → form_of r Text text s ≡ Some (form.Text Seen)
 form-seen r [] s seen = absurd (let z : true ≡ false = seen in cc)
 form-seen r (b ∷ bs) s seen = ap (λ (a : Bool). Some (form.Text (if a then white_form s.text.white_space (b ∷ bs) else Seen))) seen
 
-form-by-seen : (r : Bool) (kind : Kind) (xs ys : List ℕ) (s : Style) → IsSeen xs → IsSeen ys → form_of r kind xs s ≡ form_of r kind ys s
+form-by-seen : (r : Bool) (kind : Kind) (xs ys : List ℕ) (s : Style) → IsTextSeen xs → IsTextSeen ys → form_of r kind xs s ≡ form_of r kind ys s
 form-by-seen r (Element colspan rowspan) xs ys s here there = refl
 form-by-seen r Text xs ys s here there = form-seen r xs s here ∙ sym (form-seen r ys s there)
 form-by-seen r (Replaced w h) xs ys s here there = refl

@@ -17,7 +17,7 @@ use Rattle.lay_contexts.specs.declared.context_spot.ContextSpot.{ContextSpot}
 use Rattle.lay_after_edits.specs.Contexts.Anchored.{IsAnchored, IsNarrowed}
 use Rattle.lay_after_edits.specs.Contexts.Building.{AreBuiltTo, IsBuilt}
 use Rattle.lay_after_edits.specs.Contexts.Edited.{IsEdited}
-use Rattle.lay_after_edits.specs.Contexts.Reach.{ArePlacesOf, AreReachFlags, IsReach, IsReachedContext, IsRestyled}
+use Rattle.lay_after_edits.specs.Contexts.Reach.{ArePlacesOf, AreReachFlags, IsEditReach, IsReachedContext, IsRestyled}
 use Rattle.lay_after_edits.specs.Contexts.Rebuilt.{AreRebuilt, SameBoxes}
 use Rattle.lay_after_edits.specs.declared.contexts.reach.Reach.{Reach}
 use Rattle.lay_after_edits.specs.Contexts.Unstyled.{all_unstyled}
@@ -29,10 +29,10 @@ use Rattle.lay_after_edits.proofs.ContextsLemmas.Outward.{kept-boxes}
 use Rattle.lay_after_edits.proofs.ContextsLemmas.Restyling.{Restyling, not-under, restyling-of, same-boxes, subject-alike}
 use Rattle.lay_after_edits.proofs.ContextsLemmas.SameBoxes.{same-context}
 
-pub from-within : (d : Document) (styles : List Style) (places : List ℕ) (id : ℕ) (r : Reach) → IsReach d.nodes styles places id r → r.from < length d.nodes
+pub from-within : (d : Document) (styles : List Style) (places : List ℕ) (id : ℕ) (r : Reach) → IsEditReach d.nodes styles places id r → r.from < length d.nodes
 from-within d styles places id r is = let w = place_within id (ids_of d.nodes) r.from is.subject in omega (arith, w, length-ids d.nodes)
 
-pub until-within : (d : Document) (styles : List Style) (places : List ℕ) (id : ℕ) (r : Reach) → IsDocument d → IsReach d.nodes styles places id r → r.until ≤ length d.nodes
+pub until-within : (d : Document) (styles : List Style) (places : List ℕ) (id : ℕ) (r : Reach) → IsDocument d → IsEditReach d.nodes styles places id r → r.until ≤ length d.nodes
 until-within d styles places id r doc is =
     let slot = end_is_slot (parents_of d.nodes) doc.tree r.from (let w = from-within d styles places id r is in omega (arith, w, length-parents d.nodes)) in
     let w = slot.within in

@@ -16,7 +16,7 @@ use Rattle.lay_doc.specs.Removal.{after_remove, remove_fault}
 use Rattle.lay_doc.specs.Tree.{slot_of}
 use Rattle.lay_after_edits.specs.declared.styles.stretch.Stretch.{Stretch}
 use Rattle.lay_after_edits.specs.Styles.KeptStyles.{KeepsStyles}
-use Rattle.lay_after_edits.specs.Styles.Stretches.{inserted_at, none_of, removed_at, stretch_of, subtree_at}
+use Rattle.lay_after_edits.specs.Styles.Stretches.{inserted_at, none_of, removed_at, edit_stretch, subtree_at}
 use Rattle.lay_after_edits.proofs.StylesLemmas.ChangedNodes.{all_stay, changed_moved}
 use Rattle.lay_after_edits.proofs.StylesLemmas.InsertedNodes.{inserted_moved}
 use Rattle.lay_after_edits.proofs.StylesLemmas.InsertedPlace.{put_in}
@@ -64,7 +64,7 @@ shrunk d id s is (Some (suc p)) e none stretch =
     let moved = removed_moved d.nodes (suc p) is.tree (omega arith) (there d.nodes id (suc p) e) in
     subst (Moves d.nodes (after_remove d id).nodes) (same_Some (removed_at (parents_of d.nodes) (suc p)) s stretch) (rw e moved)
 
-edited_moves : (d : Document) (edit : Edit) (s : Stretch) → IsDocument d → fault d edit ≡ None → stretch_of d edit ≡ Some s → Moves d.nodes (after d edit).nodes s
+edited_moves : (d : Document) (edit : Edit) (s : Stretch) → IsDocument d → fault d edit ≡ None → edit_stretch d edit ≡ Some s → Moves d.nodes (after d edit).nodes s
 edited_moves d (SetStyle node decl) s is none stretch = restyled d node.0 (with_style decl) s is (λ n. refl) (place_of node.0 (ids_of d.nodes)) refl stretch
 edited_moves d (ClearStyle node property) s is none stretch = restyled d node.0 (without_style property) s is (λ n. refl) (place_of node.0 (ids_of d.nodes)) refl stretch
 edited_moves d (SetText node text) s is none stretch =
@@ -74,7 +74,7 @@ edited_moves d (Insert parent index new) s is none stretch = grown d (Insert par
 edited_moves d (Remove node) s is none stretch = shrunk d node.0 s is (place_of node.0 (ids_of d.nodes)) refl none stretch
 edited_moves d (Bad bad) s is none stretch = absurd cc
 
-pub edited_keeps : (d e : Document) (edit : Edit) (s : Stretch) (styles : List Style) → IsDocument d → fault d edit ≡ None → e ≡ after d edit → stretch_of d edit ≡ Some s
+pub edited_keeps : (d e : Document) (edit : Edit) (s : Stretch) (styles : List Style) → IsDocument d → fault d edit ≡ None → e ≡ after d edit → edit_stretch d edit ≡ Some s
     → HasStyles (parents_of d.nodes) (declarations_of d.nodes) styles → KeepsStyles (parents_of e.nodes) (declarations_of e.nodes) styles s
 edited_keeps d e edit s styles is none later stretch has =
     subst (λ (x : Document). KeepsStyles (parents_of x.nodes) (declarations_of x.nodes) styles s) (sym later)

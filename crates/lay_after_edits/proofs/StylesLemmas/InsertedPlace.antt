@@ -13,7 +13,7 @@ use Rattle.lay_doc.specs.Document.{Document, IsDocument, becomes, depths_of, ids
 use Rattle.lay_doc.specs.Edits.{after, after_insert, fault, fault_below, insert_fault}
 use Rattle.lay_doc.specs.NewNodes.{NewNodeValue}
 use Rattle.lay_doc.specs.Tree.{IsSlot, child_count, slot_of}
-use Rattle.lay_after_edits.specs.Styles.Stretches.{inserted_at, stretch_of}
+use Rattle.lay_after_edits.specs.Styles.Stretches.{inserted_at, edit_stretch}
 
 passed : (b : Bool) (f : EditFault) (rest : Option EditFault) → (if b then Some f else rest) ≡ None → (b ≡ false) × (rest ≡ None)
 passed true f rest h = absurd cc
@@ -68,7 +68,7 @@ new_place d parent index new put =
 pub record IsFound (d e : Document) (edit : Edit) (id : ℕ) : Type 0 where
   pub at : ℕ
   pub there : place_of id (ids_of e.nodes) ≡ Some at
-  pub stretch : stretch_of d edit ≡ Some (inserted_at at)
+  pub stretch : edit_stretch d edit ≡ Some (inserted_at at)
 
 pub found_new : (d e : Document) (edit : Edit) (parent : NodeId) (index : ℕ) (new : NewNodeValue) (id : NodeId) → IsDocument d → fault d edit ≡ None
     → e ≡ after d edit → edit ≡ Insert parent index new → id ≡ new.id → IsFound d e edit id.0
@@ -79,5 +79,5 @@ found_new d e edit parent index new id is accepted later inserts named =
       there = ap (λ (i : NodeId). place_of i.0 (ids_of e.nodes)) named
           ∙ ap (λ (x : Document). place_of new.id.0 (ids_of x.nodes)) (later ∙ ap (after d) inserts)
           ∙ new_place d parent.0 index new put;
-      stretch = ap (stretch_of d) inserts ∙ ap (option_map (λ (p : ℕ). inserted_at (slot_of (parents_of d.nodes) p index))) put.named;
+      stretch = ap (edit_stretch d) inserts ∙ ap (option_map (λ (p : ℕ). inserted_at (slot_of (parents_of d.nodes) p index))) put.named;
     }

@@ -29,7 +29,7 @@ pub record ArePlacesOf (contexts : List Context) (places : List ℕ) : Type 0 wh
   pub each : (i : ℕ) → i < length contexts → slice_index places i ≡ (context_at contexts i).place
 
 -- the nodes from the one with this id on, and behind the last one below it; and the number of the context around it, if it has one
-pub record IsReach (nodes : List Node) (styles : List Style) (places : List ℕ) (id : ℕ) (r : Reach) : Type 0 where
+pub record IsEditReach (nodes : List Node) (styles : List Style) (places : List ℕ) (id : ℕ) (r : Reach) : Type 0 where
   pub subject : place_of id (ids_of nodes) ≡ Some r.from
   pub until_is : r.until ≡ end_of (parents_of nodes) r.from
   pub around_is : (i : ℕ) → i < length places → IsAround nodes styles r.from (slice_index places i) → r.around ≡ Some i
@@ -57,26 +57,26 @@ abbrev pub AreAlike : (styles others : List Style) (from until : ℕ) → Type 0
 AreAlike styles others from until = (k : ℕ) → from ≤ k → k < until → IsAlike (style_at styles k) (style_at others k)
 
 -- A text has more than white space, so that a box is generated of it whatever its style is (9.2.2.1 and 16.6.1).
-abbrev pub IsSeen : List ℕ → Type 0
-IsSeen text = list_all is_white_byte text ≡ false
+abbrev pub IsTextSeen : List ℕ → Type 0
+IsTextSeen text = list_all is_white_byte text ≡ false
 
 -- so has the text of the node at a place
 abbrev pub IsSeenAt : List Node → ℕ → Type 0
-IsSeenAt nodes place = (n : Node) → slice_get nodes place ≡ Some n → IsSeen n.text
+IsSeenAt nodes place = (n : Node) → slice_get nodes place ≡ Some n → IsTextSeen n.text
 
 -- texts that are one, or of which a box is generated whatever the style is
 abbrev pub AreTextsAlike : List ℕ → List ℕ → Type 0
-AreTextsAlike xs ys = (xs ≡ ys) ⊎ (IsSeen xs × IsSeen ys)
+AreTextsAlike xs ys = (xs ≡ ys) ⊎ (IsTextSeen xs × IsTextSeen ys)
 
 -- if the edit changes the text of the node at a place, it has such a text before it and after it
 abbrev pub StaysSeen : Edit → List Node → ℕ → Type 0
-StaysSeen (SetText node text) nodes place = IsSeenAt nodes place × IsSeen text
+StaysSeen (SetText node text) nodes place = IsSeenAt nodes place × IsTextSeen text
 StaysSeen _ nodes place = ⊤
 
 -- the edit changes a node which reaches so far, the styles there are alike, and its text stays one of which a box is generated
 pub record IsRestyled (d : Document) (styles : List Style) (edit : Edit) (others : List Style) (places : List ℕ) (r : Reach) : Type 0 where
   pub id : ℕ
   pub change : IsChange edit id
-  pub reach : IsReach d.nodes styles places id r
+  pub reach : IsEditReach d.nodes styles places id r
   pub alike : AreAlike styles others r.from r.until
   pub text : StaysSeen edit d.nodes r.from

@@ -25,14 +25,14 @@ abbrev pub none_of : ℕ → Stretch
 none_of count = record { from = count; until = count; to = count }
 
 -- those of an edit that the document takes
-abbrev pub stretch_of : Document → Edit → Option Stretch
-stretch_of d (SetStyle node decl) = option_map (subtree_at (parents_of d.nodes)) (place_of node.0 (ids_of d.nodes))
-stretch_of d (ClearStyle node property) = option_map (subtree_at (parents_of d.nodes)) (place_of node.0 (ids_of d.nodes))
-stretch_of d (SetText node text) = Some (none_of (length d.nodes))
-stretch_of d (Insert parent index new) =
+abbrev pub edit_stretch : Document → Edit → Option Stretch
+edit_stretch d (SetStyle node decl) = option_map (subtree_at (parents_of d.nodes)) (place_of node.0 (ids_of d.nodes))
+edit_stretch d (ClearStyle node property) = option_map (subtree_at (parents_of d.nodes)) (place_of node.0 (ids_of d.nodes))
+edit_stretch d (SetText node text) = Some (none_of (length d.nodes))
+edit_stretch d (Insert parent index new) =
     option_map (λ p. inserted_at (slot_of (parents_of d.nodes) p index)) (place_of parent.0 (ids_of d.nodes))
-stretch_of d (Remove node) = option_map (removed_at (parents_of d.nodes)) (place_of node.0 (ids_of d.nodes))
-stretch_of d (Bad bad) = None
+edit_stretch d (Remove node) = option_map (removed_at (parents_of d.nodes)) (place_of node.0 (ids_of d.nodes))
+edit_stretch d (Bad bad) = None
 
 -- where the node at k of the document after the edit stood before it, if it isn't in the stretch
 abbrev pub earlier : Stretch → ℕ → ℕ

@@ -5,7 +5,7 @@ ghost use Rattle.lay_style.specs.Places.{place_of};
 ghost use Rattle.lay_doc.specs.Document.{ids_of};
 ghost use Rattle.lay_contexts.specs.ContextTree.{IsAround};
 ghost use Rattle.lay_contexts.specs.ListedContexts.{AreContextPlaces};
-ghost use Rattle.lay_after_edits.specs.Contexts.Reach.{AreReachFlags, IsChange, IsReach, IsReachedContext};
+ghost use Rattle.lay_after_edits.specs.Contexts.Reach.{AreReachFlags, IsChange, IsEditReach, IsReachedContext};
 
 use crate::contexts::edited_doc::EditedDoc;
 use crate::contexts::places::number_at;
@@ -38,7 +38,7 @@ pub(crate) fn reach_of(of: &EditedDoc<'_>, places: &[usize], node: NodeId) -> Re
     requires places { AreContextPlaces of.now.doc.now.nodes of.now.was.now places.now }
     requires styles { length of.now.was.now ≡ length of.now.doc.now.nodes }
     requires node { IsSome (place_of node.0 (ids_of of.now.doc.now.nodes)) }
-    ensures { IsReach of.now.doc.now.nodes of.now.was.now places.now node.0 result }
+    ensures { IsEditReach of.now.doc.now.nodes of.now.was.now places.now node.0 result }
 {
     let _ = of.doc.nodes();
     match of.doc.find(node) {

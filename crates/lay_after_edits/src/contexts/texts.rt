@@ -1,7 +1,7 @@
 //! Whether a box is generated of a text before an edit and after it.
 
 ghost use Rattle.std.specs.Prelude.{◌<◌, IsTrue, length};
-ghost use Rattle.lay_after_edits.specs.Contexts.Reach.{IsSeen, IsSeenAt, StaysSeen};
+ghost use Rattle.lay_after_edits.specs.Contexts.Reach.{IsTextSeen, IsSeenAt, StaysSeen};
 
 use crate::contexts::edited_doc::EditedDoc;
 use lay_boxgen::is_white;
@@ -9,7 +9,7 @@ use lay_doc::{Doc, Edit};
 
 /// Whether a text has more than white space.
 pub(crate) fn is_seen(text: &str) -> bool
-    ensures { IsTrue result → IsSeen text.now }
+    ensures { IsTrue result → IsTextSeen text.now }
 {
     !is_white(text.as_bytes())
 }

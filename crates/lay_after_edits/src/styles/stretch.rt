@@ -6,7 +6,7 @@ ghost use Rattle.lay_doc.specs.Changes.{style_fault};
 ghost use Rattle.lay_doc.specs.Document.{ids_of, parents_of};
 ghost use Rattle.lay_doc.specs.Edits.{after, fault};
 ghost use Rattle.lay_doc.specs.Removal.{remove_fault};
-ghost use Rattle.lay_after_edits.specs.Styles.Stretches.{inserted_at, none_of, removed_at, stretch_of, subtree_at};
+ghost use Rattle.lay_after_edits.specs.Styles.Stretches.{inserted_at, none_of, removed_at, edit_stretch, subtree_at};
 
 use lay_doc::{Doc, Edit, NodeId};
 
@@ -22,7 +22,7 @@ pub(crate) struct Stretch {
 pub(crate) fn stretch_of(doc: &Doc, later: &Doc, edit: &Edit) -> Stretch
     requires accepted { fault doc.now edit.now ≡ None }
     requires later { later.now ≡ after doc.now edit.now }
-    ensures { stretch_of doc.now edit.now ≡ Some result }
+    ensures { edit_stretch doc.now edit.now ≡ Some result }
 {
     let _ = doc.nodes();
     match edit {

@@ -17,7 +17,7 @@ use Rattle.lay_cascade.specs.declared.node_names.names.Names.{Names}
 use Rattle.lay_sheet.specs.Sheets.{RuleValue}
 use Rattle.lay_cascade.specs.declared.styled.candidates.Candidate.{Candidate}
 use Rattle.lay_cascade.specs.Styled.Weights.{key_of, own_key, is_less_key, is_lighter}
-use Rattle.lay_cascade.specs.Styled.Winners.{settled_one, settled, restyled}
+use Rattle.lay_cascade.specs.Styled.Winners.{settled_one, with_winners, restyled}
 use Rattle.lay_cascade.specs.Styled.Cascade.{IsInSheet, IsGreatest, AreWinners}
 use Rattle.lay_cascade.specs.Styled.Laws.{MayHave, by_sheet, by_itself, StyledDeclares}
 use Rattle.lay_cascade.proofs.StyledLemmas.Numbers.{number_below, number_at, property_at}
@@ -36,7 +36,7 @@ module _ (p : Property) where
       of_test true = sets_one_lem p c.decl ds ∙ rw (ne_eqb (number_of p) (number_of c.decl.property) ne) refl
       of_test false = refl
 
-  others : (ws : List (Option Candidate)) (ds : List Declaration) → ((i : ℕ) (c : Candidate) → slice_index_or ws i None ≡ Some c → number_of p ≡ number_of c.decl.property → ⊥) → declared_value p (settled ws ds) ≡ declared_value p ds
+  others : (ws : List (Option Candidate)) (ds : List Declaration) → ((i : ℕ) (c : Candidate) → slice_index_or ws i None ≡ Some c → number_of p ≡ number_of c.decl.property → ⊥) → declared_value p (with_winners ws ds) ≡ declared_value p ds
   others [] ds none = refl
   others (None ∷ ws) ds none = others ws ds (λ i c e. none (suc i) c e)
   others (Some c ∷ ws) ds none = others ws (settled_one c ds) (λ i d e. none (suc i) d e) ∙ other_one c ds (none 0 c refl)
@@ -55,7 +55,7 @@ module _ (p : Property) where
       of_test false = refl
 
   at_place : (ws : List (Option Candidate)) (ds : List Declaration) (i : ℕ) (o : Option Candidate) → i < length ws → slice_index_or ws i None ≡ o → ((c : Candidate) → o ≡ Some c → number_of p ≡ number_of c.decl.property) →
-      ((j : ℕ) (c : Candidate) → slice_index_or ws j None ≡ Some c → (j ≡ i → ⊥) → number_of p ≡ number_of c.decl.property → ⊥) → declared_value p (settled ws ds) ≡ outcome o (declared_value p ds)
+      ((j : ℕ) (c : Candidate) → slice_index_or ws j None ≡ Some c → (j ≡ i → ⊥) → number_of p ≡ number_of c.decl.property → ⊥) → declared_value p (with_winners ws ds) ≡ outcome o (declared_value p ds)
   at_place [] ds i o h is own none = absurd (omega (arith, h))
   at_place (None ∷ ws) ds zero o h is own none = others ws ds (λ j c e. none (suc j) c e (λ q. absurd (omega (arith, q)))) ∙ ap (λ z. outcome z (declared_value p ds)) is
   at_place (Some c ∷ ws) ds zero o h is own none =
@@ -141,14 +141,14 @@ module _ (rules : List RuleValue) (nodes : List Node) (names : List Names) (k : 
 
 -- the node at a place, before and after
 found_at : (ws : List (List (Option Candidate))) (nodes : List Node) (k : ℕ) (node : Node) → length ws ≡ length nodes → slice_get (restyled ws nodes) k ≡ Some node →
-    (n : Node) × (slice_get nodes k ≡ Some n) × (node.decls ≡ settled (slice_index_or ws k []) n.decls)
+    (n : Node) × (slice_get nodes k ≡ Some n) × (node.decls ≡ with_winners (slice_index_or ws k []) n.decls)
 found_at [] [] k node count is = absurd (none-node node is)
   where
     none-node : (a : Node) → None ≡ Some a → ⊥
     none-node a e = absurd cc
 found_at [] (n ∷ ns) k node count is = absurd (omega (arith, count))
 found_at (w ∷ ws) [] k node count is = absurd (omega (arith, count))
-found_at (w ∷ ws) (n ∷ ns) zero node count is = (n, refl, ap (λ (z : Node). z.decls) (sym (some-node (record n { decls = settled w n.decls }) node is)))
+found_at (w ∷ ws) (n ∷ ns) zero node count is = (n, refl, ap (λ (z : Node). z.decls) (sym (some-node (record n { decls = with_winners w n.decls }) node is)))
 found_at (w ∷ ws) (n ∷ ns) (suc k) node count is = found_at ws ns k node (omega (arith, count)) is
 
 -- each stands at the number of its property
@@ -170,7 +170,7 @@ module _ (rules : List RuleValue) (nodes : List Node) (names : List Names) (k : 
           ne (sym q ∙ numbered_own (property_at j) c (ap (λ z. slice_index_or ws z None) q ∙ e) ∙ sym same)
       of_cases (inr l) = let n = are.count in none-candidate c (sym (get_or-eq_default ws None (omega (arith, l, n))) ∙ e)
 
-  declares : (p : Property) (ds : List Declaration) → declared_value p (settled ws ds) ≡ outcome (slice_index_or ws (number_of p) None) (declared_value p ds)
+  declares : (p : Property) (ds : List Declaration) → declared_value p (with_winners ws ds) ≡ outcome (slice_index_or ws (number_of p) None) (declared_value p ds)
   declares p ds =
       let h = number_below p in
       let n = are.count in
@@ -185,7 +185,7 @@ styled_declares_lem doc rules names new styled k node is p = (
     was : slice_get (restyled styled.winners doc.nodes) k ≡ Some node
     was = subst (λ (z : Document). slice_get z.nodes k ≡ Some node) styled.is is
 
-    f : (n : Node) × (slice_get doc.nodes k ≡ Some n) × (node.decls ≡ settled (slice_index_or styled.winners k []) n.decls)
+    f : (n : Node) × (slice_get doc.nodes k ≡ Some n) × (node.decls ≡ with_winners (slice_index_or styled.winners k []) n.decls)
     f = found_at styled.winners doc.nodes k node styled.are.count was
 
     are : AreWinners rules doc.nodes names k (slice_index_or styled.winners k [])

@@ -17,7 +17,7 @@ use Rattle.lay_doc.proofs.NodeColumns.{length-ids}
 use Rattle.lay_cascade.specs.declared.node_names.names.Names.{Names}
 use Rattle.lay_sheet.specs.Sheets.{RuleValue}
 use Rattle.lay_cascade.specs.declared.styled.candidates.Candidate.{Candidate}
-use Rattle.lay_cascade.specs.Styled.Winners.{settled, restyled}
+use Rattle.lay_cascade.specs.Styled.Winners.{with_winners, restyled}
 use Rattle.lay_cascade.specs.Styled.Cascade.{AreWinners, AreAllWinners, IsCascaded}
 use Rattle.lay_cascade.specs.Styled.Taken.{declares_at, takes_one, takes, IsCascadedTo}
 use Rattle.lay_cascade.proofs.StyledLemmas.Numbers.{number_below}
@@ -75,7 +75,7 @@ takes_none c (n ∷ ns) zero h t =
 takes_none c (n ∷ ns) (suc k) h t = ap (λ (r : List Node). n ∷ r) (takes_none c ns k (omega (arith, h)) t)
 
 -- one after the other
-settled_more : (w : Option Candidate) (ws : List (Option Candidate)) (ds : List Declaration) → settled ws (settled (w ∷ []) ds) ≡ settled (w ∷ ws) ds
+settled_more : (w : Option Candidate) (ws : List (Option Candidate)) (ds : List Declaration) → with_winners ws (with_winners (w ∷ []) ds) ≡ with_winners (w ∷ ws) ds
 settled_more None ws ds = refl
 settled_more (Some c) ws ds = refl
 
@@ -147,9 +147,9 @@ restyled_more : (ws : List (List (Option Candidate))) (w : List (Option Candidat
 restyled_more [] w [] h = absurd (omega (arith, h))
 restyled_more [] w (n ∷ ns) h = refl
 restyled_more (x ∷ ws) w [] h = absurd (omega (arith, h))
-restyled_more (x ∷ ws) w (n ∷ ns) h = ap (λ (r : List Node). record n { decls = settled x n.decls } ∷ r) (restyled_more ws w ns (omega (arith, h)))
+restyled_more (x ∷ ws) w (n ∷ ns) h = ap (λ (r : List Node). record n { decls = with_winners x n.decls } ∷ r) (restyled_more ws w ns (omega (arith, h)))
 
-settled_none : (i : ℕ) (ds : List Declaration) → settled (replicate i None) ds ≡ ds
+settled_none : (i : ℕ) (ds : List Declaration) → with_winners (replicate i None) ds ≡ ds
 settled_none zero ds = refl
 settled_none (suc i) ds = settled_none i ds
 

@@ -11,7 +11,7 @@ use Rattle.lay_cascade.specs.declared.counts.Specificity.{Specificity}
 use Rattle.lay_cascade.specs.Specificity.{specificity_of, counted}
 use Rattle.lay_cascade.specs.declared.styled.weight.Weight.{Weight}
 use Rattle.lay_cascade.specs.Styled.Weights.{bit, key_of, own_key, is_less_key, is_lighter}
-use Rattle.lay_cascade.specs.Styled.SpecificityNumbers.{worth, number_of_steps, own_number, IsAbove, IsWeightBy, StandsBefore, CountsLess, WeightsAreNumbers, OwnIsNumber}
+use Rattle.lay_cascade.specs.Styled.SpecificityNumbers.{worth, number_of_steps, own_number, IsBaseAbove, IsWeightBy, StandsBefore, CountsLess, WeightsAreNumbers, OwnIsNumber}
 use Rattle.lay_cascade.proofs.StyledLemmas.Keys.{same, other}
 
 apart : (x y : ℕ) → y ≤ x → (x ≡ y → ⊥) → y < x
@@ -86,7 +86,7 @@ module _ (base : ℕ) where
           let g = add-mul (s.labels * base + s.classes) base base in
           omega (arith, f, g)
 
-  module _ (s t : Specificity) (below : IsAbove base s) (above : IsAbove base t) where
+  module _ (s t : Specificity) (below : IsBaseAbove base s) (above : IsBaseAbove base t) where
     -- what three digits say, one by one
     abbrev pub InTurn : Type 0
     InTurn = (s.labels < t.labels) ⊎ ((s.labels ≡ t.labels) × ((s.classes < t.classes) ⊎ ((s.classes ≡ t.classes) × (s.tags < t.tags))))
@@ -230,11 +230,11 @@ module _ (v w : Weight) where
       (key_behind 0 0 (from_labels v) (from_labels w) refl (from_order o))
 
 module _ (base : ℕ) (v w : Weight) (s t : List Step) (by : IsWeightBy base v s) (of : IsWeightBy base w t) where
-  above_first : IsAbove base v.specificity
-  above_first = subst (IsAbove base) (sym by.is) by.above
+  above_first : IsBaseAbove base v.specificity
+  above_first = subst (IsBaseAbove base) (sym by.is) by.above
 
-  above_second : IsAbove base w.specificity
-  above_second = subst (IsAbove base) (sym of.is) of.above
+  above_second : IsBaseAbove base w.specificity
+  above_second = subst (IsBaseAbove base) (sym of.is) of.above
 
   number_first : number_of_steps base s ≡ three base v.specificity
   number_first = counts_number base s ∙ ap (three base) (sym by.is)

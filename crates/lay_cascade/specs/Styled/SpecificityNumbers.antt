@@ -26,7 +26,7 @@ abbrev pub own_number : ℕ → ℕ
 own_number base = base * base * base
 
 -- a base is above all counts of a selector
-pub record IsAbove (base : ℕ) (s : Specificity) : Type 0 where
+pub record IsBaseAbove (base : ℕ) (s : Specificity) : Type 0 where
   pub labels : s.labels < base
   pub classes : s.classes < base
   pub tags : s.tags < base
@@ -34,7 +34,7 @@ pub record IsAbove (base : ℕ) (s : Specificity) : Type 0 where
 -- the weight is that of a declaration by these steps
 pub record IsWeightBy (base : ℕ) (w : Weight) (steps : List Step) : Type 0 where
   pub is : w.specificity ≡ specificity_of steps
-  pub above : IsAbove base (specificity_of steps)
+  pub above : IsBaseAbove base (specificity_of steps)
 
 -- of two declarations of a sheet the first stands before the second
 abbrev pub StandsBefore : Weight → Weight → Type 0

@@ -6,7 +6,7 @@ use Rattle.lay_doc.specs.declared.node.Node.{Node}
 use Rattle.lay_cascade.specs.declared.node_names.names.Names.{Names}
 use Rattle.lay_sheet.specs.Sheets.{RuleValue}
 use Rattle.lay_cascade.specs.declared.styled.candidates.Candidate.{Candidate}
-use Rattle.lay_cascade.specs.Styled.Winners.{settled_one, settled, restyled}
+use Rattle.lay_cascade.specs.Styled.Winners.{settled_one, with_winners, restyled}
 use Rattle.lay_cascade.specs.Styled.Cascade.{AreAllWinners}
 
 -- whether the node at a place declares a property
@@ -20,7 +20,7 @@ abbrev pub takes_one : Candidate → Node → Node
 takes_one c n = record n { decls = settled_one c n.decls }
 
 abbrev pub takes : List (Option Candidate) → Node → Node
-takes winners n = record n { decls = settled winners n.decls }
+takes winners n = record n { decls = with_winners winners n.decls }
 
 -- of nodes the first n have taken what is greatest for them, and the others are as before
 pub record IsCascadedTo (rules : List RuleValue) (nodes : List Node) (names : List Names) (n : ℕ) (new : List Node) : Type 0 where

@@ -38,13 +38,13 @@ settled_one c decls =
     if c.weight.important || is_none (declared_value c.decl.property decls) then with_declaration c.decl decls else decls
 
 -- the declarations of a node with those that it takes, in the order of their numbers
-abbrev pub settled : List (Option Candidate) → List Declaration → List Declaration
-settled [] decls = decls
-settled (None ∷ winners) decls = settled winners decls
-settled (Some c ∷ winners) decls = settled winners (settled_one c decls)
+abbrev pub with_winners : List (Option Candidate) → List Declaration → List Declaration
+with_winners [] decls = decls
+with_winners (None ∷ winners) decls = with_winners winners decls
+with_winners (Some c ∷ winners) decls = with_winners winners (settled_one c decls)
 
 -- the nodes, of which the first ones take these
 abbrev pub restyled : List (List (Option Candidate)) → List Node → List Node
 restyled [] nodes = nodes
 restyled (w ∷ ws) [] = []
-restyled (w ∷ ws) (n ∷ ns) = record n { decls = settled w n.decls } ∷ restyled ws ns
+restyled (w ∷ ws) (n ∷ ns) = record n { decls = with_winners w n.decls } ∷ restyled ws ns

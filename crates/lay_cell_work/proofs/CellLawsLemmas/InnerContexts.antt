@@ -17,7 +17,7 @@ use Rattle.lay_contexts.specs.Contexts.{IsInside as IsInsideContext, boxes_in, c
 use Rattle.lay_contexts.specs.ContextTree.{StandsIn, boxes_of_place}
 use Rattle.lay_contexts.specs.DocumentContexts.{spot_at}
 use Rattle.lay_contexts.specs.declared.context_spot.ContextSpot.{ContextSpot}
-use Rattle.lay_cell_work.specs.CellLaws.SameContexts.{IsSameContext, IsTable, Table, inner_at}
+use Rattle.lay_cell_work.specs.CellLaws.SameContexts.{IsSameContext, IsTable, Table, inner_number_at}
 
 -- a box that is marked names a context behind the one at k
 record Names (nodes : List Node) (styles : List Style) (k : ℕ) (b : BoxNode) : Type 0 where
@@ -71,7 +71,7 @@ module _ (t : Table) (is : IsTable t) (c k : ℕ) (lt : c < length t.contexts) (
   ids_there : (boxes : List BoxNode) → k < length boxes → slice_index (box_ids boxes) k ≡ (box_at boxes k).node.0
   ids_there boxes within = get_or-map (λ (b : BoxNode). b.node.0) boxes k no_box 0 within
 
-  some_inside : is_inner (boxes_in t.contexts c) k ≡ true → 0 < inner_at t c k
+  some_inside : is_inner (boxes_in t.contexts c) k ≡ true → 0 < inner_number_at t c k
   some_inside marked =
       let n = names marked in
       let found = is.are_contexts.are.all n.place n.context in
@@ -102,30 +102,30 @@ module _ (t : Table) (is : IsTable t) (c k : ℕ) (lt : c < length t.contexts) (
       let noted = contexts_are_noted is.document is.styles t.contexts i is.is_document is.counted is.are_contexts some counted in
       let outer_is : (context_at t.contexts i).outer ≡ c = ap (λ (x : ContextSpot). x.around) spot ∙ outer in
       let box_is : (context_at t.contexts i).outer_box ≡ k = ap (λ (x : ContextSpot). x.at) spot ∙ at in
-      let number : inner_at t c k ≡ i = ap (λ (o : ℕ). slice_index (context_at t.contexts o).inner k) (sym outer_is) ∙ ap (slice_index (context_at t.contexts (context_at t.contexts i).outer).inner) (sym box_is) ∙ noted.number in
+      let number : inner_number_at t c k ≡ i = ap (λ (o : ℕ). slice_index (context_at t.contexts o).inner k) (sym outer_is) ∙ ap (slice_index (context_at t.contexts (context_at t.contexts i).outer).inner) (sym box_is) ∙ noted.number in
       omega (arith, some, number)
 
   -- and no other box has one
-  marked_inside : 0 < inner_at t c k → is_inner (boxes_in t.contexts c) k ≡ true
+  marked_inside : 0 < inner_number_at t c k → is_inner (boxes_in t.contexts c) k ≡ true
   marked_inside some =
       let are = are_contexts is.document is.styles t.contexts is.is_document is.counted is.are_contexts in
-      let p : ℕ = inner_at t c k in
+      let p : ℕ = inner_number_at t c k in
       let has : IsInsideContext t.contexts c p = record { box = k; within = (let n = are.count c lt in omega (arith, n, inside)); number = refl; some = some } in
       let noted = contexts_are_noted is.document is.styles t.contexts p is.is_document is.counted is.are_contexts some (are.within c p lt has) in
       ap (λ (o : ℕ). is_inner (boxes_in t.contexts o) k) (sym (are.around c p lt has)) ∙ ap (is_inner (boxes_in t.contexts (context_at t.contexts p).outer)) (sym (are.at c p lt has)) ∙ noted.inner
 
-  pub none_by : (b : Bool) → is_inner (boxes_in t.contexts c) k ≡ b → (inner_at t c k ≡ 0) ↔ (b ≡ false)
+  pub none_by : (b : Bool) → is_inner (boxes_in t.contexts c) k ≡ b → (inner_number_at t c k ≡ 0) ↔ (b ≡ false)
   none_by true marked = ((λ z. absurd (let s = some_inside marked in omega (arith, s, z))), (λ z. absurd cc))
   none_by false marked = (
     (λ z. refl),
-    (λ z. elim (cases_lt 0 (inner_at t c k)) [
+    (λ z. elim (cases_lt 0 (inner_number_at t c k)) [
       | inl some ↦ absurd (let m : false ≡ true = sym marked ∙ marked_inside some in cc)
       | inr high ↦ omega (arith, high)
     ]),
   )
 
 -- contexts with the same boxes have contexts inside at the same boxes
-pub none_same : (a b : Table) → IsTable a → IsTable b → (c e : ℕ) → IsSameContext a b c e → (k : ℕ) → k < length (boxes_in a.contexts c) → (inner_at a c k ≡ 0) ↔ (inner_at b e k ≡ 0)
+pub none_same : (a b : Table) → IsTable a → IsTable b → (c e : ℕ) → IsSameContext a b c e → (k : ℕ) → k < length (boxes_in a.contexts c) → (inner_number_at a c k ≡ 0) ↔ (inner_number_at b e k ≡ 0)
 none_same a b is_a is_b c e same k inside =
     let inside_b : k < length (boxes_in b.contexts e) = (let n : length (boxes_in a.contexts c) ≡ length (boxes_in b.contexts e) = ap length same.boxes in omega (arith, inside, n)) in
     let flag : is_inner (boxes_in a.contexts c) k ≡ is_inner (boxes_in b.contexts e) k = ap (λ (boxes : List BoxNode). is_inner boxes k) same.boxes in

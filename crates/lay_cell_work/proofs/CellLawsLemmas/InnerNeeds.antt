@@ -16,7 +16,7 @@ use Rattle.lay_shape.specs.Dependencies.{in_phase, inner_flows, is_inner_flow, n
 use Rattle.lay_shape.specs.Keys.{key_of as key_of_cell}
 use Rattle.lay_shape.specs.Ways.{is_absolute}
 use Rattle.lay_cell_work.proofs.Cited.{in_filter}
-use Rattle.lay_cell_work.specs.CellLaws.SameContexts.{AreSameInside, CounterpartsAreOfOneNode, IsSameContext, IsTable, Table, inner_at, is_out_of_flow}
+use Rattle.lay_cell_work.specs.CellLaws.SameContexts.{AreSameInside, CounterpartsAreOfOneNode, IsSameContext, IsTable, Table, inner_number_at, is_context_out_of_flow}
 use Rattle.lay_cell_work.proofs.CellLawsLemmas.InnerContexts.{none_same}
 use Rattle.lay_cell_work.proofs.CellLawsLemmas.InputForms.{table_are, table_keeps}
 use Rattle.lay_cell_work.specs.CellLaws.KeptInputs.{AreNeedsKept}
@@ -32,7 +32,7 @@ own_flow [] = refl
 own_flow (b ∷ boxes) = same_absolute b.flow
 
 -- a context is absolutely positioned by its boxes
-pub out_of_flow : (t : Table) (c : ℕ) → is_absolute t.contexts c ≡ is_out_of_flow t c
+pub out_of_flow : (t : Table) (c : ℕ) → is_absolute t.contexts c ≡ is_context_out_of_flow t c
 out_of_flow t c = own_flow (boxes_in t.contexts c)
 
 positive_alike : (m n : ℕ) → (m ≡ 0) ↔ (n ≡ 0) → nat_lt 0 m ≡ nat_lt 0 n
@@ -53,50 +53,50 @@ module _ (t : Table) (is : IsTable t) (c k : ℕ) (lt : c < length t.contexts) (
   within : k < length (context_at t.contexts c).inner
   within = (let n = (table_are t is).count c lt in omega (arith, n, inside))
 
-  abbrev has_inside : 0 < inner_at t c k → IsInside t.contexts c (inner_at t c k)
+  abbrev has_inside : 0 < inner_number_at t c k → IsInside t.contexts c (inner_number_at t c k)
   has_inside some = record { box = k; within = within; number = refl; some = some }
 
-  pub inner_within : 0 < inner_at t c k → inner_at t c k < length t.contexts
-  inner_within some = (table_are t is).within c (inner_at t c k) lt (has_inside some)
+  pub inner_within : 0 < inner_number_at t c k → inner_number_at t c k < length t.contexts
+  inner_within some = (table_are t is).within c (inner_number_at t c k) lt (has_inside some)
 
   -- it is absolutely positioned just where its box is an anchor
-  anchor_is : 0 < inner_at t c k → is_absolute t.contexts (inner_at t c k) ≡ is_anchor_at (boxes_in t.contexts c) k
+  anchor_is : 0 < inner_number_at t c k → is_absolute t.contexts (inner_number_at t c k) ≡ is_anchor_at (boxes_in t.contexts c) k
   anchor_is some =
-      let p : ℕ = inner_at t c k in
+      let p : ℕ = inner_number_at t c k in
       let has = has_inside some in
       out_of_flow t p ∙ sym (table_keeps t is p some (inner_within some)).anchor
       ∙ ap (λ (o : ℕ). is_anchor_at (boxes_in t.contexts o) (context_at t.contexts p).outer_box) ((table_are t is).around c p lt has)
       ∙ ap (is_anchor_at (boxes_in t.contexts c)) ((table_are t is).at c p lt has)
 
-  flow_is : is_inner_flow t.contexts (inner_at t c k) ≡ (nat_lt 0 (inner_at t c k) && not (is_anchor_at (boxes_in t.contexts c) k))
-  flow_is = flow_by (inner_at t c k) (is_absolute t.contexts (inner_at t c k)) (is_anchor_at (boxes_in t.contexts c) k) anchor_is
+  flow_is : is_inner_flow t.contexts (inner_number_at t c k) ≡ (nat_lt 0 (inner_number_at t c k) && not (is_anchor_at (boxes_in t.contexts c) k))
+  flow_is = flow_by (inner_number_at t c k) (is_absolute t.contexts (inner_number_at t c k)) (is_anchor_at (boxes_in t.contexts c) k) anchor_is
 
   -- it is listed where it is in flow or floats
-  pub inner_listed : 0 < inner_at t c k → is_anchor_at (boxes_in t.contexts c) k ≡ false → IsIn (inner_flows t.contexts c) (inner_at t c k)
+  pub inner_listed : 0 < inner_number_at t c k → is_anchor_at (boxes_in t.contexts c) k ≡ false → IsIn (inner_flows t.contexts c) (inner_number_at t c k)
   inner_listed some plain =
-      in_filter (is_inner_flow t.contexts) (context_at t.contexts c).inner (inner_at t c k) (k, slice_get-get_or (context_at t.contexts c).inner k 0 within)
-      (and_from (nat_lt 0 (inner_at t c k)) (not (is_absolute t.contexts (inner_at t c k))) (lt-ltb 0 (inner_at t c k) some) (ap not (anchor_is some ∙ plain)))
+      in_filter (is_inner_flow t.contexts) (context_at t.contexts c).inner (inner_number_at t c k) (k, slice_get-get_or (context_at t.contexts c).inner k 0 within)
+      (and_from (nat_lt 0 (inner_number_at t c k)) (not (is_absolute t.contexts (inner_number_at t c k))) (lt-ltb 0 (inner_number_at t c k) some) (ap not (anchor_is some ∙ plain)))
 
 module _ (counterparts : CounterpartsAreOfOneNode) (a b : Table) (is_a : IsTable a) (is_b : IsTable b) (c e : ℕ) (same : IsSameContext a b c e) where
   module _ (k : ℕ) (inside : k < length (boxes_in a.contexts c)) where
     inside_there : k < length (boxes_in b.contexts e)
     inside_there = (let n : length (boxes_in a.contexts c) ≡ length (boxes_in b.contexts e) = ap length same.boxes in omega (arith, inside, n))
 
-    some_alike : nat_lt 0 (inner_at a c k) ≡ nat_lt 0 (inner_at b e k)
-    some_alike = positive_alike (inner_at a c k) (inner_at b e k) (none_same a b is_a is_b c e same k inside)
+    some_alike : nat_lt 0 (inner_number_at a c k) ≡ nat_lt 0 (inner_number_at b e k)
+    some_alike = positive_alike (inner_number_at a c k) (inner_number_at b e k) (none_same a b is_a is_b c e same k inside)
 
-    some_there : 0 < inner_at a c k → 0 < inner_at b e k
-    some_there some = positive (inner_at b e k) (nat_lt 0 (inner_at b e k)) refl (sym some_alike ∙ lt-ltb 0 (inner_at a c k) some)
+    some_there : 0 < inner_number_at a c k → 0 < inner_number_at b e k
+    some_there some = positive (inner_number_at b e k) (nat_lt 0 (inner_number_at b e k)) refl (sym some_alike ∙ lt-ltb 0 (inner_number_at a c k) some)
 
-    flow_alike : is_inner_flow a.contexts (inner_at a c k) ≡ is_inner_flow b.contexts (inner_at b e k)
+    flow_alike : is_inner_flow a.contexts (inner_number_at a c k) ≡ is_inner_flow b.contexts (inner_number_at b e k)
     flow_alike =
         flow_is a is_a c k same.within inside
         ∙ ap (λ (x : Bool). x && not (is_anchor_at (boxes_in a.contexts c) k)) some_alike
-        ∙ ap (λ (boxes : List BoxNode). nat_lt 0 (inner_at b e k) && not (is_anchor_at boxes k)) same.boxes
+        ∙ ap (λ (boxes : List BoxNode). nat_lt 0 (inner_number_at b e k) && not (is_anchor_at boxes k)) same.boxes
         ∙ sym (flow_is b is_b e k same.there inside_there)
 
-    flow_some : is_inner_flow a.contexts (inner_at a c k) ≡ true → 0 < inner_at a c k
-    flow_some flow = positive (inner_at a c k) (nat_lt 0 (inner_at a c k)) refl (and_parts (nat_lt 0 (inner_at a c k)) (not (is_absolute a.contexts (inner_at a c k))) flow).0
+    flow_some : is_inner_flow a.contexts (inner_number_at a c k) ≡ true → 0 < inner_number_at a c k
+    flow_some flow = positive (inner_number_at a c k) (nat_lt 0 (inner_number_at a c k)) refl (and_parts (nat_lt 0 (inner_number_at a c k)) (not (is_absolute a.contexts (inner_number_at a c k))) flow).0
 
   -- the keys of their cells are the same
   pub inner_keys : (phase : Phase) → map (key_of_cell a.contexts) (map (in_phase phase) (inner_flows a.contexts c)) ≡ map (key_of_cell b.contexts) (map (in_phase phase) (inner_flows b.contexts e))
@@ -113,7 +113,7 @@ module _ (counterparts : CounterpartsAreOfOneNode) (a b : Table) (is_a : IsTable
   pub inside_kept : (phase : Phase) → AreNeedsKept a b c phase
       → ((j : ℕ) → IsIn (inner_flows a.contexts c) j → IsIn (needs_in a.contexts (in_phase phase c)) (in_phase phase j)) → AreSameInside a b c e phase
   inside_kept phase kept listed k inside some plain =
-      (kept (inner_at a c k) (inner_at b e k) phase (inner_within a is_a c k same.within inside some)
+      (kept (inner_number_at a c k) (inner_number_at b e k) phase (inner_within a is_a c k same.within inside some)
       (inner_within b is_b e k same.there (inside_there k inside) (some_there k inside some))
-      (listed (inner_at a c k) (inner_listed a is_a c k same.within inside some plain))
+      (listed (inner_number_at a c k) (inner_listed a is_a c k same.within inside some plain))
       (counterparts a b c e k phase is_a is_b same inside some)).kept

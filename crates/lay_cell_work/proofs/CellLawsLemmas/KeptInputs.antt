@@ -24,7 +24,7 @@ use Rattle.lay_context_sizes.specs.declared.setting.Setting.TheVariants.{Absolut
 use Rattle.lay_context.specs.Laws.{MeasuredWhereShrunk}
 use Rattle.lay_context.specs.Medium.{Medium}
 use Rattle.lay_context.specs.Settings.{flow_place, flow_setting, laid, own_place_of, setting_of}
-use Rattle.lay_cell_work.specs.CellLaws.SameContexts.{IsSameAround, IsSameContext, IsSameOut, IsTable, PlaceInputsAreKept, SizeInputsAreKept, Table, is_out_of_flow, workings_in}
+use Rattle.lay_cell_work.specs.CellLaws.SameContexts.{IsSameAround, IsSameContext, IsSameOut, IsTable, PlaceInputsAreKept, SizeInputsAreKept, Table, is_context_out_of_flow, workings_in}
 use Rattle.lay_cell_work.proofs.CellLawsLemmas.CarriedRects as carried
 use Rattle.lay_cell_work.proofs.CellLawsLemmas.InputForms.{table_are, table_calm, table_keeps}
 use Rattle.lay_cell_work.proofs.CellLawsLemmas.OuterBoxes.{outer_boxes_same}
@@ -144,10 +144,10 @@ module _ (one_home : OneHome) (where_shrunk : MeasuredWhereShrunk) (one_nearest 
           ∙ fixed_of (boxes_in t.contexts x) (homes_in is.are_formatting_contexts.homes x)
 
   -- the own boxes are out of flow alike
-  flag_same : is_out_of_flow a c ≡ is_out_of_flow b e
+  flag_same : is_context_out_of_flow a c ≡ is_context_out_of_flow b e
   flag_same = ap (λ (boxes : List BoxNode). forms.is_absolute (flow_at boxes 0)) same.boxes
 
-  absolute_there : (t : Table) (is : IsTable t) (x : ℕ) → x < length t.contexts → is_out_of_flow t x ≡ true → is_absolute t.formatting_contexts (first_number t.contexts x) ≡ true
+  absolute_there : (t : Table) (is : IsTable t) (x : ℕ) → x < length t.contexts → is_context_out_of_flow t x ≡ true → is_absolute t.formatting_contexts (first_number t.contexts x) ≡ true
   absolute_there t is x lt out = own_absolute t.contexts t.formatting_contexts (table_are t is) is.are_formatting_contexts (table_calm t is) (table_keeps t is) x lt ∙ out
 
   root_absolute : c ≡ 0 → absolute_setting medium.viewport a.formatting_contexts (laid (workings_in a)) I ≡ absolute_setting medium.viewport b.formatting_contexts (laid (workings_in b)) J
@@ -162,7 +162,7 @@ module _ (one_home : OneHome) (where_shrunk : MeasuredWhereShrunk) (one_nearest 
     | inr high ↦ root_absolute (omega (arith, high))
   ]
 
-  absolute_setting_is : (t : Table) (is : IsTable t) (x : ℕ) → x < length t.contexts → is_out_of_flow t x ≡ true
+  absolute_setting_is : (t : Table) (is : IsTable t) (x : ℕ) → x < length t.contexts → is_context_out_of_flow t x ≡ true
       → setting_of medium.viewport t.formatting_contexts (workings_in t) (number_of t.contexts x 0) ≡ Absolute (absolute_setting medium.viewport t.formatting_contexts (laid (workings_in t)) (first_number t.contexts x))
   absolute_setting_is t is x lt out =
       let m : ℕ = first_number t.contexts x in
@@ -171,7 +171,7 @@ module _ (one_home : OneHome) (where_shrunk : MeasuredWhereShrunk) (one_nearest 
       ∙ chosen (is_absolute t.formatting_contexts m) (Absolute (absolute_setting medium.viewport t.formatting_contexts (laid (workings_in t)) m)) (flow_setting medium.viewport t.formatting_contexts (workings_in t).sizes m)
       (absolute_there t is x lt out)
 
-  absolute_place_is : (t : Table) (is : IsTable t) (x : ℕ) → x < length t.contexts → is_out_of_flow t x ≡ true
+  absolute_place_is : (t : Table) (is : IsTable t) (x : ℕ) → x < length t.contexts → is_context_out_of_flow t x ≡ true
       → own_place_of medium.viewport t.formatting_contexts (workings_in t) (number_of t.contexts x 0) ≡ own_place.Absolute (absolute_setting medium.viewport t.formatting_contexts (laid (workings_in t)) (first_number t.contexts x))
   absolute_place_is t is x lt out =
       let m : ℕ = first_number t.contexts x in
@@ -179,14 +179,14 @@ module _ (one_home : OneHome) (where_shrunk : MeasuredWhereShrunk) (one_nearest 
       ap (own_place_of medium.viewport t.formatting_contexts (workings_in t)) first
       ∙ chosen (is_absolute t.formatting_contexts m) (own_place.Absolute (absolute_setting medium.viewport t.formatting_contexts (laid (workings_in t)) m)) (flow_place medium.viewport m) (absolute_there t is x lt out)
 
-  setting_by_flow : (f : Bool) → is_out_of_flow a c ≡ f → (0 < c → is_out_of_flow a c ≡ false → IsSameAround a b c e) → (0 < c → is_out_of_flow a c ≡ true → IsSameOut a b c e)
+  setting_by_flow : (f : Bool) → is_context_out_of_flow a c ≡ f → (0 < c → is_context_out_of_flow a c ≡ false → IsSameAround a b c e) → (0 < c → is_context_out_of_flow a c ≡ true → IsSameOut a b c e)
       → setting_of medium.viewport a.formatting_contexts (workings_in a) (number_of a.contexts c 0) ≡ setting_of medium.viewport b.formatting_contexts (workings_in b) (number_of b.contexts e 0)
   setting_by_flow true is around out =
       absolute_setting_is a is_a c same.within is ∙ ap Absolute (absolute_by (λ some. out some is)) ∙ sym (absolute_setting_is b is_b e same.there (sym flag_same ∙ is))
   setting_by_flow false is around out =
       flow_setting_same one_home medium a b is_a is_b c e same is (sym flag_same ∙ is) (λ some. around some is)
 
-  place_by_flow : (f : Bool) → is_out_of_flow a c ≡ f → (0 < c → is_out_of_flow a c ≡ true → IsSameOut a b c e)
+  place_by_flow : (f : Bool) → is_context_out_of_flow a c ≡ f → (0 < c → is_context_out_of_flow a c ≡ true → IsSameOut a b c e)
       → own_place_of medium.viewport a.formatting_contexts (workings_in a) (number_of a.contexts c 0) ≡ own_place_of medium.viewport b.formatting_contexts (workings_in b) (number_of b.contexts e 0)
   place_by_flow true is out =
       absolute_place_is a is_a c same.within is ∙ ap own_place.Absolute (absolute_by (λ some. out some is)) ∙ sym (absolute_place_is b is_b e same.there (sym flag_same ∙ is))
@@ -196,9 +196,9 @@ module _ (one_home : OneHome) (where_shrunk : MeasuredWhereShrunk) (one_nearest 
 pub size_inputs_are_kept_lem : OneHome → MeasuredWhereShrunk → OneNearestHolder → SettingsComeOfWays → SettingsAreValues → SizeInputsAreKept
 size_inputs_are_kept_lem one_home where_shrunk one_nearest come values medium a b c e is_a is_b to =
     size_kept one_home where_shrunk medium a b is_a is_b c e to.own to.widths
-    (setting_by_flow one_home where_shrunk one_nearest come values medium a b is_a is_b c e to.own (is_out_of_flow a c) refl to.around to.out)
+    (setting_by_flow one_home where_shrunk one_nearest come values medium a b is_a is_b c e to.own (is_context_out_of_flow a c) refl to.around to.out)
 
 pub place_inputs_are_kept_lem : OneHome → MeasuredWhereShrunk → OneNearestHolder → SettingsComeOfWays → SettingsAreValues → PlaceInputsAreKept
 place_inputs_are_kept_lem one_home where_shrunk one_nearest come values medium a b c e is_a is_b to =
     place_kept one_home where_shrunk medium a b is_a is_b c e to.own to.sizes to.inside
-    (place_by_flow one_home where_shrunk one_nearest come values medium a b is_a is_b c e to.own (is_out_of_flow a c) refl to.out)
+    (place_by_flow one_home where_shrunk one_nearest come values medium a b is_a is_b c e to.own (is_context_out_of_flow a c) refl to.out)

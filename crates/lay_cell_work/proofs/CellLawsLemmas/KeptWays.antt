@@ -10,7 +10,7 @@ use Rattle.lay_context.specs.declared.task.Phase.TheVariants.{Size, Place}
 use Rattle.lay_shape.specs.declared.cell_key.CellKey.{CellKey}
 use Rattle.lay_shape.specs.Dependencies.{in_phase, on_way}
 use Rattle.lay_shape.specs.Keys.{key_of as key_of_cell, node_of}
-use Rattle.lay_shape.specs.Ways.{beyond, way_from}
+use Rattle.lay_shape.specs.Ways.{outside_unless_held, way_from}
 use Rattle.lay_cell_work.specs.CellLaws.SameContexts.{IsLaidSame, IsSameContext, IsSameWay, IsTable, Table, further, held, initial}
 use Rattle.lay_cell_work.proofs.CellLawsLemmas.InputForms.{table_are}
 use Rattle.lay_cell_work.proofs.CellLawsLemmas.OuterBoxes.{outer_boxes_same}
@@ -31,13 +31,13 @@ begins_in : (contexts : List Context) (fixed : Bool) (t i k : ℕ) → IsIn (way
 begins_in contexts fixed zero i k = in_here i []
 begins_in contexts fixed (suc t) zero k = in_here 0 []
 begins_in contexts fixed (suc t) (suc i) k =
-    in_here (suc i) (beyond (holder_for fixed (boxes_in contexts (suc i)) k) (way_from t fixed contexts (context_at contexts (suc i)).outer (context_at contexts (suc i)).outer_box))
+    in_here (suc i) (outside_unless_held (holder_for fixed (boxes_in contexts (suc i)) k) (way_from t fixed contexts (context_at contexts (suc i)).outer (context_at contexts (suc i)).outer_box))
 
 -- and it goes on where no holder is found
 goes_on : (contexts : List Context) (fixed : Bool) (t i k : ℕ) → holder_for fixed (boxes_in contexts (suc i)) k ≡ None
     → way_from (suc t) fixed contexts (suc i) k ≡ suc i ∷ way_from t fixed contexts (context_at contexts (suc i)).outer (context_at contexts (suc i)).outer_box
 goes_on contexts fixed t i k none =
-    ap (λ (o : Option ℕ). suc i ∷ beyond o (way_from t fixed contexts (context_at contexts (suc i)).outer (context_at contexts (suc i)).outer_box)) none
+    ap (λ (o : Option ℕ). suc i ∷ outside_unless_held o (way_from t fixed contexts (context_at contexts (suc i)).outer (context_at contexts (suc i)).outer_box)) none
 
 -- contexts of one node, of these in a and any in b, are laid out the same
 abbrev pub AreLaidSame : (a b : Table) → List ℕ → Type 0

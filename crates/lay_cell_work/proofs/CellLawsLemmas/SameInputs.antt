@@ -31,7 +31,7 @@ use Rattle.lay_cell_work.specs.CellColumns.{links_or_none}
 use Rattle.lay_cell_work.specs.CellLocal.{masked_setting}
 use Rattle.lay_cell_work.specs.CellValues.{CellValue, own_measured, own_sizes, own_places}
 use Rattle.lay_cell_work.specs.PresentInputs.{spot_in}
-use Rattle.lay_cell_work.specs.CellLaws.SameContexts.{AreSameInside, IsSameAround, IsSameContext, IsSameToMeasure, IsTable, MeasureInputsAreKept, Table, input_in, is_out_of_flow, workings_in}
+use Rattle.lay_cell_work.specs.CellLaws.SameContexts.{AreSameInside, IsSameAround, IsSameContext, IsSameToMeasure, IsTable, MeasureInputsAreKept, Table, input_in, is_context_out_of_flow, workings_in}
 use Rattle.lay_cell_work.proofs.CellLawsLemmas.InputForms.{measure_cell, measure_form, measured_root_same, own_widths_form, place_cell, place_form, placed_root_same, sized_root_same, sizes_form, table_are, table_calm, table_keeps}
 use Rattle.lay_cell_work.proofs.CellLawsLemmas.InnerContexts.{none_same}
 use Rattle.lay_cell_work.proofs.CellLawsLemmas.OuterBoxes.{outer_boxes_same}
@@ -154,7 +154,7 @@ module _ (one_home : OneHome) (where_shrunk : MeasuredWhereShrunk) (medium : Med
         ∙ sym (place_form b is_b e same.there r within_b root_b medium)))
 
 -- one in flow or floating
-module _ (medium : Medium) (t : Table) (is : IsTable t) (c : ℕ) (lt : c < length t.contexts) (in_flow : is_out_of_flow t c ≡ false) where
+module _ (medium : Medium) (t : Table) (is : IsTable t) (c : ℕ) (lt : c < length t.contexts) (in_flow : is_context_out_of_flow t c ≡ false) where
   no_absolute : is_absolute t.formatting_contexts (first_number t.contexts c) ≡ false
   no_absolute = own_absolute t.contexts t.formatting_contexts (table_are t is) is.are_formatting_contexts (table_calm t is) (table_keeps t is) c lt ∙ in_flow
 
@@ -226,7 +226,7 @@ module _ (one_home : OneHome) (medium : Medium) (a b : Table) (is_a : IsTable a)
       ∙ ap (λ (v : CellValue). form (boxes_in b.contexts q) (homes_in is_b.are_formatting_contexts.homes q) v k) sizes
       ∙ ap (form (boxes_in b.contexts q) (homes_in is_b.are_formatting_contexts.homes q) y) place
 
-  pub flow_setting_same : (c e : ℕ) → IsSameContext a b c e → is_out_of_flow a c ≡ false → is_out_of_flow b e ≡ false → (0 < c → IsSameAround a b c e)
+  pub flow_setting_same : (c e : ℕ) → IsSameContext a b c e → is_context_out_of_flow a c ≡ false → is_context_out_of_flow b e ≡ false → (0 < c → IsSameAround a b c e)
       → setting_of medium.viewport a.formatting_contexts (workings_in a) (number_of a.contexts c 0) ≡ setting_of medium.viewport b.formatting_contexts (workings_in b) (number_of b.contexts e 0)
   flow_setting_same zero zero same fa fb around = flow_setting_is medium a is_a zero same.within fa ∙ sym (flow_setting_is medium b is_b zero same.there fb)
   flow_setting_same zero (suc e) same fa fb around = absurd (let z = same.root.0 refl in omega (arith, z))

@@ -25,7 +25,7 @@ use Rattle.lay_cell_work.specs.CellColumns.{links_or_none}
 use Rattle.lay_cell_work.specs.CellInputs.{CellInput, RootInput}
 use Rattle.lay_shape.specs.declared.cell_key.CellKey.{CellKey}
 use Rattle.lay_cell_work.specs.PresentInputs.{key_of, root_count, root_input, spot_in}
-use Rattle.lay_cell_work.specs.CellLaws.SameContexts.{IsSameContext, IsTable, Table, inner_at, input_in, workings_in}
+use Rattle.lay_cell_work.specs.CellLaws.SameContexts.{IsSameContext, IsTable, Table, inner_number_at, input_in, workings_in}
 use Rattle.lay_cell_work.proofs.CellLawsLemmas.InputForms.{table_are, table_calm, table_keeps}
 use Rattle.lay_cell_work.proofs.CellLawsLemmas.MaskedColumns.{columns_same}
 use Rattle.lay_cell_work.proofs.CellLawsLemmas.RootForms.{boxes_are, cell_or, chosen, given_at, link_at, members, number_within, other, positive, root_is}
@@ -157,8 +157,8 @@ module _ (one_home : OneHome) (a b : Table) (is_a : IsTable a) (is_b : IsTable b
     cell_same (suc p) zero both gives = absurd (let z = both.1 refl in omega (arith, z))
     cell_same (suc p) (suc q) both gives = gives (omega arith)
 
-    module _ (some : (k : ℕ) → k < length BA → (inner_at a c k ≡ 0) ↔ (inner_at b e k ≡ 0))
-        (gives : (k : ℕ) → k < length BA → 0 < inner_at a c k → is_anchor_at BA k ≡ false → x (inner_at a c k) ≡ y (inner_at b e k)) where
+    module _ (some : (k : ℕ) → k < length BA → (inner_number_at a c k ≡ 0) ↔ (inner_number_at b e k ≡ 0))
+        (gives : (k : ℕ) → k < length BA → 0 < inner_number_at a c k → is_anchor_at BA k ≡ false → x (inner_number_at a c k) ≡ y (inner_number_at b e k)) where
       abbrev IA : List ℕ
       IA = (context_at a.contexts c).inner
 

@@ -53,14 +53,14 @@ pub record IsSameContext (a b : Table) (c e : ℕ) : Type 0 where
   pub boxes : boxes_in a.contexts c ≡ boxes_in b.contexts e
 
 -- the number of the context inside whose box the one at k is, and 0 where it is none's
-abbrev pub inner_at : Table → (c k : ℕ) → ℕ
-inner_at t c k = slice_index (context_at t.contexts c).inner k
+abbrev pub inner_number_at : Table → (c k : ℕ) → ℕ
+inner_number_at t c k = slice_index (context_at t.contexts c).inner k
 
 -- The cells of the contexts inside that are in flow or float keep the same for a phase, box by box. What an anchor stands for gives
 -- nothing (9.6).
 abbrev pub AreSameInside : (a b : Table) (c e : ℕ) → Phase → Type 0
-AreSameInside a b c e phase = (k : ℕ) → k < length (boxes_in a.contexts c) → 0 < inner_at a c k
-    → is_anchor_at (boxes_in a.contexts c) k ≡ false → a.kept (inner_at a c k) phase ≡ b.kept (inner_at b e k) phase
+AreSameInside a b c e phase = (k : ℕ) → k < length (boxes_in a.contexts c) → 0 < inner_number_at a c k
+    → is_anchor_at (boxes_in a.contexts c) k ≡ false → a.kept (inner_number_at a c k) phase ≡ b.kept (inner_number_at b e k) phase
 
 -- to be measured
 pub record IsSameToMeasure (a b : Table) (c e : ℕ) : Type 0 where
@@ -97,22 +97,22 @@ IsSameOut a b c e =
     IsSameWay (is_own_fixed own.boxes) a b own.outer (context_at b.contexts e).outer own.outer_box
 
 -- the context is absolutely positioned (9.6)
-abbrev pub is_out_of_flow : Table → ℕ → Bool
-is_out_of_flow t c = is_absolute (flow_at (boxes_in t.contexts c) 0)
+abbrev pub is_context_out_of_flow : Table → ℕ → Bool
+is_context_out_of_flow t c = is_absolute (flow_at (boxes_in t.contexts c) 0)
 
 -- to be sized
 pub record IsSameToSize (a b : Table) (c e : ℕ) : Type 0 where
   pub own : IsSameContext a b c e
   pub widths : a.kept c phase.Measure ≡ b.kept e phase.Measure
-  pub around : 0 < c → is_out_of_flow a c ≡ false → IsSameAround a b c e
-  pub out : 0 < c → is_out_of_flow a c ≡ true → IsSameOut a b c e
+  pub around : 0 < c → is_context_out_of_flow a c ≡ false → IsSameAround a b c e
+  pub out : 0 < c → is_context_out_of_flow a c ≡ true → IsSameOut a b c e
 
 -- to be placed
 pub record IsSameToPlace (a b : Table) (c e : ℕ) : Type 0 where
   pub own : IsSameContext a b c e
   pub sizes : a.kept c phase.Size ≡ b.kept e phase.Size
   pub inside : AreSameInside a b c e phase.Place
-  pub out : 0 < c → is_out_of_flow a c ≡ true → IsSameOut a b c e
+  pub out : 0 < c → is_context_out_of_flow a c ≡ true → IsSameOut a b c e
 
 -- Where a context is the same for a task, and what its cell depends on is kept, the cell is given what it was.
 abbrev pub MeasureInputsAreKept : Type 0
@@ -130,5 +130,5 @@ PlaceInputsAreKept = (medium : Medium) (a b : Table) (c e : ℕ) → IsTable a �
 -- What stands inside at the same box is of one node, so its cells are known by the same keys.
 abbrev pub CounterpartsAreOfOneNode : Type 0
 CounterpartsAreOfOneNode = (a b : Table) (c e k : ℕ) (phase : Phase) → IsTable a → IsTable b → IsSameContext a b c e
-    → k < length (boxes_in a.contexts c) → 0 < inner_at a c k
-    → key_of a.contexts (inner_at a c k) phase ≡ key_of b.contexts (inner_at b e k) phase
+    → k < length (boxes_in a.contexts c) → 0 < inner_number_at a c k
+    → key_of a.contexts (inner_number_at a c k) phase ≡ key_of b.contexts (inner_number_at b e k) phase

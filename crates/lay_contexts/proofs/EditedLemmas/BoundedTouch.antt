@@ -17,7 +17,7 @@ use Rattle.lay_contexts.specs.FormattingContexts.{FormattingContext}
 use Rattle.lay_contexts.specs.Homes.{is_root}
 use Rattle.lay_contexts.proofs.OneStand.{marked-true, within}
 use Rattle.lay_contexts.proofs.SpotOrder.{boxes_there}
-use Rattle.lay_contexts.specs.Edited.Bound.{AnchorsTouchNothingAround, EditsTouchNoOthers, IsUntouched, id_of}
+use Rattle.lay_contexts.specs.Edited.Bound.{AnchorsTouchNothingAround, EditsTouchNoOthers, IsBoundUntouched, root_id}
 use Rattle.lay_contexts.specs.Edited.Reached.{IsReached}
 use Rattle.lay_contexts.specs.Edited.Shrinking.{AreListsOf, TakesAnonymousTables}
 use Rattle.lay_contexts.specs.Edited.Touched.{Edits, KeepsBoxes, element}
@@ -41,12 +41,12 @@ module _ (d : Document) (styles : List Style) (contexts : List Context) (all : L
   p-in : p < length d.nodes
   p-in = within d.nodes styles p (marked-true (is_marked (box_at d.nodes styles p)) context-is.establishes)
 
-  named : place_of (id_of d contexts i) (ids_of d.nodes) ≡ Some p
+  named : place_of (root_id d contexts i) (ids_of d.nodes) ≡ Some p
   named =
-      place-is (id_of d contexts i) (ids_of d.nodes) (λ j k less in_ids. lists.document.ids j k less (omega (arith, in_ids, length-ids d.nodes)))
+      place-is (root_id d contexts i) (ids_of d.nodes) (λ j k less in_ids. lists.document.ids j k less (omega (arith, in_ids, length-ids d.nodes)))
       p (omega (arith, p-in, length-ids d.nodes)) refl
 
-  boxes-are : boxes_in contexts i ≡ boxes_of d styles (id_of d contexts i)
+  boxes-are : boxes_in contexts i ≡ boxes_of d styles (root_id d contexts i)
   boxes-are =
       (lists.contexts_are.numbered.each i lt).boxes_are
       ∙ (boxes_there d styles lists.document lists.count lists.contexts_are.spots i in-spots
@@ -55,8 +55,8 @@ module _ (d : Document) (styles : List Style) (contexts : List Context) (all : L
 -- what keeps its boxes, and whose element isn't reached, is untouched
 untouched : (S : Flow → BoxKind → Style → Bool) (d : Document) (edit : Edit) (styles others : List Style) (contexts later : List Context) (all rest : List FormattingContext)
     → TakesAnonymousTables S → Edits d edit styles others → (lists : AreListsOf d styles contexts all) → (later_lists : AreListsOf (after d edit) others later rest)
-    → (i : ℕ) → (lt : i < length contexts) → (IsReached d edit (context_at contexts i).place → ⊥) → KeepsBoxes d (after d edit) styles others (id_of d contexts i)
-    → (j : ℕ) × IsUntouched S d (after d edit) contexts later all rest i j
+    → (i : ℕ) → (lt : i < length contexts) → (IsReached d edit (context_at contexts i).place → ⊥) → KeepsBoxes d (after d edit) styles others (root_id d contexts i)
+    → (j : ℕ) × IsBoundUntouched S d (after d edit) contexts later all rest i j
 untouched S d edit styles others contexts later all rest takes edits lists later_lists i lt apart kept =
     let o = unreached_contexts_stay_outward S d edit styles others contexts later all rest takes edits lists later_lists i lt apart in
     let j : ℕ = o.0 in
@@ -78,7 +78,7 @@ untouched S d edit styles others contexts later all rest takes edits lists later
 
 pub edits_touch_no_others : EditsTouchNoOthers
 edits_touch_no_others S d edit styles others contexts later all rest takes edits lists later_lists i lt =
-    let is_context : IsContext d styles (id_of d contexts i) = subst (IsContextThere d.nodes styles) (sym (named d styles contexts all lists i lt)) (context-is d styles contexts all lists i lt) in
+    let is_context : IsContext d styles (root_id d contexts i) = subst (IsContextThere d.nodes styles) (sym (named d styles contexts all lists i lt)) (context-is d styles contexts all lists i lt) in
     elim (reached-known d edit edits.document (p d styles contexts all lists i lt) (p-in d styles contexts all lists i lt)) [
       | inl reached ↦ inr (inl (record {
         place = p d styles contexts all lists i lt;
@@ -89,7 +89,7 @@ edits_touch_no_others S d edit styles others contexts later all rest takes edits
         own = element;
         is = reached;
       }))
-      | inr apart ↦ elim (edits_touch_reached_contexts d edit styles others (id_of d contexts i) edits (inl is_context)) [
+      | inr apart ↦ elim (edits_touch_reached_contexts d edit styles others (root_id d contexts i) edits (inl is_context)) [
         | inl kept ↦ inl (untouched S d edit styles others contexts later all rest takes edits lists later_lists i lt apart kept)
         | inr more ↦ inr more
       ]
@@ -97,10 +97,10 @@ edits_touch_no_others S d edit styles others contexts later all rest takes edits
 
 pub anchors_touch_nothing_around : AnchorsTouchNothingAround
 anchors_touch_nothing_around S d edit styles others contexts later all rest name takes edits restyling before later_box lists later_lists i lt =
-    let is_context : IsContext d styles (id_of d contexts i) = subst (IsContextThere d.nodes styles) (sym (named d styles contexts all lists i lt)) (context-is d styles contexts all lists i lt) in
+    let is_context : IsContext d styles (root_id d contexts i) = subst (IsContextThere d.nodes styles) (sym (named d styles contexts all lists i lt)) (context-is d styles contexts all lists i lt) in
     elim (reached-known d edit edits.document (p d styles contexts all lists i lt) (p-in d styles contexts all lists i lt)) [
       | inl reached ↦ inr (record { place = p d styles contexts all lists i lt; named = named d styles contexts all lists i lt; reached = reached })
-      | inr apart ↦ elim (anchors_keep_contexts_around d edit styles others name (id_of d contexts i) edits restyling before later_box (inl is_context)) [
+      | inr apart ↦ elim (anchors_keep_contexts_around d edit styles others name (root_id d contexts i) edits restyling before later_box (inl is_context)) [
         | inl kept ↦ inl (untouched S d edit styles others contexts later all rest takes edits lists later_lists i lt apart kept)
         | inr reached ↦ inr reached
       ]

@@ -17,16 +17,16 @@ use Rattle.lay_contexts.specs.Edited.Shrinking.{AreListsOf, IsWithinOutward, Tak
 use Rattle.lay_contexts.specs.Edited.Touched.{Edits, HasReached}
 
 -- the id of the element of the context with the number i
-abbrev pub id_of : Document → List Context → ℕ → ℕ
-id_of d contexts i = slice_index (ids_of d.nodes) (context_at contexts i).place
+abbrev pub root_id : Document → List Context → ℕ → ℕ
+root_id d contexts i = slice_index (ids_of d.nodes) (context_at contexts i).place
 
 -- the context with the number j after an edit is that with the number i before it, with the same boxes, and says the same of all its
 -- roots: its own box, and the anonymous tables and cells in it
-pub record IsUntouched (S : Flow → BoxKind → Style → Bool) (d e : Document) (contexts later : List Context)
+pub record IsBoundUntouched (S : Flow → BoxKind → Style → Bool) (d e : Document) (contexts later : List Context)
     (all rest : List FormattingContext)
     (i j : ℕ) : Type 0 where
   pub within : j < length later
-  pub element : id_of e later j ≡ id_of d contexts i
+  pub element : root_id e later j ≡ root_id d contexts i
   pub boxes : boxes_in contexts i ≡ boxes_in later j
   pub roots : (r : ℕ) → r < length (boxes_in contexts i) → is_root (boxes_in contexts i) r ≡ true
       → IsWithinOutward S all (number_of contexts i r) ↔ IsWithinOutward S rest (number_of later j r)
@@ -36,8 +36,8 @@ EditsTouchNoOthers = (S : Flow → BoxKind → Style → Bool) (d : Document) (e
     (contexts later : List Context) (all rest : List FormattingContext)
     → TakesAnonymousTables S → Edits d edit styles others → AreListsOf d styles contexts all → AreListsOf (after d edit) others later rest
     → (i : ℕ) → i < length contexts
-    → ((j : ℕ) × IsUntouched S d (after d edit) contexts later all rest i j)
-    ⊎ HasReached d styles edit (id_of d contexts i) ⊎ HasReached (after d edit) others edit (id_of d contexts i)
+    → ((j : ℕ) × IsBoundUntouched S d (after d edit) contexts later all rest i j)
+    ⊎ HasReached d styles edit (root_id d contexts i) ⊎ HasReached (after d edit) others edit (root_id d contexts i)
 
 -- Where declarations of an absolute or fixed element change that stays one, of contexts with reached nodes only its own and those inside
 -- it are touched: not the one around, which has it as an anchor alone (9.6).
@@ -47,4 +47,4 @@ AnchorsTouchNothingAround = (S : Flow → BoxKind → Style → Bool) (d : Docum
     (element : ℕ) → TakesAnonymousTables S → Edits d edit styles others
     → IsRestyling edit element → HasAbsoluteBox d styles element → HasAbsoluteBox (after d edit) others element
     → AreListsOf d styles contexts all → AreListsOf (after d edit) others later rest → (i : ℕ) → i < length contexts
-    → ((j : ℕ) × IsUntouched S d (after d edit) contexts later all rest i j) ⊎ ReachesNode d edit (id_of d contexts i)
+    → ((j : ℕ) × IsBoundUntouched S d (after d edit) contexts later all rest i j) ⊎ ReachesNode d edit (root_id d contexts i)

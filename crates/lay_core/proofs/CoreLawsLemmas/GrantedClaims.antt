@@ -10,8 +10,8 @@ use Rattle.lay_cell_work.specs.CellInputFits.{LeadsInward}
 use Rattle.lay_cell_work.specs.CellInputs.{CellInput}
 use Rattle.lay_cell_work.specs.Claims.{Claim}
 use Rattle.lay_cell_work.specs.KeptValues.{kept_workings}
-use Rattle.lay_document_cells.specs.Batches.{ClaimsSome as CellsClaimSome, Grants, fewer, full, more, none as no_grants, start}
-use Rattle.lay_document_cells.specs.Claims.{AnswersNext, Passes, none as none_passed, reused, taken}
+use Rattle.lay_document_cells.specs.Batches.{CellsClaimSome, Grants, fewer, full, more, none as no_grants, start}
+use Rattle.lay_document_cells.specs.Claims.{CellsAnswerNext, Passes, none as none_passed, reused, taken}
 use Rattle.lay_document_cells.specs.declared.answers.Next.TheVariants.{Granted}
 use Rattle.lay_document_cells.specs.declared.idle.IdleKind.{IdleKind}
 use Rattle.lay_document_cells.specs.State.{State as DocumentCells}
@@ -27,7 +27,7 @@ passes_stay s _ none_passed = refl
 passes_stay s t (reused key mid _ before does) = ap (λ (x : DocumentCells). x.document) does.claims.state ∙ passes_stay s mid before
 passes_stay s t (taken key number mid _ before does) = ap (λ (x : DocumentCells). x.document) does.claims.state ∙ passes_stay s mid before
 
-granted_stays : (s t : DocumentCells) (c : Claim) → AnswersNext s (Granted c) t → t.document ≡ s.document
+granted_stays : (s t : DocumentCells) (c : Claim) → CellsAnswerNext s (Granted c) t → t.document ≡ s.document
 granted_stays s t c does = ap (λ (x : DocumentCells). x.document) does.1.grants.claims.state ∙ passes_stay s does.1.before does.1.passes
 
 grants_stay : (s t : DocumentCells) (claims : List Claim) → Grants s claims t → t.document ≡ s.document
@@ -41,7 +41,7 @@ module _ (inward : PresentInputsLeadInward) where
       (inward (medium_of s.document s.face) g.lists.contexts g.lists.formatting_contexts (kept_workings s.cells.rows g.lists.contexts) g.context g.phase
       (in_order s.document g.lists is g.lists_are) g.lists_are.1.are_formatting_contexts g.within)
 
-  granted_inward : (s t : DocumentCells) (c : Claim) → IsDocument s.document → AnswersNext s (Granted c) t → LeadsInward c.input
+  granted_inward : (s t : DocumentCells) (c : Claim) → IsDocument s.document → CellsAnswerNext s (Granted c) t → LeadsInward c.input
   granted_inward s t c is does =
       let first = does.1 in
       given_inward first.before c.key c.input (subst (λ (d : Document). IsDocument d) (sym (passes_stay s first.before first.passes)) is) first.grants.claims.given

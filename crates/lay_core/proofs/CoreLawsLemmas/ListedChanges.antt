@@ -11,7 +11,7 @@ use Rattle.lay_core.proofs.Cited.{get_some, take_whole}
 use Rattle.lay_shape.specs.declared.cell_key.CellKey.{CellKey}
 use Rattle.lay_cell_work.specs.CellInputs.{CellInput}
 use Rattle.lay_core.specs.CoreLaws.GivenInputs.{HasCell, IsGivenIn}
-use Rattle.lay_core.specs.CoreLaws.InputChanges.{AreChanges, ChangesInput, IsChange, KeepsInput, changes}
+use Rattle.lay_core.specs.CoreLaws.InputChanges.{AreChanges, ChangesInput, IsInputChange, KeepsInput, changes}
 use Rattle.lay_core.specs.CoreLaws.Laws.{OneGivenInput, OneListOfChanges, TurnsAreFew}
 use Rattle.lay_core.specs.CoreLaws.Turns.{StaysThere, Turned, again, first}
 use Rattle.lay_core.proofs.CoreLawsLemmas.TurnSteps.{has_cell, last_given, last_within}
@@ -86,7 +86,7 @@ not_both one face key d e a keeps =
     let k = keeps (has_cell d face key a.old a.before) (has_cell e face key a.new a.after) in
     a.other (one d face key a.old k.input a.before k.before ∙ one e face key k.input a.new k.after a.after)
 
-one_flag : OneGivenInput → (face : FaceValue) (key : CellKey) (d e : Document) (f g : Bool) → IsChange face key d e f → IsChange face key d e g → f ≡ g
+one_flag : OneGivenInput → (face : FaceValue) (key : CellKey) (d e : Document) (f g : Bool) → IsInputChange face key d e f → IsInputChange face key d e g → f ≡ g
 one_flag one face key d e true true a b = refl
 one_flag one face key d e false false a b = refl
 one_flag one face key d e true false a b = absurd (not_both one face key d e a b)

@@ -17,7 +17,7 @@ use Rattle.lay_shape.specs.declared.cell_key.CellKey.{CellKey}
 use Rattle.lay_cell_work.specs.CellLaws.KeptInputs.{InputsAreKept}
 use Rattle.lay_cell_work.specs.CellLaws.SoundCells.{CellRow, CellState}
 use Rattle.lay_cell_work.specs.CellInputs.{CellInput}
-use Rattle.lay_document_cells.specs.Edits.{EditsTo as CellsEditTo}
+use Rattle.lay_document_cells.specs.Edits.{CellsEditTo}
 use Rattle.lay_document_cells.specs.Laws.{BatchesWork, ClaimsWork, NextClaimsWork, OutcomesWork}
 use Rattle.lay_document_cells.specs.State.{AreListsOf, IsOfDocument, State as DocumentCells}
 use Rattle.lay_core.specs.State.{IsCore, State, document_cells}

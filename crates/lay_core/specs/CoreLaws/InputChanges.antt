@@ -25,15 +25,15 @@ pub record ChangesInput (face : FaceValue) (key : CellKey) (d e : Document) : Ty
   pub other : old ≢ new
 
 -- whether it is; where it isn't, the cell isn't in both documents, or is given the same
-abbrev pub IsChange : FaceValue → CellKey → (d e : Document) → Bool → Type 0
-IsChange face key d e true = ChangesInput face key d e
-IsChange face key d e false = HasCell d key → HasCell e key → KeepsInput face key d e
+abbrev pub IsInputChange : FaceValue → CellKey → (d e : Document) → Bool → Type 0
+IsInputChange face key d e true = ChangesInput face key d e
+IsInputChange face key d e false = HasCell d key → HasCell e key → KeepsInput face key d e
 
 -- so it is said of each accepted list of edits of a history, in order
 pub record AreChanges (init : Document) (face : FaceValue) (history : List Entry) (key : CellKey) (flags : List Bool) : Type 0 where
   pub count : length flags ≡ accepted history
   pub each : (version : ℕ) (flag : Bool) → slice_get flags version ≡ Some flag
-      → IsChange face key (doc_at init history version) (doc_at init history (version + 1)) flag
+      → IsInputChange face key (doc_at init history version) (doc_at init history (version + 1)) flag
 
 -- how many lists of edits change it
 abbrev pub changes : List Bool → ℕ

@@ -6,7 +6,7 @@ use Rattle.lay_units.specs.declared.records.Len.TheVariants.{Auto as auto, Of as
 use Rattle.lay_flow.specs.declared.blocks.block.Block.{Block}
 use Rattle.lay_flow.specs.declared.blocks.block.Inside.{Inside}
 use Rattle.lay_flow.specs.declared.blocks.block.Inside.TheVariants.{Blocks as blocks_inside, Lines as lines_inside, Solid as solid_inside}
-use Rattle.lay_flow.specs.Blocks.MarginRuns.{block_at, is_zero, is_auto, is_auto_or_zero, is_blocks, parts_tops, may_join_bottoms, may_collapse_through}
+use Rattle.lay_flow.specs.Blocks.MarginRuns.{block_at, is_zero, is_auto_size, is_auto_or_zero, is_blocks, parts_tops, may_join_bottoms, may_collapse_through}
 use Rattle.lay_flow.specs.Blocks.BlockPositions.{is_lines, is_placed, is_solid}
 use Rattle.lay_flow.proofs.BlocksLemmas.Truths.{true_false}
 
@@ -29,7 +29,7 @@ joined_passes boxes zero e j = absurd (true_false true refl e)
 joined_passes boxes (suc p) e j = let b : Block = block_at boxes (suc p) in
     all_true (is_blocks b.inside) (is_zero b.edge_top.0) (is_zero b.edge_bottom.0) (is_zero b.min_height.0) b.height e j
   where
-    all_true : (a b c d : Bool) (h : Len) → not b ≡ false → (a && c && d && is_auto h) ≡ true → (a && b && c && d && is_auto_or_zero h) ≡ true
+    all_true : (a b c d : Bool) (h : Len) → not b ≡ false → (a && c && d && is_auto_size h) ≡ true → (a && b && c && d && is_auto_or_zero h) ≡ true
     all_true a b c d auto e j = grind (arith, e, j)
     all_true a b c d (of h) e j = absurd (grind (arith, j))
 

@@ -15,7 +15,7 @@ use Rattle.lay_flow.specs.Blocks.MarginRuns.{block_at}
 use Rattle.lay_flow.specs.Blocks.BlockPositions.{is_lines}
 use Rattle.lay_floats.specs.ClearEdge.{Clears, IsClearEdge}
 use Rattle.lay_flow.proofs.Cited.{one_clear_edge_lem}
-use Rattle.lay_flow.specs.Blocks.BlockFloats.{Spot, shape_at, place_at, lines_at, spot_at, float_of, floats_before}
+use Rattle.lay_flow.specs.Blocks.BlockFloats.{Spot, shape_at, place_at, lines_at, spot_at, float_with_shape, floats_before}
 
 -- floats depend on the places before them alone
 pub floats_same : (boxes : List FlowBox) (places others : List Spot) (n : ℕ) → ((j : ℕ) → j < n → spot_at places j ≡ spot_at others j) → floats_before boxes places n ≡ floats_before boxes others n
@@ -70,7 +70,7 @@ module _ (boxes : List FlowBox) (clear : Clear) where
     where
       -- without lines
       go : (o : Option Side) → (shape_at boxes n).float ≡ o → (Has (floats_before boxes places n) f → Has (floats_before boxes others n) f)
-          → Has (floats_before boxes places n ++ float_of (shape_at boxes n) (place_at places n)) f → Has (floats_before boxes others n ++ float_of (shape_at boxes n) (place_at others n)) f
+          → Has (floats_before boxes places n ++ float_with_shape (shape_at boxes n) (place_at places n)) f → Has (floats_before boxes others n ++ float_with_shape (shape_at boxes n) (place_at others n)) f
       go None e earlier w =
           let w' : Has (floats_before boxes places n ++ []) f = rw e at w in
           let back = earlier (subst (λ (xs : List Placed). Has xs f) (append-nil (floats_before boxes places n)) w') in

@@ -15,7 +15,7 @@ use Rattle.lay_floats.specs.declared.requests.Clear.TheVariants.{None as clear_n
 use Rattle.lay_flow.specs.declared.blocks.flow_box.FlowKind.TheVariants.{Block as block, Lines as lines, Solid as solid, Float as float, LineFloat as line_float, Inline as inline}
 use Rattle.lay_flow.specs.declared.blocks.flow_box.Across.{Across}
 use Rattle.lay_flow.specs.Blocks.Boxes.{box_at, parent_at, parents_of}
-use Rattle.lay_flow.specs.Blocks.FlowBoxes.{AreFlowBoxes, BlockBoxFits, IsFlowTree, KindFits, is_block, is_in_lines, may_hold}
+use Rattle.lay_flow.specs.Blocks.FlowBoxes.{AreFlowBoxes, BlockBoxFits, IsFlowTree, KindFits, is_flow_block, is_in_lines, may_hold}
 use Rattle.lay_flow.specs.Blocks.BlockSizes.{BlockFits}
 use Rattle.lay_flow.specs.Blocks.BlockFloats.{content_of, no_shape, shape_of, shape_at}
 use Rattle.lay_flow.specs.Blocks.BlockPositions.{is_placed, is_solid}
@@ -157,7 +157,7 @@ placed_flows boxes k e = kind_placed_flows (content_of (box_at boxes (parent_at 
 pub solid_flows : (boxes : List FlowBox) (k : ℕ) → is_solid (block_at boxes k).inside ≡ true → (shape_at boxes k).float ≡ None
 solid_flows boxes k e = placed_flows boxes k (solid_placed (block_at boxes k).inside e)
 
-kind_flows : (around : Across) (kind : FlowKind) → is_block kind ≡ true → (shape_of around kind).float ≡ None
+kind_flows : (around : Across) (kind : FlowKind) → is_flow_block kind ≡ true → (shape_of around kind).float ≡ None
 kind_flows around (block b) e = refl
 kind_flows around (lines l) e = refl
 kind_flows around (solid b) e = refl
@@ -169,7 +169,7 @@ kind_flows around inline e = refl
 pub root_flows : (boxes : List FlowBox) → IsFlowTree boxes → (shape_at boxes 0).float ≡ None
 root_flows boxes are = kind_flows (content_of (box_at boxes (parent_at boxes 0)).kind) (box_at boxes 0).kind are.root
 
-kind_not_solid : (kind : FlowKind) → is_block kind ≡ true → is_solid (block_of kind).inside ≡ false
+kind_not_solid : (kind : FlowKind) → is_flow_block kind ≡ true → is_solid (block_of kind).inside ≡ false
 kind_not_solid (block b) e = refl
 kind_not_solid (lines l) e = refl
 kind_not_solid (solid b) e = absurd (true_false false e refl)

@@ -22,7 +22,7 @@ use Rattle.lay_flow.specs.declared.blocks.flow_box.FlowBox.{FlowBox}
 use Rattle.lay_flow.specs.Blocks.Boxes.{box_at, parent_at, parents_of}
 use Rattle.lay_flow.specs.Blocks.Lengths.{length_at}
 use Rattle.lay_flow.specs.Blocks.MarginRuns.{block_at, has_top, run_at, run_before}
-use Rattle.lay_flow.specs.Blocks.BlockFloats.{Spot, ceiling, content_of, float_of, float_request, floats_before, line_content_of, lines_at, place_at, shape_at}
+use Rattle.lay_flow.specs.Blocks.BlockFloats.{Spot, ceiling, content_of, float_with_shape, float_request, floats_before, line_content_of, lines_at, place_at, shape_at}
 use Rattle.lay_flow.specs.Blocks.Clearance.{AreFloatPlaces, IsHypothetical, NeedsClearance}
 use Rattle.lay_flow.specs.Blocks.ContextFlow.{Flow, IsContextFlow}
 use Rattle.lay_flow.specs.Blocks.FlowBoxes.{IsFlowTree, is_in_lines}
@@ -110,12 +110,12 @@ module _ (boxes : List FlowBox) (are : IsFlowTree boxes) (f : Flow) (is : IsCont
     floats_to (suc n) same = by_inside (block_at boxes n).inside refl (go (shape_at boxes n).float refl (floats_to n (fewer n same)))
       where
         go : (o : Option Side) → (shape_at boxes n).float ≡ o → floats_before boxes f.places n ≡ floats_before boxes places n
-            → floats_before boxes f.places n ++ float_of (shape_at boxes n) (place_at f.places n) ≡ floats_before boxes places n ++ float_of (shape_at boxes n) (place_at places n)
-        go None e before = let both : float_of (shape_at boxes n) (place_at f.places n) ≡ float_of (shape_at boxes n) (place_at places n) = rw e refl in λ i. before i ++ both i
-        go (Some side) e before = let p = same.float n side (omega arith) e in λ i. before i ++ float_of (shape_at boxes n) (p i)
+            → floats_before boxes f.places n ++ float_with_shape (shape_at boxes n) (place_at f.places n) ≡ floats_before boxes places n ++ float_with_shape (shape_at boxes n) (place_at places n)
+        go None e before = let both : float_with_shape (shape_at boxes n) (place_at f.places n) ≡ float_with_shape (shape_at boxes n) (place_at places n) = rw e refl in λ i. before i ++ both i
+        go (Some side) e before = let p = same.float n side (omega arith) e in λ i. before i ++ float_with_shape (shape_at boxes n) (p i)
 
         by_inside : (inside : Inside) → (block_at boxes n).inside ≡ inside
-            → floats_before boxes f.places n ++ float_of (shape_at boxes n) (place_at f.places n) ≡ floats_before boxes places n ++ float_of (shape_at boxes n) (place_at places n)
+            → floats_before boxes f.places n ++ float_with_shape (shape_at boxes n) (place_at f.places n) ≡ floats_before boxes places n ++ float_with_shape (shape_at boxes n) (place_at places n)
             → floats_before boxes f.places (suc n) ≡ floats_before boxes places (suc n)
         by_inside blocks_inside e plain = rw e plain
         by_inside lines_inside e plain = let here : is_lines (block_at boxes n).inside ≡ true = ap is_lines e in let l = same.lines n (omega arith) here in rw e (ap (λ (v : LinesValue). v.floats) l)

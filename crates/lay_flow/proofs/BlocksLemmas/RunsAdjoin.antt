@@ -2,7 +2,7 @@
 use Rattle.std.proofs.Common.{◌≡◌, ℕ, zero, suc, ◌+◌, ◌<◌, ◌&&◌, ◌||◌, not, Bool, true, false, List, [], ◌∷◌, ◌++◌, length, refl, sym, ap, ◌∙◌, arith, Option, Some, None, subst}
 use Rattle.lay_doc.specs.Tree.{IsTree}
 use Rattle.lay_flow.specs.declared.blocks.flow_box.FlowBox.{FlowBox}
-use Rattle.lay_flow.specs.Blocks.Adjoining.{Margin, top, bottom, IsMargin, run_to, run_of, Adjoins, first_child, next_sibling, last_margin, own_margins, collapsed_through, entries_of, clearance_of}
+use Rattle.lay_flow.specs.Blocks.Adjoining.{Margin, top, bottom, IsMargin, run_to, run_of, Adjoins, first_child, next_sibling, last_margin, own_margins, collapsed_through, entries_of_margin, clearance_of}
 use Rattle.lay_flow.specs.Blocks.Boxes.{parent_at, parents_of}
 use Rattle.lay_flow.specs.Blocks.Children.{is_child, last_child, next_child, flag_at}
 use Rattle.lay_flow.specs.Blocks.Laws.{AdjoiningRuns}
@@ -84,7 +84,7 @@ module _ (boxes : List FlowBox) (tree : IsTree (parents_of boxes)) (r : Runs) (i
           let come = next_comes boxes r p (length boxes) c last in
           last_margin p c low within last (taken (may_join_bottoms (block_at boxes p)) _ both) (ap (is_barred boxes p) (sym come) ∙ left (may_join_bottoms (block_at boxes p)) _ both)
 
-  continues : (x y : Margin) → Adjoins boxes r x y → run_to boxes r y ≡ run_to boxes r x ++ entries_of boxes y
+  continues : (x y : Margin) → Adjoins boxes r x y → run_to boxes r y ≡ run_to boxes r x ++ entries_of_margin boxes y
   continues x y (first_child c low within none plain flows) =
       let come = lead_goes_on boxes r is c low within flows ∙ first_open (parent_at boxes c) c none plain in
       ap (λ (run : List Entry). run ++ mark c ∷ margin (block_at boxes c).margin_top.0 ∷ []) come
@@ -101,7 +101,7 @@ module _ (boxes : List FlowBox) (tree : IsTree (parents_of boxes)) (r : Runs) (i
       bottom_goes_on p low within (joins_through p low through)
       ∙ ap (λ (run : List Entry). run ++ margin (block_at boxes p).margin_bottom.0 ∷ []) (next_comes boxes r p (length boxes) c last)
 
-  begins_top : (c : ℕ) → 0 < c → c < length boxes → ((x : Margin) → Adjoins boxes r x (top c) → ⊥) → run_to boxes r (top c) ≡ clearance_of r (top c) ++ entries_of boxes (top c)
+  begins_top : (c : ℕ) → 0 < c → c < length boxes → ((x : Margin) → Adjoins boxes r x (top c) → ⊥) → run_to boxes r (top c) ≡ clearance_of r (top c) ++ entries_of_margin boxes (top c)
   begins_top c low within alone = by_clearance (flag_at r.clears c) refl
     where
       entry : List Entry
@@ -115,11 +115,11 @@ module _ (boxes : List FlowBox) (tree : IsTree (parents_of boxes)) (r : Runs) (i
       by_child None none flows = nothing (parts_tops boxes (parent_at boxes c)) refl flows none
       by_child (Some s) last flows = absurd (alone (bottom s) (next_sibling s c low within last flows))
 
-      by_clearance : (b : Bool) → flag_at r.clears c ≡ b → run_to boxes r (top c) ≡ clearance_of r (top c) ++ entries_of boxes (top c)
+      by_clearance : (b : Bool) → flag_at r.clears c ≡ b → run_to boxes r (top c) ≡ clearance_of r (top c) ++ entries_of_margin boxes (top c)
       by_clearance true cleared = let come = lead_begins boxes r is c low within cleared in rw (come, cleared) refl
       by_clearance false flows = let come = lead_goes_on boxes r is c low within flows ∙ by_child (last_child boxes (parent_at boxes c) c) refl flows in rw (come, flows) refl
 
-  begins_bottom : (p : ℕ) → 0 < p → p < length boxes → ((x : Margin) → Adjoins boxes r x (bottom p) → ⊥) → run_to boxes r (bottom p) ≡ entries_of boxes (bottom p)
+  begins_bottom : (p : ℕ) → 0 < p → p < length boxes → ((x : Margin) → Adjoins boxes r x (bottom p) → ⊥) → run_to boxes r (bottom p) ≡ entries_of_margin boxes (bottom p)
   begins_bottom p low within alone = by_joins (joins_bottom boxes r p) refl
     where
       no_run : joins_bottom boxes r p ≡ true → (o : Option ℕ) → last_child boxes p (length boxes) ≡ o → (b : Bool) → parts_tops boxes p ≡ b → run_before boxes r p (length boxes) ≡ []
@@ -132,7 +132,7 @@ module _ (boxes : List FlowBox) (tree : IsTree (parents_of boxes)) (r : Runs) (i
           ∙ ap (λ (run : List Entry). run ++ margin (block_at boxes p).margin_bottom.0 ∷ []) (no_run joins (last_child boxes p (length boxes)) refl (parts_tops boxes p) refl)
       by_joins false parted = to_bottom_is boxes r is p low within ∙ rw parted refl
 
-  begins_lem : (y : Margin) → IsMargin boxes y → ((x : Margin) → Adjoins boxes r x y → ⊥) → run_to boxes r y ≡ clearance_of r y ++ entries_of boxes y
+  begins_lem : (y : Margin) → IsMargin boxes y → ((x : Margin) → Adjoins boxes r x y → ⊥) → run_to boxes r y ≡ clearance_of r y ++ entries_of_margin boxes y
   begins_lem (top c) at alone = begins_top c at.0 at.1 alone
   begins_lem (bottom p) at alone = begins_bottom p at.0 at.1 alone
 

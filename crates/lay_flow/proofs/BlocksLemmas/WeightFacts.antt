@@ -6,9 +6,9 @@ use Rattle.lay_flow.specs.declared.blocks.flow_box.FlowKind.{FlowKind}
 use Rattle.lay_flow.specs.declared.blocks.flow_box.FlowKind.TheVariants.{Block as block, Lines as lines, Solid as solid, Float as float, LineFloat as line_float, Inline as inline}
 use Rattle.lay_flow.specs.Blocks.Boxes.{box_at}
 use Rattle.lay_flow.specs.Blocks.FlowBoxes.{AreFlowBoxes}
-use Rattle.lay_flow.specs.Blocks.Weights.{weight, weight_of}
+use Rattle.lay_flow.specs.Blocks.Weights.{weight, box_weight}
 
-some_weight : (kind : FlowKind) → 1 ≤ weight_of kind
+some_weight : (kind : FlowKind) → 1 ≤ box_weight kind
 some_weight (block b) = omega arith
 some_weight (lines l) = omega arith
 some_weight (solid b) = omega arith
@@ -16,7 +16,7 @@ some_weight (float b) = omega arith
 some_weight (line_float b) = omega arith
 some_weight inline = omega arith
 
-pub weight_next : (boxes : List FlowBox) (k : ℕ) → weight boxes (k + 1) ≡ weight boxes k + weight_of (box_at boxes k).kind
+pub weight_next : (boxes : List FlowBox) (k : ℕ) → weight boxes (k + 1) ≡ weight boxes k + box_weight (box_at boxes k).kind
 weight_next boxes k = let one : k + 1 ≡ suc k = omega arith in ap (weight boxes) one
 
 pub weight_one_more : (boxes : List FlowBox) (k : ℕ) → weight boxes k + 1 ≤ weight boxes (k + 1)

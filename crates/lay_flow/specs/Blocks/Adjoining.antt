@@ -53,9 +53,9 @@ pub data Adjoins (boxes : List FlowBox) (r : Runs) : Margin → Margin → Type 
       → flag_at r.through p ≡ true → Adjoins boxes r (bottom c) (bottom p)
 
 -- what stands for the margin in a run, and what it begins one with
-abbrev pub entries_of : List FlowBox → Margin → List Entry
-entries_of boxes (top k) = mark k ∷ margin (block_at boxes k).margin_top.0 ∷ []
-entries_of boxes (bottom k) = margin (block_at boxes k).margin_bottom.0 ∷ []
+abbrev pub entries_of_margin : List FlowBox → Margin → List Entry
+entries_of_margin boxes (top k) = mark k ∷ margin (block_at boxes k).margin_top.0 ∷ []
+entries_of_margin boxes (bottom k) = margin (block_at boxes k).margin_bottom.0 ∷ []
 
 abbrev pub clearance_of : Runs → Margin → List Entry
 clearance_of r (top k) = if flag_at r.clears k then clear k ∷ [] else []
@@ -64,10 +64,10 @@ clearance_of r (bottom k) = []
 -- the runs are the longest chains of margins of which each adjoins the next
 pub record RunsAdjoin (boxes : List FlowBox) (r : Runs) : Type 0 where
   -- a margin goes on with the run of the one that it adjoins
-  pub goes_on : (x y : Margin) → Adjoins boxes r x y → run_to boxes r y ≡ run_to boxes r x ++ entries_of boxes y
+  pub goes_on : (x y : Margin) → Adjoins boxes r x y → run_to boxes r y ≡ run_to boxes r x ++ entries_of_margin boxes y
   -- and begins one, where it adjoins none before it
   pub begins : (y : Margin) → IsMargin boxes y → ((x : Margin) → Adjoins boxes r x y → ⊥)
-      → run_to boxes r y ≡ clearance_of r y ++ entries_of boxes y
+      → run_to boxes r y ≡ clearance_of r y ++ entries_of_margin boxes y
   -- margins that adjoin are in one run
   pub one_run : (x y : Margin) → Adjoins boxes r x y → run_of r x ≡ run_of r y
   -- which ends with a margin that adjoins none after it

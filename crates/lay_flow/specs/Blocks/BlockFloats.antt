@@ -120,8 +120,8 @@ abbrev pub lines_at : List Spot → ℕ → LinesValue
 lines_at places k = (spot_at places k).lines
 
 -- a box with this shape and place, if it is a float
-abbrev pub float_of : Shape → Place → List Placed
-float_of s p = on_side s.float
+abbrev pub float_with_shape : Shape → Place → List Placed
+float_with_shape s p = on_side s.float
   where
     on_side : Option Side → List Placed
     on_side None = []
@@ -129,9 +129,9 @@ float_of s p = on_side s.float
 
 -- the floats after a box, where these were before it: those that its lines leave, or one more if it is a float itself
 abbrev pub floats_after : List Placed → Inside → Shape → Spot → List Placed
-floats_after floats blocks_inside s p = floats ++ float_of s p.place
+floats_after floats blocks_inside s p = floats ++ float_with_shape s p.place
 floats_after floats lines_inside s p = p.lines.floats
-floats_after floats solid_inside s p = floats ++ float_of s p.place
+floats_after floats solid_inside s p = floats ++ float_with_shape s p.place
 
 -- the floats before the box at k, as they stand
 abbrev pub floats_before : List FlowBox → List Spot → ℕ → List Placed

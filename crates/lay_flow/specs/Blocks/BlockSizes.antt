@@ -7,15 +7,15 @@ use Rattle.lay_flow.specs.declared.blocks.shape.Shape.{Shape}
 use Rattle.lay_flow.specs.Blocks.BlockPositions.{given_or_auto}
 
 -- a border and a padding on one side
-abbrev pub IsInset : ℤ → Type 0
-IsInset v = (pos 0 ≤ℤ v) × (v ≤ℤ pos 4294967296)
+abbrev pub IsBlockInset : ℤ → Type 0
+IsBlockInset v = (pos 0 ≤ℤ v) × (v ≤ℤ pos 4294967296)
 
 -- used margins, a border and a padding on each side, and a given height and a minimum that are used sizes
 pub record BlockFits (b : Block) : Type 0 where
   pub margin_top : IsUsed b.margin_top.0
   pub margin_bottom : IsUsed b.margin_bottom.0
-  pub edge_top : IsInset b.edge_top.0
-  pub edge_bottom : IsInset b.edge_bottom.0
+  pub edge_top : IsBlockInset b.edge_top.0
+  pub edge_bottom : IsBlockInset b.edge_bottom.0
   pub height : IsUsedSize (given_or_auto b.height (pos 0))
   pub min_height : IsUsedSize b.min_height.0
 

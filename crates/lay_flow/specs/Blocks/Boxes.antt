@@ -23,11 +23,11 @@ empty_block = record {
   height = record { given = auto; min = no_length; max = None };
 }
 
-abbrev pub no_box : FlowBox
-no_box = record { parent = 0; kind = block empty_block }
+abbrev pub no_flow_box : FlowBox
+no_flow_box = record { parent = 0; kind = block empty_block }
 
 abbrev pub box_at : List FlowBox → ℕ → FlowBox
-box_at boxes k = slice_index_or boxes k no_box
+box_at boxes k = slice_index_or boxes k no_flow_box
 
 abbrev pub parent_at : List FlowBox → ℕ → ℕ
 parent_at boxes k = (box_at boxes k).parent

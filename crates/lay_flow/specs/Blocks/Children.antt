@@ -14,14 +14,14 @@ abbrev pub last_child : List FlowBox → ℕ → ℕ → Option ℕ
 last_child boxes p zero = None
 last_child boxes p (suc k) = if is_child boxes p k then Some k else last_child boxes p k
 
-abbrev pub or_else : Option ℕ → Option ℕ → Option ℕ
-or_else None o = o
-or_else (Some k) o = Some k
+abbrev pub or_else_place : Option ℕ → Option ℕ → Option ℕ
+or_else_place None o = o
+or_else_place (Some k) o = Some k
 
 -- the first child of p that stands at the place m or after it, and before the place n
 abbrev pub next_child : List FlowBox → ℕ → ℕ → ℕ → Option ℕ
 next_child boxes p m zero = None
-next_child boxes p m (suc k) = or_else (next_child boxes p m k) (if is_child boxes p k && not (nat_lt k m) then Some k else None)
+next_child boxes p m (suc k) = or_else_place (next_child boxes p m k) (if is_child boxes p k && not (nat_lt k m) then Some k else None)
 
 -- a flag in a column of such
 abbrev pub flag_at : List Bool → ℕ → Bool

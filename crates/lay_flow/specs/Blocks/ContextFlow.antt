@@ -57,7 +57,7 @@ pub record IsContextFlow (boxes : List FlowBox) (f : Flow) : Type 0 where
   pub bottom : IsClearEdge (floats_before boxes f.places (length boxes)) clear_both f.layout.extents.floats
 
 -- these are the top border edges and the heights of the border boxes, and the spots
-pub record AreContextPlaces (boxes : List FlowBox) (tops heights : List Length) (places : List Spot) : Type 0 where
+pub record ArePlacesInContext (boxes : List FlowBox) (tops heights : List Length) (places : List Spot) : Type 0 where
   pub flow : Flow
   pub is_flow : IsContextFlow boxes flow
   pub tops_are : tops ≡ flow.layout.places.marks

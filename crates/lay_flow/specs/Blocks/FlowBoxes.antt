@@ -14,7 +14,7 @@ use Rattle.lay_flow.specs.declared.blocks.flow_box.SolidBox.{SolidBox}
 use Rattle.lay_flow.specs.declared.blocks.flow_box.FloatBox.{FloatBox}
 use Rattle.lay_flow.specs.declared.blocks.flow_box.Vertical.{Vertical}
 use Rattle.lay_flow.specs.Blocks.Boxes.{box_at, parent_at, parents_of}
-use Rattle.lay_flow.specs.Blocks.BlockSizes.{IsInset}
+use Rattle.lay_flow.specs.Blocks.BlockSizes.{IsBlockInset}
 use Rattle.lay_flow.specs.Blocks.BlockPositions.{given_or_auto}
 use Rattle.lay_flow.specs.Blocks.Weights.{weight}
 
@@ -28,13 +28,13 @@ is_in_lines (line_float b) = true
 is_in_lines inline = true
 
 -- it may be the context's own box
-abbrev pub is_block : FlowKind → Bool
-is_block (block b) = true
-is_block (lines l) = true
-is_block (solid b) = false
-is_block (float b) = false
-is_block (line_float b) = false
-is_block inline = false
+abbrev pub is_flow_block : FlowKind → Bool
+is_flow_block (block b) = true
+is_flow_block (lines l) = true
+is_flow_block (solid b) = false
+is_flow_block (float b) = false
+is_flow_block (line_float b) = false
+is_flow_block inline = false
 
 -- the first may be the parent of the second
 abbrev pub may_hold : FlowKind → FlowKind → Bool
@@ -56,8 +56,8 @@ pub record MarginsFit (m : Vertical) : Type 0 where
 pub record BlockBoxFits (b : BlockBox) : Type 0 where
   pub x : IsEdge b.x.0
   pub margin : MarginsFit b.margin
-  pub inset_top : IsInset b.inset.top.0
-  pub inset_bottom : IsInset b.inset.bottom.0
+  pub inset_top : IsBlockInset b.inset.top.0
+  pub inset_bottom : IsBlockInset b.inset.bottom.0
   pub left : IsWithin (pos 1125899906842624) b.content.left.0
   pub right : IsWithin (pos 1125899906842624) b.content.right.0
   pub height : IsUsedSize (given_or_auto b.height.given (pos 0))
@@ -89,7 +89,7 @@ KindFits inline = ⊤
 pub record IsFlowTree (boxes : List FlowBox) : Type 0 where
   pub some : 0 < length boxes
   pub tree : IsTree (parents_of boxes)
-  pub root : is_block (box_at boxes 0).kind ≡ true
+  pub root : is_flow_block (box_at boxes 0).kind ≡ true
   pub parent : (k : ℕ) → 0 < k → k < length boxes → may_hold (box_at boxes (parent_at boxes k)).kind (box_at boxes k).kind ≡ true
 
 pub record AreFlowBoxes (boxes : List FlowBox) : Type 0 where

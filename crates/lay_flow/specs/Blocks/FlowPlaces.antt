@@ -59,8 +59,8 @@ pub record AreCorners (count : ℕ) (met : List (List NodePlace)) (corners : Lis
 abbrev pub place_in_lines : List Spot → ℕ → Place
 place_in_lines places k = place_or no_place k (line_places places)
 
-abbrev pub float_box : FloatBox → Place → BoxPlace
-float_box b place = record {
+abbrev pub float_border_box : FloatBox → Place → BoxPlace
+float_border_box b place = record {
   corner = record { x = record { 0 = place.x.0 +ℤ b.margin.left.0 }; y = record { 0 = place.y.0 +ℤ b.margin.top.0 } };
   height = b.height;
 }
@@ -79,8 +79,8 @@ abbrev pub border_box : FlowKind → Length → Length → Place → BoxPlace
 border_box (block b) mark height place = record { corner = record { x = b.x; y = mark }; height = height }
 border_box (lines l) mark height place = record { corner = record { x = l.block.x; y = mark }; height = height }
 border_box (solid b) mark height place = record { corner = place; height = b.height }
-border_box (float b) mark height place = float_box b place
-border_box (line_float b) mark height place = float_box b place
+border_box (float b) mark height place = float_border_box b place
+border_box (line_float b) mark height place = float_border_box b place
 border_box inline mark height place = no_box_place
 
 -- the border box of the box at k in a flow
@@ -91,7 +91,7 @@ border_box_in boxes f k =
     (own_place kind (place_at f.places k) (place_in_lines f.places k))
 
 -- these are the places of the boxes in a flow
-pub record ArePlacesOf (boxes : List FlowBox) (f : Flow) (out : FlowPlacesValue) : Type 0 where
+pub record AreFlowPlaces (boxes : List FlowBox) (f : Flow) (out : FlowPlacesValue) : Type 0 where
   pub count : length out.boxes ≡ length boxes
   pub each : (k : ℕ) → k < length boxes → box_place_at out.boxes k ≡ border_box_in boxes f k
   pub lines : out.lines ≡ map (λ p. p.lines.rows) f.places
@@ -100,7 +100,7 @@ pub record ArePlacesOf (boxes : List FlowBox) (f : Flow) (out : FlowPlacesValue)
 pub record IsFlowOf (boxes : List FlowBox) (out : FlowPlacesValue) : Type 0 where
   pub flow : Flow
   pub is_flow : IsContextFlow boxes flow
-  pub places : ArePlacesOf boxes flow out
+  pub places : AreFlowPlaces boxes flow out
 
 -- corners at most 2^60 units away, and heights of border boxes
 pub record IsNearPlace (p : BoxPlace) : Type 0 where

@@ -117,9 +117,9 @@ is_blocks blocks_inside = true
 is_blocks lines_inside = false
 is_blocks solid_inside = false
 
-abbrev pub is_auto : Len → Bool
-is_auto auto = true
-is_auto (of h) = false
+abbrev pub is_auto_size : Len → Bool
+is_auto_size auto = true
+is_auto_size (of h) = false
 
 abbrev pub is_auto_or_zero : Len → Bool
 is_auto_or_zero auto = true
@@ -133,7 +133,7 @@ may_collapse_through b =
 -- nothing of the box itself parts its bottom margin from that of its last child: it has an auto height, no
 -- min-height, and no border or padding there
 abbrev pub may_join_bottoms : Block → Bool
-may_join_bottoms b = is_blocks b.inside && is_zero b.edge_bottom.0 && is_zero b.min_height.0 && is_auto b.height
+may_join_bottoms b = is_blocks b.inside && is_zero b.edge_bottom.0 && is_zero b.min_height.0 && is_auto_size b.height
 
 -- the box parts its top margin from those of its children: it is the context's own, or has a border or a
 -- padding there

@@ -8,15 +8,15 @@ use Rattle.lay_flow.specs.declared.blocks.flow_box.FlowKind.TheVariants.{Float a
 use Rattle.lay_flow.specs.Blocks.Boxes.{box_at}
 
 -- each box counts once, and one that holds lines once more for each weight of these
-abbrev pub weight_of : FlowKind → ℕ
-weight_of (block b) = 1
-weight_of (lines l) = 1 + lines_weight l.content
-weight_of (solid b) = 1
-weight_of (float b) = 1
-weight_of (line_float b) = 1
-weight_of inline = 1
+abbrev pub box_weight : FlowKind → ℕ
+box_weight (block b) = 1
+box_weight (lines l) = 1 + lines_weight l.content
+box_weight (solid b) = 1
+box_weight (float b) = 1
+box_weight (line_float b) = 1
+box_weight inline = 1
 
 -- of the boxes before the one at k
 abbrev pub weight : List FlowBox → ℕ → ℕ
 weight boxes zero = 0
-weight boxes (suc k) = weight boxes k + weight_of (box_at boxes k).kind
+weight boxes (suc k) = weight boxes k + box_weight (box_at boxes k).kind

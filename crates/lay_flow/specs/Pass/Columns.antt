@@ -12,7 +12,7 @@ use Rattle.lay_flow.specs.Blocks.Lengths.{length_at}
 use Rattle.lay_flow.specs.Blocks.MarginRuns.{block_at}
 use Rattle.lay_flow.specs.Blocks.BlockPositions.{is_solid}
 use Rattle.lay_flow.specs.Blocks.BlockFloats.{Spot}
-use Rattle.lay_flow.specs.Blocks.ContextFlow.{AreContextPlaces}
+use Rattle.lay_flow.specs.Blocks.ContextFlow.{ArePlacesInContext}
 use Rattle.lay_flow.specs.Blocks.FlowPlaces.{AreNearRows, border_box, box_place_at, own_place, corner_at, AreCorners}
 
 -- a place at most 2^60 - 2^50 units away
@@ -23,7 +23,7 @@ pub record IsFarPlace (p : Place) : Type 0 where
 -- the columns that a pass leaves are those of the context's flow, with these spots
 pub record AreColumnsOf (boxes : List FlowBox) (out : FlowColumns) : Type 0 where
   pub places : List Spot
-  pub are : AreContextPlaces boxes out.tops.items out.heights.items places
+  pub are : ArePlacesInContext boxes out.tops.items out.heights.items places
   pub places_are : map (λ p. p.place) places ≡ out.places.items
   pub rows_are : map (λ p. p.lines.rows) places ≡ out.rows.items
   pub corners_are : AreCorners (length boxes) (map (λ p. p.lines.places) places) out.corners.items

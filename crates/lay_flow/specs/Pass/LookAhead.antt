@@ -38,7 +38,7 @@ pub record IsOutset (boxes : List FlowBox) (from : Outset) : Type 0 where
   pub is_outermost : IsOutermost boxes from.first from.k from.outermost
 
 -- a box that is open at a place, which has the box of the look ahead in it and stands as high as that
-pub record Holder (boxes : List FlowBox) (w : BlockLayout) (from : Outset) (at : MarginPlace) : Type 0 where
+pub record OpenHolder (boxes : List FlowBox) (w : BlockLayout) (from : Outset) (at : MarginPlace) : Type 0 where
   pub box : ℕ
   pub least : from.outermost ≤ box
   pub most : box ≤ from.k
@@ -47,18 +47,18 @@ pub record Holder (boxes : List FlowBox) (w : BlockLayout) (from : Outset) (at :
   pub mark : length_at w.places.marks from.k ≡ length_at w.places.marks box
 
 -- how far a look ahead came: the margins that it read, and the place
-pub record Reading : Type 0 where
+pub record LookAheadReading : Type 0 where
   pub strut : StrutValue
   pub at : MarginPlace
 
-abbrev pub reading : StrutValue → ℕ → ℕ → Reading
+abbrev pub reading : StrutValue → ℕ → ℕ → LookAheadReading
 reading strut p m = record { strut = strut; at = margin_place p m }
 
 -- the strut holds the margins of the run that comes to the place
-pub record Reads (boxes : List FlowBox) (w : BlockLayout) (from : Outset) (so_far : Reading) : Type 0 where
+pub record ReadsMargins (boxes : List FlowBox) (w : BlockLayout) (from : Outset) (so_far : LookAheadReading) : Type 0 where
   pub strut_holds : Holds so_far.strut (margins (run_before boxes w.runs so_far.at.inner so_far.at.next))
   pub own : from.outermost < so_far.at.next → has_top from.outermost (run_before boxes w.runs so_far.at.inner so_far.at.next) ≡ true
-  pub holder : from.k < so_far.at.next → Holder boxes w from so_far.at
+  pub holder : from.k < so_far.at.next → OpenHolder boxes w from so_far.at
 
 -- the strut holds all margins that there are between the start of the run and the top border edge of the box at k
 pub record ReadsAll (boxes : List FlowBox) (w : BlockLayout) (k : ℕ) (strut : StrutValue) : Type 0 where
@@ -67,16 +67,16 @@ pub record ReadsAll (boxes : List FlowBox) (w : BlockLayout) (k : ℕ) (strut : 
   pub mark : length_at w.places.marks k ≡ start_before boxes w (parent_at boxes k) k +ℤ collapse all
 
 -- the look ahead came so far
-pub record IsReading (boxes : List FlowBox) (from : Outset) (so_far : Reading) : Type 0 where
+pub record IsReading (boxes : List FlowBox) (from : Outset) (so_far : LookAheadReading) : Type 0 where
   pub fits : StrutFits so_far.strut
   pub place : IsPlace boxes so_far.at.inner so_far.at.next
   pub begun : from.k ≤ so_far.at.next
   pub first_place : so_far.at.next ≡ from.k → so_far.at.inner ≡ parent_at boxes from.k
   pub above : from.outermost < so_far.at.next → from.outermost ≤ so_far.at.inner
   pub inside : from.outermost < so_far.at.next → IsAround boxes from.outermost so_far.at.next
-  pub reads : (w : BlockLayout) → IsBlockLayout boxes w → ComesTo boxes w from → Reads boxes w from so_far
+  pub reads : (w : BlockLayout) → IsBlockLayout boxes w → ComesTo boxes w from → ReadsMargins boxes w from so_far
 
 -- the look ahead came to its end
-pub record HasRead (boxes : List FlowBox) (from : Outset) (strut : StrutValue) : Type 0 where
+pub record HasLookedAhead (boxes : List FlowBox) (from : Outset) (strut : StrutValue) : Type 0 where
   pub fits : StrutFits strut
   pub reads_all : (w : BlockLayout) → IsBlockLayout boxes w → ComesTo boxes w from → ReadsAll boxes w from.k strut

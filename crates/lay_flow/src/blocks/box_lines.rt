@@ -2,7 +2,7 @@
 
 ghost use Rattle.std.specs.Prelude.{◌≡◌, ℕ, ◌+◌, ◌≤◌, All, pos, true, IfOk};
 ghost use Rattle.lay_floats.specs.Within.{BoxWithin, IsWithin};
-ghost use Rattle.lay_lines.specs.Lines.{AreLines, LinesWithin, growth, lines_of};
+ghost use Rattle.lay_lines.specs.Lines.{AreLines, LinesWithin, growth, lines_with_floats};
 ghost use Rattle.lay_flow.specs.Blocks.BlockFloats.{content_of, line_content_of};
 ghost use Rattle.lay_flow.specs.Blocks.BlockPositions.{is_lines};
 ghost use Rattle.lay_flow.specs.Blocks.FlowBoxes.{KindFits};
@@ -29,11 +29,11 @@ impl FlowBox {
         ensures lines { IfOk result
             (λ out.
             AreLines (line_content_of self.now.kind) (content_of self.now.kind).left
-            (content_of self.now.kind).right top.unit.0 floats.old (lines_of out floats.new)) }
+            (content_of self.now.kind).right top.unit.0 floats.old (lines_with_floats out floats.new)) }
         ensures near { IfOk result
             (λ out. (r : ℕ) → 1125899906842624 ≤ r → r ≤ 1152921504606846976 → IsWithin (pos r) top.unit.0
             → All (BoxWithin (pos r)) floats.old
-            → LinesWithin (pos (r + growth (line_content_of self.now.kind))) (lines_of out floats.new)) }
+            → LinesWithin (pos (r + growth (line_content_of self.now.kind))) (lines_with_floats out floats.new)) }
     {
         match &self.kind {
             FlowKind::Lines(l) => {

@@ -2,7 +2,8 @@
 
 ghost use Rattle.std.specs.Prelude.{◌≡◌, ◌&&◌, not};
 ghost use Rattle.lay_flow.specs.Blocks.BlockPositions.{is_lines, is_solid};
-ghost use Rattle.lay_flow.specs.Blocks.MarginRuns.{is_auto, is_auto_or_zero, is_blocks, is_zero, may_collapse_through, may_join_bottoms};
+ghost use Rattle.lay_flow.specs.Blocks.MarginRuns.{is_auto_size, is_auto_or_zero, is_blocks};
+ghost use Rattle.lay_flow.specs.Blocks.MarginRuns.{is_zero, may_collapse_through, may_join_bottoms};
 
 use crate::blocks::block::{Block, Inside};
 use lay_units::{Len, Unit};
@@ -45,7 +46,7 @@ impl Inside {
 }
 
 fn is_auto(height: Len) -> bool
-    ensures { result ≡ is_auto height }
+    ensures { result ≡ is_auto_size height }
 {
     match height {
         Len::Auto => true,

@@ -1,7 +1,7 @@
 //! How much the boxes of a context have to lay out.
 
 ghost use Rattle.std.specs.Prelude.{◌≡◌, ◌↔◌, ◌+◌, ◌≤◌, ◌<◌, IsTrue, length, None, IfSome};
-ghost use Rattle.lay_flow.specs.Blocks.Weights.{weight, weight_of};
+ghost use Rattle.lay_flow.specs.Blocks.Weights.{weight, box_weight};
 
 use crate::blocks::flow_box::{FlowBox, FlowKind};
 
@@ -22,14 +22,14 @@ pub fn is_light(boxes: &[FlowBox]) -> bool
 
 // What is left after the weight of a box.
 fn spend_box(left: u64, flow_box: &FlowBox) -> Option<u64>
-    ensures some { IfSome result (λ rest. weight_of flow_box.now.kind + rest ≡ left) }
-    ensures none { result ≡ None → left < weight_of flow_box.now.kind }
+    ensures some { IfSome result (λ rest. box_weight flow_box.now.kind + rest ≡ left) }
+    ensures none { result ≡ None → left < box_weight flow_box.now.kind }
 {
     left.checked_sub(box_weight(flow_box))
 }
 
 fn box_weight(flow_box: &FlowBox) -> u64
-    ensures { result ≡ weight_of flow_box.now.kind }
+    ensures { result ≡ box_weight flow_box.now.kind }
 {
     match &flow_box.kind {
         FlowKind::Lines(l) => 1 + l.content.weight(),

@@ -21,14 +21,14 @@ use Rattle.lay_sizes.specs.BoxSizes.{IsSized}
 use Rattle.lay_sizes.specs.SizeColumns.{sizes_at}
 use Rattle.lay_sizes.specs.UsedLengths.{edge_of, or_zero, used_margin, used_size}
 use Rattle.lay_line_measures.specs.BoxMeasuresValue.{part_at as line_part_at}
-use Rattle.lay_line_measures.specs.InlineBoxes.{has_left_edges as shows_left, has_right_edges as shows_right}
-use Rattle.lay_line_measures.specs.InlineBoxes.{has_vertical_edges as shows_above_or_below}
+use Rattle.lay_line_measures.specs.InlineBoxes.{shows_left_edge as shows_left, shows_right_edge as shows_right}
+use Rattle.lay_line_measures.specs.InlineBoxes.{shows_vertical_edge as shows_above_or_below}
 use Rattle.lay_measure.specs.Contributions.{left_edges, margin_or_zero, right_edges, size_or_zero}
 use Rattle.lay_measure.specs.declared.line_parts.LinePart.TheVariants as part
 use Rattle.lay_measure.specs.LineParts.{end_in, end_of, has_left_edges, has_right_edges, has_vertical_edges, start_in, start_of}
 use Rattle.lay_measure.specs.MeasureInValue.{part_at}
 use Rattle.lay_flow_boxes.specs.Words.InlineEdges.{HasLengthsAround, InlineEdgesAreAsMeasured, IsLength, IsLengthOrAuto}
-use Rattle.lay_flow_boxes.specs.Words.LinesAlone.{AreEdges}
+use Rattle.lay_flow_boxes.specs.Words.LinesAlone.{AreEdgesAlone}
 
 -- used lengths without percentages
 same_margin : (containing : Length) (v : LengthPercentageOrAuto) → IsLengthOrAuto v → or_zero (used_margin containing v) ≡ margin_or_zero v
@@ -173,7 +173,7 @@ right_seen s z are h =
     are.right_margin are.right_edge h
 
 start_edges : (s : Style) (z : BoxSizes) (p q : InlinePart) → AreUsed s z → p ≡ q
-    → AreEdges (start_of s p) (if q.first then record { 0 = z.widths.margin_left.0 +ℤ z.edges.left.0 } else no_length)
+    → AreEdgesAlone (start_of s p) (if q.first then record { 0 = z.widths.margin_left.0 +ℤ z.edges.left.0 } else no_length)
     (shows_above_or_below z || (q.first && shows_left z))
 start_edges s z p q are same =
     let first = ap (λ (f : InlinePart). f.first) same in (
@@ -190,7 +190,7 @@ start_edges s z p q are same =
     )
 
 end_edges : (s : Style) (z : BoxSizes) (p q : InlinePart) → AreUsed s z → p ≡ q
-    → AreEdges (end_of s p) (if q.last then record { 0 = z.edges.right.0 +ℤ z.widths.margin_right.0 } else no_length)
+    → AreEdgesAlone (end_of s p) (if q.last then record { 0 = z.edges.right.0 +ℤ z.widths.margin_right.0 } else no_length)
     (q.last && shows_right z)
 end_edges s z p q are same =
     let last = ap (λ (f : InlinePart). f.last) same in (

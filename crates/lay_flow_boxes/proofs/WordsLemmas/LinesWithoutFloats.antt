@@ -17,7 +17,7 @@ use Rattle.lay_lines.specs.Filling.{Fills}
 use Rattle.lay_lines.specs.Meeting.{Meets, State}
 use Rattle.lay_line_measures.specs.declared.container.Container.{Container}
 use Rattle.lay_line_measures.specs.BoxMeasuresValue.{BoxMeasuresValue}
-use Rattle.lay_line_measures.specs.Stretches.{floats_at, floats_of, heads_of, is_content, stretches_of}
+use Rattle.lay_line_measures.specs.Stretches.{floats_at, floats_of, heads_of, is_line_content, stretches_of}
 use Rattle.lay_flow_boxes.specs.Words.LinesAlone.{HaveNoFloats, IsNoFloat}
 
 same_left : (u v : ℤ) → u ≡ v → u ≤ℤ v
@@ -64,16 +64,16 @@ other_none false fs e = e
 no_heads : (m : BoxMeasuresValue) (c : Container) (ahead : Bool) (xs : List Item) → All IsNoFloat xs → heads_of m c ahead xs ≡ []
 no_heads m c ahead [] are = refl
 no_heads m c ahead (x ∷ xs) are =
-    ap (λ (fs : List LineFloat). fs ++ heads_of m c (ahead && not (is_content x)) xs)
+    ap (λ (fs : List LineFloat). fs ++ heads_of m c (ahead && not (is_line_content x)) xs)
     (either_none ahead (floats_at m c x) (none_at m c x (All-head IsNoFloat x xs are)))
-    ∙ no_heads m c (ahead && not (is_content x)) xs (All-tail IsNoFloat x xs are)
+    ∙ no_heads m c (ahead && not (is_line_content x)) xs (All-tail IsNoFloat x xs are)
 
 no_others : (m : BoxMeasuresValue) (c : Container) (ahead : Bool) (xs : List Item) → All IsNoFloat xs → floats_of m c ahead xs ≡ []
 no_others m c ahead [] are = refl
 no_others m c ahead (x ∷ xs) are =
-    ap (λ (fs : List LineFloat). fs ++ floats_of m c (ahead && not (is_content x)) xs)
+    ap (λ (fs : List LineFloat). fs ++ floats_of m c (ahead && not (is_line_content x)) xs)
     (other_none ahead (floats_at m c x) (none_at m c x (All-head IsNoFloat x xs are)))
-    ∙ no_others m c (ahead && not (is_content x)) xs (All-tail IsNoFloat x xs are)
+    ∙ no_others m c (ahead && not (is_line_content x)) xs (All-tail IsNoFloat x xs are)
 
 pub none_in : (m : BoxMeasuresValue) (c : Container) (begins : Bool) (ss : List Segment) → HaveNoFloats ss
     → HaveNone (stretches_of m c begins ss)

@@ -20,7 +20,7 @@ use Rattle.lay_measure.specs.declared.line_parts.LinePart.{LinePart}
 use Rattle.lay_measure.specs.declared.line_parts.LinePart.TheVariants as part
 use Rattle.lay_measure.specs.declared.pen.Breaking.{Breaking}
 use Rattle.lay_measure.specs.declared.pen.Breaking.TheVariants as breaking
-use Rattle.lay_measure.specs.LineParts.{cluster_part, line_parts, parts_at, parts_of, text_parts}
+use Rattle.lay_measure.specs.LineParts.{cluster_part, line_parts, line_parts_of_item, parts_of, text_parts}
 use Rattle.lay_measure.specs.LineWidths.{ends_line, float_sum, line_width, lines_of, widest}
 use Rattle.lay_measure.specs.MeasureInValue.{MeasureInValue}
 use Rattle.lay_flow_boxes.specs.Words.LinesAlone.{AreAsMeasured, HaveNoFloats, IsAsMeasured, IsNoFloat}
@@ -64,7 +64,7 @@ text_content m text (w ∷ ws) =
     (cluster_content m (kind_of m text w.place to) (to == w.place + 1) w.width, text_content m text ws)
 
 item_content : (how : Breaking) (m : BoxMeasuresValue) (by : MeasureInValue) (x : Item)
-    → IsAsMeasured how m by x → IsNoFloat x → AreContent (parts_at by x)
+    → IsAsMeasured how m by x → IsNoFloat x → AreContent (line_parts_of_item by x)
 item_content how m by (item.Text k text mode widths) are free = text_content mode text widths
 item_content how m by (item.Start k takes) are free = (subst IsContent (sym are.1) tt, tt)
 item_content how m by (item.End k) are free = (subst IsContent (sym are.1) tt, tt)
@@ -77,7 +77,7 @@ pub items_content : (how : Breaking) (m : BoxMeasuresValue) (by : MeasureInValue
     → AreContent (parts_of by xs)
 items_content how m by [] are free = tt
 items_content how m by (x ∷ xs) are free =
-    both_content (parts_at by x) (parts_of by xs)
+    both_content (line_parts_of_item by x) (parts_of by xs)
     (item_content how m by x (All-head (IsAsMeasured how m by) x xs are) (All-head IsNoFloat x xs free))
     (items_content how m by xs (All-tail (IsAsMeasured how m by) x xs are) (All-tail IsNoFloat x xs free))
 

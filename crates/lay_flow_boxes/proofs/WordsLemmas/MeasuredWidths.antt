@@ -21,7 +21,7 @@ use Rattle.lay_measure.specs.declared.pen.Breaking.{Breaking}
 use Rattle.lay_measure.specs.declared.pen.Breaking.TheVariants as breaking
 use Rattle.lay_measure.specs.declared.pen.Pen.{Pen}
 use Rattle.lay_measure.specs.LineParts.{line_parts, parts_of}
-use Rattle.lay_measure.specs.LineWidths.{begun, float_sum, line_width, lines_of, over_all, widest_float}
+use Rattle.lay_measure.specs.LineWidths.{begun, float_sum, line_width, lines_of, pen_after, widest_float}
 use Rattle.lay_measure.specs.MeasureInValue.{MeasureInValue}
 use Rattle.lay_flow_boxes.proofs.Cited.{from_zero}
 use Rattle.lay_flow_boxes.specs.Words.LinesAlone.{AreAsMeasured, HaveNoFloats, IsAsMeasured, IsNoFloat}
@@ -83,7 +83,7 @@ IsUnbroken (s ∷ ss) (suc (suc k)) = (s.forced ≡ false) × IsUnbroken ss (suc
 
 -- preferred widths have this of a line, whose pen is here
 pub record IsLine (tab : ℤ) (start : Length) (line : List LinePart) (p : LinePen) : Type 0 where
-  pub comes : over_all breaking.WhereForced tab (begun start) line ≡ measuring_pen p
+  pub comes : pen_after breaking.WhereForced tab (begun start) line ≡ measuring_pen p
   pub no_floats : float_sum line ≡ pos 0
   pub order : p.visible.0 ≤ℤ p.at.0
 
@@ -91,7 +91,7 @@ line_shows : (tab : ℤ) (start : Length) (line : List LinePart) (p : LinePen) �
     → p.visible.0 ≤ℤ line_width breaking.WhereForced tab start line
 line_shows tab start line p is =
     equal_below p.visible.0 _
-    (sum_of_none (over_all breaking.WhereForced tab (begun start) line).visible.0 (float_sum line) is.no_floats
+    (sum_of_none (pen_after breaking.WhereForced tab (begun start) line).visible.0 (float_sum line) is.no_floats
     ∙ ap (λ (q : Pen). q.visible.0) is.comes)
 
 -- a line with one segment more
@@ -102,7 +102,7 @@ line_more : (m : BoxMeasuresValue) (by : MeasureInValue) (fr : Frame) (start : L
 line_more m by fr start line p s are free more is = record {
   comes =
       measured_both breaking.WhereForced fr.tab.0 (begun start) line (parts_of by s.items)
-      ∙ ap (λ (q : Pen). over_all breaking.WhereForced fr.tab.0 q (parts_of by s.items)) is.comes
+      ∙ ap (λ (q : Pen). pen_after breaking.WhereForced fr.tab.0 q (parts_of by s.items)) is.comes
       ∙ lines_come_as_far_lem breaking.WhereForced m by fr p s.items are;
   no_floats =
       sum_both line (parts_of by s.items)
@@ -254,6 +254,6 @@ segment_alone m by fr start s ss are free =
     let here : (over_line fr (blank start.0) (line_parts_of m s.items)).visible.0
     ≤ℤ line_width breaking.WhereAllowed fr.tab.0 start (parts_of by s.items) =
     below_first _ _ (widest_float (parts_of by s.items)) _
-    (equal_below _ (over_all breaking.WhereAllowed fr.tab.0 (begun start) (parts_of by s.items)).visible.0 same) refl in
+    (equal_below _ (pen_after breaking.WhereAllowed fr.tab.0 (begun start) (parts_of by s.items)).visible.0 same) refl in
     below_first _ _ _ _ here
     (line_ends breaking.WhereAllowed fr.tab.0 start [] by s ss (items_content breaking.WhereAllowed m by s.items are free) refl)

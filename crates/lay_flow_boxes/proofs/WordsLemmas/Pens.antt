@@ -14,7 +14,7 @@ use Rattle.lay_line_measures.specs.TextParts.{cluster_parts, parts_between, text
 use Rattle.lay_measure.specs.declared.pen.Breaking.{Breaking}
 use Rattle.lay_measure.specs.declared.pen.Pen.{Pen}
 use Rattle.lay_measure.specs.LineParts.{cluster_part, part_between, text_parts as measured_parts}
-use Rattle.lay_measure.specs.LineWidths.{over as over_part, over_all, went}
+use Rattle.lay_measure.specs.LineWidths.{pen_over as over_part, pen_after, pen_reaching}
 use Rattle.lay_flow_boxes.specs.Words.Laws.{WordsAreTheirClusters, WordsMeasureAsTheirClusters}
 use Rattle.lay_flow_boxes.proofs.WordsLemmas.Plain.{plain_kind}
 use Rattle.lay_flow_boxes.proofs.WordsLemmas.Words.{GoesByWidth, gathered_goes, go}
@@ -61,10 +61,10 @@ abbrev part_step : Breaking → ℤ → Mode → List ℕ → Pen → ClusterWid
 part_step how tab m text p w to = over_part how tab p (part_between m text w to)
 
 abbrev part_wide : Pen → ℤ → Pen
-part_wide p a = went (p.at.0 +ℤ a)
+part_wide p a = pen_reaching (p.at.0 +ℤ a)
 
 part_go : (how : Breaking) (tab : ℤ) (m : Mode) (text : List ℕ) (p : Pen) (ws : List ClusterWidth)
-    → over_all how tab p (measured_parts m text ws) ≡ go (part_step how tab m text) text p ws
+    → pen_after how tab p (measured_parts m text ws) ≡ go (part_step how tab m text) text p ws
 part_go how tab m text p [] = refl
 part_go how tab m text p (w ∷ ws) = part_go how tab m text (part_step how tab m text p w (next_place text ws)) ws
 
@@ -73,7 +73,7 @@ part_by_width how tab m text = record {
   plain =
       λ p w to is.
       ap (λ (k : ClusterKind). over_part how tab p (cluster_part m k (to == w.place + 1) w.width)) (plain_kind m text w.place to is);
-  adds = λ p a b. ap went (sum_same p.at.0 a b);
+  adds = λ p a b. ap pen_reaching (sum_same p.at.0 a b);
 }
 
 pub words_measure_as_their_clusters_lem : WordsMeasureAsTheirClusters

@@ -27,7 +27,7 @@ use Rattle.lay_line_measures.specs.Stretches.{stretches_of}
 use Rattle.lay_measure.specs.declared.pen.Breaking.{Breaking}
 use Rattle.lay_measure.specs.declared.pen.Breaking.TheVariants as breaking
 use Rattle.lay_measure.specs.LineParts.{line_parts}
-use Rattle.lay_measure.specs.LineWidths.{first_start, indent_of, inline_widths, is_seen, lines_of, tab_of, widest}
+use Rattle.lay_measure.specs.LineWidths.{first_start, indent_length, inline_widths, is_seen, lines_of, tab_of, widest}
 use Rattle.lay_measure.specs.MeasureInValue.{MeasureInValue}
 use Rattle.lay_flow_boxes.specs.Words.LinesAlone.{AreAlone, AreAsMeasured, BreakWhereForced, IsForcedLine, IsNotNegative, NoneIsNegative}
 use Rattle.lay_flow_boxes.specs.Words.PreferredLines.{MinimumWidthHoldsEachLine, PreferredWidthBreaksNothing}
@@ -185,19 +185,19 @@ all_allowed m by c floats width strut left right (suc n) a b so (mid, before, st
 -- where the first line begins, in lines and for preferred widths
 same_start : (how : Breaking) (m : BoxMeasuresValue) (by : MeasureInValue) (c : Container) (b : BoxNode) (segments : List Segment)
     → AreAsMeasured how m by segments
-    → (indent_of b.style.text.text_indent).0 ≡ pos 0 ⊎ IsTrue (has_seen_line (take 1 (content_in m c segments).stretches))
-    → first_start b.style.text (line_parts by segments) ≡ indent_of b.style.text.text_indent
+    → (indent_length b.style.text.text_indent).0 ≡ pos 0 ⊎ IsTrue (has_seen_line (take 1 (content_in m c segments).stretches))
+    → first_start b.style.text (line_parts by segments) ≡ indent_length b.style.text.text_indent
 same_start how m by c b segments are (inl none) = either (list_any is_seen (line_parts by segments))
   where
-    same : no_length ≡ indent_of b.style.text.text_indent
+    same : no_length ≡ indent_length b.style.text.text_indent
     same = ap (λ (v : ℤ). record { 0 = v }) (sym none)
 
-    either : (seen : Bool) → (if seen then indent_of b.style.text.text_indent else no_length) ≡ indent_of b.style.text.text_indent
+    either : (seen : Bool) → (if seen then indent_length b.style.text.text_indent else no_length) ≡ indent_length b.style.text.text_indent
     either true = refl
     either false = same
 same_start how m by c b segments are (inr shown) =
     let seen : list_any is_seen (line_parts by segments) ≡ true = first_seen how m by c true segments are shown in
-    ap (λ (s : Bool). if s then indent_of b.style.text.text_indent else no_length) seen
+    ap (λ (s : Bool). if s then indent_length b.style.text.text_indent else no_length) seen
 
 same_tab : (m : BoxMeasuresValue) (by : MeasureInValue) (c : Container) (b : BoxNode)
     → slice_get m.boxes c.place ≡ Some b → m.face ≡ by.face
@@ -247,7 +247,7 @@ first_stands how m by c b segments left right top floats v width alone same less
   right_is = refl;
 }
   where
-    at : (indent_of b.style.text.text_indent).0 ≡ pos 0 ⊎ IsTrue (has_seen_line (take 1 (content_in m c segments).stretches))
+    at : (indent_length b.style.text.text_indent).0 ≡ pos 0 ⊎ IsTrue (has_seen_line (take 1 (content_in m c segments).stretches))
         → (indent_in c.containing (slice_get m.boxes c.place)).0 ≡ pos 0
         ⊎ IsTrue (has_seen_line (take 1 (content_in m c segments).stretches))
     at (inl none) = inl (ap (λ (v : Length). v.0) (ap (indent_in c.containing) alone.box ∙ alone.indent) ∙ none)

@@ -27,7 +27,7 @@ use Rattle.lay_flow_boxes.proofs.Cited.{seen_at, take_more}
 use Rattle.lay_measure.specs.declared.line_parts.LinePart.{LinePart}
 use Rattle.lay_measure.specs.declared.line_parts.LinePart.TheVariants as part
 use Rattle.lay_measure.specs.declared.pen.Breaking.{Breaking}
-use Rattle.lay_measure.specs.LineParts.{cluster_part, line_parts, parts_at, parts_of, text_parts}
+use Rattle.lay_measure.specs.LineParts.{cluster_part, line_parts, line_parts_of_item, parts_of, text_parts}
 use Rattle.lay_measure.specs.LineWidths.{is_seen}
 use Rattle.lay_measure.specs.MeasureInValue.{MeasureInValue}
 use Rattle.lay_flow_boxes.specs.Words.LinesAlone.{AreAsMeasured, IsAsMeasured}
@@ -81,7 +81,7 @@ edge_seen : (x : LinePart) (w : Length) (b seen : Bool) → x ≡ part.Edge w b 
 edge_seen x w b seen e means h = ap (λ (y : LinePart). list_any is_seen (y ∷ [])) e ∙ or_left b false (means (sym (or-false seen) ∙ h))
 
 item_seen : (how : Breaking) (m : BoxMeasuresValue) (by : MeasureInValue) (x : Item) → IsAsMeasured how m by x
-    → list_any is_seen_part (line_parts_at m x) ≡ true → list_any is_seen (parts_at by x) ≡ true
+    → list_any is_seen_part (line_parts_at m x) ≡ true → list_any is_seen (line_parts_of_item by x) ≡ true
 item_seen how m by (item.Text k text mode widths) are h = text_seen k mode text widths h
 item_seen how m by (item.Start k takes) are h = edge_seen _ _ are.0 _ are.1 are.2 h
 item_seen how m by (item.End k) are h = edge_seen _ _ are.0 _ are.1 are.2 h
@@ -93,7 +93,7 @@ items_seen : (how : Breaking) (m : BoxMeasuresValue) (by : MeasureInValue) (xs :
     → list_any is_seen_part (line_parts_of m xs) ≡ true → list_any is_seen (parts_of by xs) ≡ true
 items_seen how m by [] are h = h
 items_seen how m by (x ∷ xs) are h =
-    any_of_both is_seen_part is_seen (line_parts_at m x) (line_parts_of m xs) (parts_at by x) (parts_of by xs)
+    any_of_both is_seen_part is_seen (line_parts_at m x) (line_parts_of m xs) (line_parts_of_item by x) (parts_of by xs)
     (item_seen how m by x (All-head (IsAsMeasured how m by) x xs are))
     (items_seen how m by xs (All-tail (IsAsMeasured how m by) x xs are)) h
 

@@ -4,7 +4,7 @@ use Rattle.lay_flow_boxes.proofs.Cited.{within as cut_within}
 use Rattle.lay_units.specs.declared.records.ClusterWidth.{ClusterWidth}
 use Rattle.lay_space.specs.SegmentLaws.{StandOnBoundaries}
 use Rattle.lay_space.specs.Tokens.{next_place}
-use Rattle.lay_line_items.specs.GatheredWidths.{gathered_after, goes_on, stands_alone, with_cluster}
+use Rattle.lay_line_items.specs.GatheredWidths.{gathered_after, joins_cluster, stands_alone, with_cluster}
 use Rattle.lay_flow_boxes.proofs.WordsLemmas.Plain.{IsPlain, joined, plain_alone}
 
 -- over clusters, one after another
@@ -45,7 +45,7 @@ begins : (text : List ℕ) (before : Option ClusterWidth) (ws : List ClusterWidt
 begins text None [] = refl
 begins text (Some v) [] = refl
 begins text before (w ∷ ws) =
-    by before (stands_alone text w.place (next_place text ws)) (goes_on before w) (λ b. begins text b ws)
+    by before (stands_alone text w.place (next_place text ws)) (joins_cluster before w) (λ b. begins text b ws)
   where
     by : (before : Option ClusterWidth) (alone on : Bool)
         → ((b : Option ClusterWidth) → next_place text (gathered_after text b ws) ≡ place_with text b ws)
@@ -65,7 +65,7 @@ pub gathered_goes : {P : Type 0} (step : P → ClusterWidth → ℕ → P) (text
 gathered_goes step text wide by_width p None [] stand held = refl
 gathered_goes step text wide by_width p (Some v) [] stand held = by_width.plain p v (length text) held.1
 gathered_goes {P = P} step text wide by_width p before (w ∷ ws) stand held =
-    by before held (stands_alone text w.place (next_place text ws)) (goes_on before w) refl refl
+    by before held (stands_alone text w.place (next_place text ws)) (joins_cluster before w) refl refl
     (λ q b o. gathered_goes step text wide by_width q b ws stand.2 o)
   where
     to : ℕ
@@ -79,7 +79,7 @@ gathered_goes {P = P} step text wide by_width p before (w ∷ ws) stand held =
         → go step text q (v ∷ gathered_after text b ws) ≡ go step text (step q v (place_with text b ws)) (gathered_after text b ws)
     first q v b = ap (λ (n : ℕ). go step text (step q v n) (gathered_after text b ws)) (begins text b ws)
 
-    by : (b : Option ClusterWidth) → IsOpen text b (w ∷ ws) → (alone on : Bool) → stands_alone text w.place to ≡ alone → goes_on b w ≡ on → Rest step text wide ws
+    by : (b : Option ClusterWidth) → IsOpen text b (w ∷ ws) → (alone on : Bool) → stands_alone text w.place to ≡ alone → joins_cluster b w ≡ on → Rest step text wide ws
         → go step text p (if alone then option_to_list b ++ w ∷ gathered_after text None ws
         else (if on then gathered_after text (Some (with_cluster b w)) ws
         else option_to_list b ++ gathered_after text (Some w) ws)) ≡ go step text (opened wide p b) (w ∷ ws)

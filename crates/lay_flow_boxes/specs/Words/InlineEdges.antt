@@ -15,7 +15,7 @@ use Rattle.lay_line_measures.specs.BoxMeasuresValue.{BoxMeasuresValue, part_at a
 use Rattle.lay_line_measures.specs.InlineBoxes.{start_at, end_at}
 use Rattle.lay_measure.specs.LineParts.{end_in, start_in}
 use Rattle.lay_measure.specs.MeasureInValue.{MeasureInValue, part_at}
-use Rattle.lay_flow_boxes.specs.Words.LinesAlone.{AreEdges}
+use Rattle.lay_flow_boxes.specs.Words.LinesAlone.{AreEdgesAlone}
 
 abbrev pub IsLength : LengthPercentage → Type 0
 IsLength (measure.Length u) = ⊤
@@ -42,5 +42,5 @@ abbrev pub InlineEdgesAreAsMeasured : Type 0
 InlineEdgesAreAsMeasured =
     (m : BoxMeasuresValue) (by : MeasureInValue) (k : ℕ) (b : BoxNode) (containing : ContainingBlock) → slice_get by.boxes k ≡ Some b
     → part_at by k ≡ line_part_at m k → IsSized containing Inline b.style (sizes_at m.sizes k) → HasLengthsAround b.style
-    → AreEdges (start_in by k (slice_get by.boxes k)) (start_at m k).width (start_at m k).seen
-    × AreEdges (end_in by k (slice_get by.boxes k)) (end_at m k).width (end_at m k).seen
+    → AreEdgesAlone (start_in by k (slice_get by.boxes k)) (start_at m k).width (start_at m k).seen
+    × AreEdgesAlone (end_in by k (slice_get by.boxes k)) (end_at m k).width (end_at m k).seen

@@ -13,7 +13,7 @@ use Rattle.lay_line_measures.specs.TextParts.{text_parts}
 use Rattle.lay_measure.specs.declared.pen.Breaking.{Breaking}
 use Rattle.lay_measure.specs.declared.pen.Pen.{Pen}
 use Rattle.lay_measure.specs.LineParts.{text_parts as measured_parts}
-use Rattle.lay_measure.specs.LineWidths.{over_all}
+use Rattle.lay_measure.specs.LineWidths.{pen_after}
 
 abbrev pub WordsAreTheirClusters : Type 0
 WordsAreTheirClusters =
@@ -24,4 +24,4 @@ WordsAreTheirClusters =
 abbrev pub WordsMeasureAsTheirClusters : Type 0
 WordsMeasureAsTheirClusters =
     (how : Breaking) (tab : ℤ) (p : Pen) (m : Mode) (text : List ℕ) (widths : List ClusterWidth) → StandOnBoundaries text widths
-    → over_all how tab p (measured_parts m text (gathered text widths)) ≡ over_all how tab p (measured_parts m text widths)
+    → pen_after how tab p (measured_parts m text (gathered text widths)) ≡ pen_after how tab p (measured_parts m text widths)

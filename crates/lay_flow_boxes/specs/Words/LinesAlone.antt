@@ -27,7 +27,7 @@ use Rattle.lay_measure.specs.declared.line_parts.LinePart.TheVariants as part
 use Rattle.lay_measure.specs.declared.pen.Breaking.{Breaking}
 use Rattle.lay_measure.specs.declared.pen.Pen.{Pen}
 use Rattle.lay_measure.specs.LineParts.{contribution_at, end_in, start_in}
-use Rattle.lay_measure.specs.LineWidths.{indent_of, width_for}
+use Rattle.lay_measure.specs.LineWidths.{indent_length, width_for}
 use Rattle.lay_measure.specs.MeasureInValue.{MeasureInValue}
 
 -- what preferred widths keep of a line's pen
@@ -35,8 +35,8 @@ abbrev pub measuring_pen : LinePen → Pen
 measuring_pen p = record { at = p.at; visible = p.visible; started = p.started }
 
 -- edges of this width, which make their line seen where they do so in lines
-abbrev pub AreEdges : LinePart → Length → Bool → Type 0
-AreEdges x width seen = (b : Bool) × (x ≡ part.Edge width b) × (IsTrue seen → IsTrue b)
+abbrev pub AreEdgesAlone : LinePart → Length → Bool → Type 0
+AreEdgesAlone x width seen = (b : Bool) × (x ≡ part.Edge width b) × (IsTrue seen → IsTrue b)
 
 -- An inline box of lines has the edges that preferred widths count, as it has where none of its margins and paddings is a
 -- percentage (law `inline_edges_are_as_measured`). And an atomic box takes its preferred width, or its preferred minimum width, as
@@ -44,8 +44,8 @@ AreEdges x width seen = (b : Bool) × (x ≡ part.Edge width b) × (IsTrue seen 
 -- `shrinking_boxes_take_what_is_measured`).
 abbrev pub IsAsMeasured : Breaking → BoxMeasuresValue → MeasureInValue → Item → Type 0
 IsAsMeasured how m by (item.Text k text mode widths) = ⊤
-IsAsMeasured how m by (item.Start k takes) = AreEdges (start_in by k (slice_get by.boxes k)) (start_at m k).width (start_at m k).seen
-IsAsMeasured how m by (item.End k) = AreEdges (end_in by k (slice_get by.boxes k)) (end_at m k).width (end_at m k).seen
+IsAsMeasured how m by (item.Start k takes) = AreEdgesAlone (start_in by k (slice_get by.boxes k)) (start_at m k).width (start_at m k).seen
+IsAsMeasured how m by (item.End k) = AreEdgesAlone (end_in by k (slice_get by.boxes k)) (end_at m k).width (end_at m k).seen
 IsAsMeasured how m by (item.Atomic k mode) = width_for how (contribution_at by k) ≡ (atomic_at m k).width
 IsAsMeasured how m by (item.Float k) = ⊤
 IsAsMeasured how m by (item.Anchor k) = ⊤
@@ -92,8 +92,8 @@ pub record AreAlone
   pub box : slice_get m.boxes c.place ≡ Some b
   pub face : m.face ≡ by.face
   pub widths : AreAsMeasured how m by segments
-  pub indent : used_indent c.containing b.style.text.text_indent ≡ indent_of b.style.text.text_indent
-  pub seen : (indent_of b.style.text.text_indent).0 ≡ pos 0 ⊎ IsTrue (has_seen_line (take 1 (content_in m c segments).stretches))
+  pub indent : used_indent c.containing b.style.text.text_indent ≡ indent_length b.style.text.text_indent
+  pub seen : (indent_length b.style.text.text_indent).0 ≡ pos 0 ⊎ IsTrue (has_seen_line (take 1 (content_in m c segments).stretches))
   pub no_floats : HaveNoFloats segments
   pub beside : AreBesideNone floats (content_in m c segments) v.rows
   pub lines : AreLines (content_in m c segments) left right top floats v

@@ -25,7 +25,7 @@ use Rattle.lay_line_measures.specs.Stretches.{parts_of as line_parts_of}
 use Rattle.lay_measure.specs.declared.pen.Breaking.{Breaking}
 use Rattle.lay_measure.specs.declared.pen.Breaking.TheVariants as breaking
 use Rattle.lay_measure.specs.LineParts.{parts_of}
-use Rattle.lay_measure.specs.LineWidths.{inline_widths, over_all}
+use Rattle.lay_measure.specs.LineWidths.{inline_widths, pen_after}
 use Rattle.lay_measure.specs.MeasureInValue.{MeasureInValue}
 use Rattle.lay_flow_boxes.specs.Words.LinesAlone.{AreAlone, BreakWhereForced, IsAsMeasured, NoneIsNegative, measuring_pen}
 
@@ -35,7 +35,7 @@ abbrev pub LinesComeAsFarAsMeasured : Type 0
 LinesComeAsFarAsMeasured =
     (how : Breaking) (m : BoxMeasuresValue) (by : MeasureInValue) (fr : Frame) (p : LinePen) (items : List Item)
     → All (IsAsMeasured how m by) items
-    → over_all how fr.tab.0 (measuring_pen p) (parts_of by items) ≡ measuring_pen (over_line fr p (line_parts_of m items))
+    → pen_after how fr.tab.0 (measuring_pen p) (parts_of by items) ≡ measuring_pen (over_line fr p (line_parts_of m items))
 
 -- In a width that is no less than the preferred one lines break only where they have to.
 abbrev pub PreferredWidthBreaksNothing : Type 0

@@ -14,7 +14,7 @@ use Rattle.lay_grid.specs.Shares.{width_at}
 use Rattle.lay_grid.proofs.Products.{greater_part, lesser_part}
 use Rattle.lay_grid.specs.Automatic.Spread.{IsWidened, added, found_in, lacking, spans, sum_over}
 use Rattle.lay_grid.specs.Automatic.Fit.{SpanFits}
-use Rattle.lay_grid.specs.Automatic.Laws.{CellsWidenByNeed, IsSpanned, growth, side_by_side, spanned, with_spacings}
+use Rattle.lay_grid.specs.Automatic.Laws.{CellsWidenByNeed, IsSpanned, width_growth, side_by_side, spanned, with_spacings_before}
 use Rattle.lay_grid.proofs.AutomaticLemmas.Parts.{parts_sum}
 use Rattle.lay_grid.proofs.AutomaticLemmas.Room.{added_in, sums_more}
 
@@ -26,13 +26,13 @@ times_more z n = *ℤ_comm z (pos (suc n)) ∙ suc_ℤ-*ℤ (pos n) z ∙ ap (λ
 
 -- columns with a spacing before each
 with_spacings_are : (spacing : ℤ) (ws : List Unit) (column n : ℕ) → column + n ≤ length ws
-    → with_spacings spacing (take n (drop column ws)) ≡ (sum_over ws column n +ℤ (spacing *ℤ pos n))
+    → with_spacings_before spacing (take n (drop column ws)) ≡ (sum_over ws column n +ℤ (spacing *ℤ pos n))
 with_spacings_are spacing ws column zero inside = let z = times_none spacing in omega (arith, ints, z)
 with_spacings_are spacing ws column (suc n) inside =
     let d = drop_more ws column (record { 0 = pos 0 }) (omega (arith, inside)) in
-    let e : with_spacings spacing (take (suc n) (drop column ws))
-    ≡ ((spacing +ℤ width_at ws column) +ℤ with_spacings spacing (take n (drop (column + 1) ws))) =
-    ap (λ (xs : List Unit). with_spacings spacing (take (suc n) xs)) d in
+    let e : with_spacings_before spacing (take (suc n) (drop column ws))
+    ≡ ((spacing +ℤ width_at ws column) +ℤ with_spacings_before spacing (take n (drop (column + 1) ws))) =
+    ap (λ (xs : List Unit). with_spacings_before spacing (take (suc n) xs)) d in
     let h = with_spacings_are spacing ws (column + 1) n (omega (arith, inside)) in
     let p = times_more spacing n in
     omega (arith, ints, e, h, p)
@@ -43,7 +43,7 @@ side_by_side_are : (spacing : ℤ) (ws : List Unit) (column n : ℕ) → column 
 side_by_side_are spacing ws column n inside =
     let d = drop_more ws column (record { 0 = pos 0 }) (omega (arith, inside)) in
     let e : side_by_side spacing (take (suc n) (drop column ws))
-    ≡ (width_at ws column +ℤ with_spacings spacing (take n (drop (column + 1) ws))) =
+    ≡ (width_at ws column +ℤ with_spacings_before spacing (take n (drop (column + 1) ws))) =
     ap (λ (xs : List Unit). side_by_side spacing (take (suc n) xs)) d in
     let h = with_spacings_are spacing ws (column + 1) n (omega (arith, inside)) in
     omega (arith, ints, e, h)
@@ -80,7 +80,7 @@ part_between width n k = elim (cases_lt k (width % n)) [
 
 -- what a column grows by
 growth_is : (spacing : ℤ) (cell : GroupSpan) (before after : List Unit) → IsWidened spacing cell before after → SpanFits (length before) cell
-    → (i : ℕ) → IsSpanned cell i → growth before after i ≡ pos (part_of (lacking spacing cell before) cell.span (i - cell.column))
+    → (i : ℕ) → IsSpanned cell i → width_growth before after i ≡ pos (part_of (lacking spacing cell before) cell.span (i - cell.column))
 growth_is spacing cell before after w fits i is =
     let from = is.0 in let to = is.1 in let inside = fits.inside in
     let e : cell.column + (i - cell.column) ≡ i = omega (arith, from) in

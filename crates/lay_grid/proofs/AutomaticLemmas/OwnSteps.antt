@@ -7,7 +7,7 @@ use Rattle.lay_units.specs.declared.length.Unit.{Unit}
 use Rattle.lay_grid.specs.declared.automatic.bounds.GroupSpan.{GroupSpan}
 use Rattle.lay_grid.specs.Shares.{own_at, own_width, width_at}
 use Rattle.lay_grid.specs.Automatic.Own.{greatest, has_alone}
-use Rattle.lay_grid.specs.Automatic.Pass.Steps.{IsRaised}
+use Rattle.lay_grid.specs.Automatic.Pass.Steps.{IsWidthRaised}
 
 max_swap : (a b c : ℤ) → int_max a (int_max b c) ≡ int_max b (int_max a c)
 max_swap a b c = omega (arith, ints, clamps)
@@ -29,7 +29,7 @@ greatest_push least (x ∷ cells) cell i =
     swapped false false = refl
 
 pub own_more : (given : List (Option Unit)) (cells : List GroupSpan) (before after : List Unit) (n : ℕ) (d : GroupSpan) → n < length cells
-    → length before ≡ length given → IsRaised (get_or cells n d) before after
+    → length before ≡ length given → IsWidthRaised (get_or cells n d) before after
     → ((i : ℕ) → i < length given → width_at before i ≡ greatest (own_width (own_at given i)) (take n cells) i)
     → (i : ℕ) → i < length given → width_at after i ≡ greatest (own_width (own_at given i)) (take (n + 1) cells) i
 own_more given cells before after n d lt len raised old i less =

@@ -61,30 +61,30 @@ abbrev pub spanned : GroupSpan → List Unit → List Unit
 spanned cell widths = take cell.span (drop cell.column widths)
 
 -- columns with a spacing before each, and columns side by side, with a spacing between neighbours
-abbrev pub with_spacings : ℤ → List Unit → ℤ
-with_spacings spacing [] = pos 0
-with_spacings spacing (width ∷ widths) = (spacing +ℤ width.0) +ℤ with_spacings spacing widths
+abbrev pub with_spacings_before : ℤ → List Unit → ℤ
+with_spacings_before spacing [] = pos 0
+with_spacings_before spacing (width ∷ widths) = (spacing +ℤ width.0) +ℤ with_spacings_before spacing widths
 
 abbrev pub side_by_side : ℤ → List Unit → ℤ
 side_by_side spacing [] = pos 0
-side_by_side spacing (width ∷ widths) = width.0 +ℤ with_spacings spacing widths
+side_by_side spacing (width ∷ widths) = width.0 +ℤ with_spacings_before spacing widths
 
 -- the column i is one of those that a cell spans, and how far a column is widened
 abbrev pub IsSpanned : GroupSpan → ℕ → Type 0
 IsSpanned cell i = (cell.column ≤ i) × (i < cell.column + cell.span)
 
-abbrev pub growth : List Unit → List Unit → ℕ → ℤ
-growth before after i = width_at after i -ℤ width_at before i
+abbrev pub width_growth : List Unit → List Unit → ℕ → ℤ
+width_growth before after i = width_at after i -ℤ width_at before i
 
 -- What a cell does to columns once its turn has come. Those that it spans are then as wide as it, or as they
 -- were where that is more. Each of them grows, by parts that differ by a unit at most, and no other column does.
 pub record IsWidenedByNeed (spacing : ℤ) (cell : GroupSpan) (before after : List Unit) : Type 0 where
   pub together : side_by_side spacing (spanned cell after)
       ≡ int_max cell.width.0 (side_by_side spacing (spanned cell before))
-  pub wider : (i : ℕ) → IsSpanned cell i → pos 0 ≤ℤ growth before after i
+  pub wider : (i : ℕ) → IsSpanned cell i → pos 0 ≤ℤ width_growth before after i
   pub alike : (i j : ℕ) → IsSpanned cell i → IsSpanned cell j
-      → growth before after i ≤ℤ (growth before after j +ℤ pos 1)
-  pub others : (i : ℕ) → i < length before → (IsSpanned cell i → ⊥) → growth before after i ≡ pos 0
+      → width_growth before after i ≤ℤ (width_growth before after j +ℤ pos 1)
+  pub others : (i : ℕ) → i < length before → (IsSpanned cell i → ⊥) → width_growth before after i ≡ pos 0
 
 abbrev pub CellsWidenByNeed : Type 0
 CellsWidenByNeed = (spacing : ℤ) (cell : GroupSpan) (before after : List Unit) → SpanFits (length before) cell

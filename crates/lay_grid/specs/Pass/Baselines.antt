@@ -8,10 +8,10 @@ use Rattle.lay_grid.specs.Heights.{HasBaseline}
 use Rattle.lay_grid.specs.Lengths.{MayBePosition}
 
 -- the lower of two baselines, where there is one
-abbrev pub lower_of : Option Unit → Option Unit → Option Unit
-lower_of None b = b
-lower_of (Some a) None = Some a
-lower_of (Some a) (Some b) = Some (record { 0 = int_max a.0 b.0 })
+abbrev pub lower_baseline : Option Unit → Option Unit → Option Unit
+lower_baseline None b = b
+lower_baseline (Some a) None = Some a
+lower_baseline (Some a) (Some b) = Some (record { 0 = int_max a.0 b.0 })
 
 -- the lowest of the baselines that the first n cells have in the row, or none
 abbrev pub BaselineTo : List RowCell → ℕ → ℕ → Option Unit → Type 0
@@ -26,7 +26,7 @@ BaselineTo cells row n (Some b) =
 -- the row's baseline is lowered to that of one more cell
 pub record Lowers (row : ℕ) (baseline : Option Unit) (before after : List (Option Unit))
     : Type 0 where
-  pub here : slice_index_or after row None ≡ lower_of (slice_index_or before row None) baseline
+  pub here : slice_index_or after row None ≡ lower_baseline (slice_index_or before row None) baseline
   pub others : (k : ℕ) → k ≢ row → slice_index_or after k None ≡ slice_index_or before k None
   pub as_many : length after ≡ length before
 

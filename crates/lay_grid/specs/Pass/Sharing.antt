@@ -4,7 +4,7 @@ use Rattle.std.specs.Prelude.{ℕ, ◌+◌, ◌*◌, ◌≡◌, ◌<◌, ◌≤�
 use Rattle.std.specs.Prelude.{Bool, true, false, cond, Option, List, [], ◌∷◌, length, drop}
 use Rattle.lay_units.specs.declared.length.Unit.{Unit}
 use Rattle.lay_grid.specs.declared.columns.FirstCell.{FirstCell}
-use Rattle.lay_grid.specs.Shares.{own_at, takes, sum_of, sum_own, share_at, takes_at, all_own}
+use Rattle.lay_grid.specs.Shares.{own_at, takes_share, sum_of, sum_own, share_at, takes_at, all_own}
 use Rattle.lay_grid.specs.Columns.{given_by, or_else}
 
 -- one more cell gave its widths
@@ -16,7 +16,7 @@ pub record Gives (spacing : ℤ) (cell : FirstCell) (before after : List (Option
 -- how many columns take a share
 abbrev pub count_takers : Bool → List (Option Unit) → ℕ
 count_takers all [] = 0
-count_takers all (own ∷ owns) = cond (takes all own) 1 0 + count_takers all owns
+count_takers all (own ∷ owns) = cond (takes_share all own) 1 0 + count_takers all owns
 
 -- the first n columns have their widths, and `more` of the further shares are greater by a unit
 -- than `each`

@@ -8,7 +8,7 @@ ghost use Rattle.lay_grid.specs.Shares.{own_width, width_at};
 ghost use Rattle.lay_grid.specs.Automatic.Sizes.{AreSizes, MayBeSize};
 ghost use Rattle.lay_grid.specs.Automatic.Own.{AreOwn};
 ghost use Rattle.lay_grid.specs.Automatic.Fit.{SpanFits};
-ghost use Rattle.lay_grid.specs.Automatic.Pass.Steps.{IsRaised};
+ghost use Rattle.lay_grid.specs.Automatic.Pass.Steps.{IsWidthRaised};
 
 use crate::automatic::bounds::GroupSpan;
 use lay_units::{NoMemory, Unit};
@@ -60,7 +60,7 @@ fn width_of(own: Option<Unit>) -> Unit
 fn raise(widths: &mut Vec<Unit>, cell: GroupSpan)
     requires cell { SpanFits (length widths.old.items) cell }
     requires sizes { AreSizes widths.old.items }
-    ensures raised { IsRaised cell widths.old.items widths.new.items }
+    ensures raised { IsWidthRaised cell widths.old.items widths.new.items }
     ensures sizes { AreSizes widths.new.items }
 {
     if cell.span != 1 {

@@ -29,18 +29,18 @@ use Rattle.lay_flow.specs.Blocks.Boxes.{empty_block}
 use Rattle.lay_flow.specs.declared.blocks.flow_box.FlowBox.{FlowBox}
 use Rattle.lay_flow.specs.declared.blocks.flow_box.FlowKind.{FlowKind}
 use Rattle.lay_flow.specs.declared.blocks.flow_box.FlowKind.TheVariants.{Block as block}
-use Rattle.lay_line_measures.specs.InlineBoxes.{areas_of}
+use Rattle.lay_line_measures.specs.InlineBoxes.{inline_areas}
 use Rattle.lay_line_items.specs.InlineSegments.{segments_in}
-use Rattle.lay_flow_boxes.specs.ContextBlocks.{cleared_by, content_of_box, float_side, holds_lines, inner_box, is_anchor, is_in_lines, kind_alone, kind_by, kind_in_lines, own_block}
+use Rattle.lay_flow_boxes.specs.ContextBlocks.{cleared_by, content_of_box, float_side, holds_lines, inner_box, is_anchor, is_inside_lines, kind_alone, kind_by, kind_in_lines, own_block}
 use Rattle.lay_flow_boxes.specs.ContextBlocks as blocks
 use Rattle.lay_flow_boxes.specs.PlaceInputs.{PlaceInput}
 use Rattle.lay_sizes.specs.OwnBoxes.{own_box_at}
 use Rattle.lay_placements.specs.InnerPieces.{inner_pieces_at}
 use Rattle.lay_placements.specs.PieceParts.{numbered, with_pieces}
-use Rattle.lay_placement.specs.ContextPieces.{painted, piece_of_box, pieces_of_box, pieces_on_line, pieces_to, spliced_at}
+use Rattle.lay_placement.specs.ContextPieces.{painted_of_piece, piece_of_box, pieces_of_box, pieces_on_line, pieces_to, spliced_at}
 use Rattle.lay_placement.specs.ContextPlacements.{IsPlacement}
 use Rattle.lay_placement.specs.ContextPlaces.{ContextPlaces, HasPlaces, measures_of, rows_at}
-use Rattle.lay_placement.specs.OnLines.{line_container, on_lines_of, pieces_on_lines}
+use Rattle.lay_placement.specs.OnLines.{block_line_container, on_lines_of, pieces_on_lines}
 use Rattle.lay_placements.specs.Placements.{Placement}
 use Rattle.lay_hit.specs.Laws.{IsPieceOf}
 use Rattle.lay_hit.proofs.PaintedLemmas.Each.{Each, each-append, each-at, each-flat_map, each-if, each-map, each-weaker}
@@ -155,10 +155,10 @@ module _ (d : Document) where
         → AreOnLine k (kind_by (measures_of i p) i.own_height p.shape.lefts k (if b then Some (content_of_box (measures_of i p) p.shape.lefts k) else None))
     of-lines k lt true =
         line-pieces (IsBoxIn i.boxes) (IsTextIn i.boxes)
-        (line_container i.boxes k (own_block i.boxes i.sizes i.own_height p.shape.lefts k)) (content_of_box (measures_of i p) p.shape.lefts k) (rows_at p.places k)
-        (areas_of (measures_of i p)) (measures_of i p) (blocks.line_container (measures_of i p) p.shape.lefts k) (segments_in i.face i.boxes k) refl lt
+        (block_line_container i.boxes k (own_block i.boxes i.sizes i.own_height p.shape.lefts k)) (content_of_box (measures_of i p) p.shape.lefts k) (rows_at p.places k)
+        (inline_areas (measures_of i p)) (measures_of i p) (blocks.line_container (measures_of i p) p.shape.lefts k) (segments_in i.face i.boxes k) refl lt
         (container-segments i.boxes i.face k)
-    of-lines k lt false = no-lines k (is_in_lines (measures_of i p) p.shape.lefts k)
+    of-lines k lt false = no-lines k (is_inside_lines (measures_of i p) p.shape.lefts k)
 
     on-lines : (k : ℕ) → k < length i.boxes → Each IsOnLine (on_lines_of i p k)
     on-lines k lt =
@@ -168,7 +168,7 @@ module _ (d : Document) where
     splice : (k : ℕ) → Each Is (spliced_at i p k)
     splice k = at-place _ _ (inner_pieces_at i.pieces k) (inner k)
 
-    paint : (l : LinePiece) (kind : LinePieceKind) → IsNamed (IsBoxIn i.boxes) (IsTextIn i.boxes) kind l.node → Each Is (painted i p l kind)
+    paint : (l : LinePiece) (kind : LinePieceKind) → IsNamed (IsBoxIn i.boxes) (IsTextIn i.boxes) kind l.node → Each Is (painted_of_piece i p l kind)
     paint l on_line.Line h = (line-piece i.boxes l.node 0 _ boxes h, tt)
     paint l on_line.Inline h = (box-piece i.boxes l.node 0 _ boxes h, tt)
     paint l on_line.Text h = (text-piece i.boxes l.node 0 _ boxes h, tt)

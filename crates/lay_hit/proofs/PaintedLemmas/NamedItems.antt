@@ -19,7 +19,7 @@ use Rattle.lay_space.specs.declared.breaks.Entry.{Entry}
 use Rattle.lay_space.specs.declared.breaks.Entry.TheVariants as entry
 use Rattle.lay_space.specs.declared.segment.Segment.{Segment}
 use Rattle.lay_space.specs.Breaks.{entries_of}
-use Rattle.lay_space.specs.Laws.{content_of, is_out_of_flow}
+use Rattle.lay_space.specs.Laws.{content_of, is_token_out_of_flow}
 use Rattle.lay_space.specs.Segments.{cut, last_segment, text_of}
 use Rattle.lay_space.specs.Tokens.{begins_line, cluster_tokens, is_collapsible, tokens_of, tokens_of_item, without_leading_spaces}
 use Rattle.lay_space.specs.WhiteSpace.{processed, space_after}
@@ -113,7 +113,7 @@ module _ (IsBox IsText : ℕ → Type 0) where
       (leading first xs h.1) (h.0, leading (begins_line first x) xs h.1)
 
   -- Breaks, which leave what is in flow as it is; the others name nothing that counts.
-  out-of-flow : (x : Token) → not (is_out_of_flow x) ≡ false → IsToken x
+  out-of-flow : (x : Token) → not (is_token_out_of_flow x) ≡ false → IsToken x
   out-of-flow (token.Float k) e = tt
   out-of-flow (token.Anchor k) e = tt
   out-of-flow _ e = absurd cc
@@ -125,8 +125,8 @@ module _ (IsBox IsText : ℕ → Type 0) where
 
   entries : (xs : List Token) → Each IsToken xs → Each IsEntry (entries_of xs)
   entries xs h =
-      of-content (entries_of xs) (each-unfilter IsToken (λ (x : Token). not (is_out_of_flow x)) out-of-flow (content_of (entries_of xs))
-      (subst (Each IsToken) (sym (breaks_keep_content_lem xs).flow) (each-filter IsToken (λ (x : Token). not (is_out_of_flow x)) xs h)))
+      of-content (entries_of xs) (each-unfilter IsToken (λ (x : Token). not (is_token_out_of_flow x)) out-of-flow (content_of (entries_of xs))
+      (subst (Each IsToken) (sym (breaks_keep_content_lem xs).flow) (each-filter IsToken (λ (x : Token). not (is_token_out_of_flow x)) xs h)))
 
   -- Segments.
   abbrev IsCluster : Cluster → Type 0

@@ -31,7 +31,7 @@ use Rattle.lay_inlines.specs.declared.strokes.Stroke.{Stroke}
 use Rattle.lay_inlines.specs.LinePieces.{baseline_of, blank_of, content_end, line_pieces_of, line_spans, line_strokes, origin_of, piece_of, pieces_from, pieces_if_seen, pieces_of}
 use Rattle.lay_inlines.specs.OpenBoxes.{open_after, open_after_part}
 use Rattle.lay_inlines.specs.Raises.{RaisesValue, behind_strut, raise_of, raises_after, raises_of}
-use Rattle.lay_inlines.specs.Spans.{edge_at, is_text, open_spans, right_edges, span_of, spans_of, with_shown, with_text}
+use Rattle.lay_inlines.specs.Spans.{edge_at, is_text, open_spans, ended_right_edges, span_of, spans_of, with_shown, with_text_span}
 use Rattle.lay_inlines.specs.Strokes.{begin_of, end_of, has_content, parts_of, shown_of, stays, stroke_of, strokes}
 use Rattle.lay_line_measures.specs.BoxMeasuresValue.{BoxMeasuresValue}
 use Rattle.lay_line_measures.specs.declared.container.Container.{Container as LineContainer}
@@ -101,7 +101,7 @@ module _ (IsBox IsText : ℕ → Type 0) where
   abbrev pub IsLinePiece : LinePiece → Type 0
   IsLinePiece p = IsNamed p.kind p.node
 
-  text-span : (t : ℕ) (raise : Length) (from to : ℤ) (ss : List Span) → IsText t → Each IsSpan ss → Each IsSpan (with_text t raise from to ss)
+  text-span : (t : ℕ) (raise : Length) (from to : ℤ) (ss : List Span) → IsText t → Each IsSpan ss → Each IsSpan (with_text_span t raise from to ss)
   text-span t raise from to [] h g = (h, tt)
   text-span t raise from to (s ∷ ss) h g =
       each-if IsSpan (is_text s.kind && (s.node == t)) (span_of on_line.Text t raise from s.to.0 ∷ ss) (span_of on_line.Text t raise from to ∷ s ∷ ss) (h, g.1) (h, g)
@@ -124,7 +124,7 @@ module _ (IsBox IsText : ℕ → Type 0) where
       let s : Stroke = stroke_of x (raise_of r x) p (over fr p x) in
       let ss : List Stroke = strokes fr (over fr p x) (raises_after r x) xs in
       let followed : Bool = has_content ss in
-      shown-spans areas x (stays s followed) s.raise (begin_of s followed) (end_of s followed) (edge_at (right_edges areas ss) 0 end) (spans_of areas end ss) h.0
+      shown-spans areas x (stays s followed) s.raise (begin_of s followed) (end_of s followed) (edge_at (ended_right_edges areas ss) 0 end) (spans_of areas end ss) h.0
       (spans areas end fr (over fr p x) (raises_after r x) xs h.1)
 
   open-spans : (start end : ℤ) (edges raises : List Length) (ns : List ℕ) → Each IsBox ns → Each IsSpan (open_spans start end edges raises ns)
@@ -136,11 +136,11 @@ module _ (IsBox IsText : ℕ → Type 0) where
   line c areas fr row ns xs own open_boxes h =
       let end : ℤ = content_end fr row xs in
       let ss : List Stroke = line_strokes fr row ns xs in
-      let opened : List Span = open_spans (start_of fr row.reach.start.0) end (right_edges areas ss) (behind_strut row.shifts) ns in (
+      let opened : List Span = open_spans (start_of fr row.reach.start.0) end (ended_right_edges areas ss) (behind_strut row.shifts) ns in (
         own,
         each-map IsLinePiece (piece_of areas (origin_of c row end) (baseline_of row)) (line_spans areas fr row ns xs)
             (each-append IsSpan opened (spans_of areas end ss)
-            (open-spans (start_of fr row.reach.start.0) end (right_edges areas ss) (behind_strut row.shifts) ns open_boxes)
+            (open-spans (start_of fr row.reach.start.0) end (ended_right_edges areas ss) (behind_strut row.shifts) ns open_boxes)
             (spans areas end fr (blank_of fr row) (raises_of row.shifts (length ns)) xs h)),
       )
 

@@ -19,7 +19,7 @@ use Rattle.lay_context.specs.Local.{IsLocal, IsTaskDone, flow_input, place_as, s
 use Rattle.lay_context.specs.Medium.{Medium}
 use Rattle.lay_context.specs.PlacedContexts.{placed_in, placement_in}
 use Rattle.lay_context.specs.Settings.{sizes_in}
-use Rattle.lay_context.specs.Solves.{listed, medium_of, page_context, page_contexts}
+use Rattle.lay_context.specs.Solves.{listed_unless_anonymous, medium_of, page_context, page_contexts}
 use Rattle.lay_context.specs.Workings.{Workings}
 use Rattle.lay_hit.specs.Laws.{IsPieceOf}
 use Rattle.lay_hit.specs.Painted.Laws.{SolvedPiecesAreOfNodes}
@@ -77,7 +77,7 @@ module _ (d : Document) (medium : Medium) (contexts : List FormattingContext) (a
       by-table i lt (λ m less within. good fuel m within (omega (arith, le, less))) (sizes_in w.sizes i).table (done (record { context = i; phase = Place }) lt)
 
   -- the pieces of a context of the tree on the page, if it is one
-  on-page : (anonymous : Bool) (c : PageContext) → Each (Is d) c.pieces → Each (Is d) (frags_of (listed anonymous c))
+  on-page : (anonymous : Bool) (c : PageContext) → Each (Is d) c.pieces → Each (Is d) (frags_of (listed_unless_anonymous anonymous c))
   on-page true c h = tt
   on-page false c h = each-append (Is d) (page_pieces c) [] (at-place d c.rect c.shift c.pieces h) tt
 
@@ -85,7 +85,7 @@ module _ (d : Document) (medium : Medium) (contexts : List FormattingContext) (a
   up-to corners zero le = tt
   up-to corners (suc n) le =
       let before : List PageContext = page_contexts contexts w corners n in
-      let last : List PageContext = listed (formatting_context_at contexts n).anonymous (page_context contexts w corners n) in
+      let last : List PageContext = listed_unless_anonymous (formatting_context_at contexts n).anonymous (page_context contexts w corners n) in
       subst (Each (Is d)) (sym (flat_map-append page_pieces before last))
       (each-append (Is d) (frags_of before) (frags_of last) (up-to corners n (omega (arith, le)))
       (on-page (formatting_context_at contexts n).anonymous (page_context contexts w corners n) (good (length contexts) n (omega (arith, le)) (omega arith))))

@@ -3,7 +3,7 @@ use Rattle.std.proofs.Common.{◌≡◌, ◌⊎◌, ◌<◌, ℕ, List, [], ◌�
 use Rattle.lay_doc.specs.declared.edit.Edit.{Edit}
 use Rattle.lay_doc.specs.Document.{Document}
 use Rattle.lay_doc.specs.Edits.{after}
-use Rattle.lay_contexts.specs.Edited.Bound.{id_of}
+use Rattle.lay_contexts.specs.Edited.Bound.{root_id}
 use Rattle.lay_contexts.specs.Edited.Shrinking.{AreListsOf}
 use Rattle.lay_contexts.specs.Edited.Touched.{HasReached}
 use Rattle.lay_shape.specs.Touched.TouchedContexts.{IsUntouched}
@@ -25,7 +25,7 @@ stays_on x y z i j k a b = record {
 abbrev AfterOne : ListedDocument → Edit → ListedDocument → Document → ℕ → Type 0
 AfterOne mid edit to document j =
     IsUntouched mid.contexts to.contexts mid.formatting_contexts to.formatting_contexts j
-    ⊎ HasReached mid.document mid.styles edit (id_of document to.contexts j) ⊎ HasReached document to.styles edit (id_of document to.contexts j)
+    ⊎ HasReached mid.document mid.styles edit (root_id document to.contexts j) ⊎ HasReached document to.styles edit (root_id document to.contexts j)
 
 after_one : TouchedContextsAreReached → (mid : ListedDocument) (edit : Edit) (to : ListedDocument) → IsEdited mid edit to → (j : ℕ) → j < length to.contexts
     → AfterOne mid edit to to.document j

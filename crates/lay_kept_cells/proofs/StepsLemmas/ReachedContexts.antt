@@ -20,7 +20,7 @@ use Rattle.lay_context_sizes.specs.ShrinkToFit.{shrinks, shrinks_to_fit}
 use Rattle.lay_table_sizes.specs.TableLayouts.{asks_fixed, has_width, is_fixed}
 use Rattle.lay_context.specs.Laws.{MeasuredWhereShrunk}
 use Rattle.lay_context.specs.Measured.{ShrinksOutward, around, is_measured, own}
-use Rattle.lay_contexts.specs.Edited.Bound.{EditsTouchNoOthers, IsUntouched, id_of}
+use Rattle.lay_contexts.specs.Edited.Bound.{EditsTouchNoOthers, IsBoundUntouched, root_id}
 use Rattle.lay_contexts.specs.Edited.Shrinking.{AreListsOf, IsWithinOutward, TakesAnonymousTables, first, outward}
 use Rattle.lay_contexts.specs.Edited.Touched.{EditsTouchReachedContexts, HasReached}
 use Rattle.lay_shape.specs.Touched.TouchedContexts.{IsUntouchedFrom}
@@ -37,13 +37,13 @@ module _ (d : Document) (styles : List Style) (contexts : List Context) (all : L
   context_is : (i : ℕ) → i < length contexts → IsContextAt d.nodes styles (place i)
   context_is i lt = subst (IsContextAt d.nodes styles) (sym (place-there d styles contexts lists.contexts_are i lt)) (lists.contexts_are.are.are i (in_spots i lt))
 
-  named : (i : ℕ) → i < length contexts → place_of (id_of d contexts i) (ids_of d.nodes) ≡ Some (place i)
+  named : (i : ℕ) → i < length contexts → place_of (root_id d contexts i) (ids_of d.nodes) ≡ Some (place i)
   named i lt =
       let inside = within d.nodes styles (place i) (marked-true (is_marked (node_box_at d.nodes styles (place i))) (context_is i lt).establishes) in
-      place-is (id_of d contexts i) (ids_of d.nodes) (λ j k less in_ids. lists.document.ids j k less (omega (arith, in_ids, length-ids d.nodes)))
+      place-is (root_id d contexts i) (ids_of d.nodes) (λ j k less in_ids. lists.document.ids j k less (omega (arith, in_ids, length-ids d.nodes)))
       (place i) (omega (arith, inside, length-ids d.nodes)) refl
 
-  has_id : (i : ℕ) → i < length contexts → IsContext d styles (id_of d contexts i)
+  has_id : (i : ℕ) → i < length contexts → IsContext d styles (root_id d contexts i)
   has_id i lt = subst (IsContextThere d.nodes styles) (sym (named i lt)) (context_is i lt)
 
   rises : (i k : ℕ) → i < k → k < length contexts → place i < place k
@@ -53,7 +53,7 @@ module _ (d : Document) (styles : List Style) (contexts : List Context) (all : L
       let there = place-there d styles contexts lists.contexts_are k lt in
       omega (arith, low, here, there)
 
-  one_id : (i k : ℕ) → i < length contexts → k < length contexts → id_of d contexts i ≡ id_of d contexts k → i ≡ k
+  one_id : (i k : ℕ) → i < length contexts → k < length contexts → root_id d contexts i ≡ root_id d contexts k → i ≡ k
   one_id i k li lk e =
       let same : place i ≡ place k = same_Some (place i) (place k) (sym (named i li) ∙ ap (λ (x : ℕ). place_of x (ids_of d.nodes)) e ∙ named k lk) in
       ⊎_elim
@@ -65,7 +65,7 @@ module _ (d : Document) (styles : List Style) (contexts : List Context) (all : L
   record HasNumber (id : ℕ) : Type 0 where
     number : ℕ
     before : number < length contexts
-    is : id_of d contexts number ≡ id
+    is : root_id d contexts number ≡ id
 
   numbered : (id : ℕ) → IsContext d styles id → HasNumber id
   numbered id context = by (place_of id (ids_of d.nodes)) refl context
@@ -127,7 +127,7 @@ measured_same shrunk all rest are are_rest m n in_all in_rest same =
 module _ (shrunk : MeasuredWhereShrunk) (d e : Document) (styles others : List Style) (contexts later : List Context) (all rest : List FormattingContext)
     (lists : AreListsOf d styles contexts all) (later_lists : AreListsOf e others later rest) where
   -- what lay_contexts calls untouched is so
-  untouched : (i j k : ℕ) → i < length contexts → j ≡ k → IsUntouched shrinks d e contexts later all rest i j → IsUntouchedFrom contexts later all rest i k
+  untouched : (i j k : ℕ) → i < length contexts → j ≡ k → IsBoundUntouched shrinks d e contexts later all rest i j → IsUntouchedFrom contexts later all rest i k
   untouched i j k lt same u =
       let boxes : boxes_in contexts i ≡ boxes_in later k = u.boxes ∙ ap (boxes_in later) same in
       let here : number_of contexts i 0 ≡ first_number contexts i = omega arith in
@@ -144,7 +144,7 @@ module _ (shrunk : MeasuredWhereShrunk) (d e : Document) (styles others : List S
 
 pub touched_contexts_are_reached_lem : MeasuredWhereShrunk → EditsTouchReachedContexts → EditsTouchNoOthers → TouchedContextsAreReached
 touched_contexts_are_reached_lem shrunk reach others_stay d edit styles others contexts later all rest edits lists later_lists j lt =
-    let id : ℕ = id_of (after d edit) later j in
+    let id : ℕ = root_id (after d edit) later j in
     elim (reach d edit styles others id edits (inr (has_id (after d edit) others later rest later_lists j lt))) [
       | inl kept ↦ (let n = numbered d styles contexts all lists id kept.before in
           elim (others_stay shrinks d edit styles others contexts later all rest shrinks_takes edits lists later_lists n.number n.before) [

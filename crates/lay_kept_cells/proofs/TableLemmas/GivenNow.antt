@@ -13,7 +13,7 @@ use Rattle.lay_cell_work.specs.CellInputs.{CellInput, RootInput}
 use Rattle.lay_cell_work.specs.CellLaws.SoundCells.{CellRow, CellState, input_now}
 use Rattle.lay_kept_cells.specs.Steps.ReadyCells.{ReadyToInput}
 use Rattle.lay_shape.specs.Touched.ContextFlags.{ContextLists}
-use Rattle.lay_kept_cells.specs.Table.TableCells.{AreCellsOn, HaveNeeds, IsGivenNow, input_at}
+use Rattle.lay_kept_cells.specs.Table.TableCells.{AreCellsOn, HaveNeeds, IsGivenBy, input_at}
 use Rattle.lay_kept_cells.proofs.TableLemmas.KeptReads.{key_there, rows_counted}
 
 pub same_input : (medium : Medium) (t : ContextLists) (rows : List CellRow) (cell : ContextPhase) (key : CellKey) (roots : List RootInput) → key ≡ key_of t.contexts cell
@@ -37,7 +37,7 @@ module _ (medium : Medium) (t : ContextLists) (s : CellState) (on : AreCellsOn m
         ap (option_map (λ (c : ContextPhase). input_now medium t.contexts t.formatting_contexts s.rows c.context c.phase)) is ∙ ap Some (sym e)
 
     pub given_of : (P : CellRow → Type 0) → AtPlace s.rows place P → (input : CellInput) → input ≡ input_now medium t.contexts t.formatting_contexts s.rows cell.context cell.phase
-        → AtPlace s.rows place (λ r. IsGivenNow medium t s.rows r.key input)
+        → AtPlace s.rows place (λ r. IsGivenBy medium t s.rows r.key input)
     given_of P at input e = (
       at.0,
       at.1,

@@ -11,7 +11,7 @@ use Rattle.lay_shape.specs.Dependencies.{in_phase}
 use Rattle.lay_shape.specs.Laws.{CellsStandOnce}
 use Rattle.lay_shape.specs.Shapes.{cells_of}
 use Rattle.lay_kept_cells.specs.declared.table.cell_places.CellPlaces.{CellPlaces}
-use Rattle.lay_kept_cells.specs.Table.CellPlaces.{ArePlaces, ArePlacesTo, StandsThere, place_in, places_at, with_place}
+use Rattle.lay_kept_cells.specs.Table.CellPlaces.{AreCellPlaces, ArePlacesTo, StandsThere, place_in, places_at, with_place}
 
 noted_here : (places : List CellPlaces) (i : ℕ) (p : CellPlaces) → i < length places → places_at (slice_set places i p) i ≡ p
 noted_here places i p lt = grind (arith, elements)
@@ -85,7 +85,7 @@ module _ (cells : List ContextPhase) (places : List CellPlaces) (cell : ContextP
   ]
 
 pub all_noted : (contexts : List Context) (places : List CellPlaces) (n : ℕ) → CellsStandOnce → AreContexts contexts → n ≡ length (cells_of contexts) → length places ≡ length contexts
-    → ArePlacesTo (cells_of contexts) places n → ArePlaces contexts places
+    → ArePlacesTo (cells_of contexts) places n → AreCellPlaces contexts places
 all_noted contexts places n once are all count noted = record {
   count = count;
   each = λ c p lt. (let s = once contexts c p are lt in

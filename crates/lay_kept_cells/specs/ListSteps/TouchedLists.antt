@@ -8,7 +8,7 @@ use Rattle.lay_doc.specs.Document.{Document}
 use Rattle.lay_doc.specs.Edits.{after}
 use Rattle.lay_contexts.specs.Contexts.{Context}
 use Rattle.lay_contexts.specs.FormattingContexts.{FormattingContext}
-use Rattle.lay_contexts.specs.Edited.Bound.{id_of}
+use Rattle.lay_contexts.specs.Edited.Bound.{root_id}
 use Rattle.lay_contexts.specs.Edited.Shrinking.{AreListsOf}
 use Rattle.lay_contexts.specs.Edited.Touched.{Edits, HasReached}
 use Rattle.lay_shape.specs.Touched.TouchedContexts.{IsUntouched, IsUntouchedFrom}
@@ -54,8 +54,8 @@ pub record IsReachedOnTheWay (from : ListedDocument) (edits : List Edit) (to : L
   pub leads : EditsLead next rest to
   pub i : ℕ
   pub stays : StaysFrom next to i j
-  pub reached : HasReached before.document before.styles edit (id_of next.document next.contexts i)
-      ⊎ HasReached next.document next.styles edit (id_of next.document next.contexts i)
+  pub reached : HasReached before.document before.styles edit (root_id next.document next.contexts i)
+      ⊎ HasReached next.document next.styles edit (root_id next.document next.contexts i)
 
 abbrev pub ListsTouchReachedContexts : Type 0
 ListsTouchReachedContexts = (from to : ListedDocument) (edits : List Edit) (j : ℕ) → EditsLead from edits to → j < length to.contexts

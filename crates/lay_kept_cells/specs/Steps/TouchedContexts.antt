@@ -7,7 +7,7 @@ use Rattle.lay_doc.specs.Document.{Document}
 use Rattle.lay_doc.specs.Edits.{after}
 use Rattle.lay_contexts.specs.Contexts.{Context}
 use Rattle.lay_contexts.specs.FormattingContexts.{FormattingContext}
-use Rattle.lay_contexts.specs.Edited.Bound.{id_of}
+use Rattle.lay_contexts.specs.Edited.Bound.{root_id}
 use Rattle.lay_contexts.specs.Edited.Shrinking.{AreListsOf}
 use Rattle.lay_contexts.specs.Edited.Touched.{Edits, HasReached}
 use Rattle.lay_shape.specs.Touched.TouchedContexts.{IsUntouched}
@@ -18,4 +18,4 @@ TouchedContextsAreReached = (d : Document) (edit : Edit) (styles others : List S
     → Edits d edit styles others → AreListsOf d styles contexts all → AreListsOf (after d edit) others later rest
     → (j : ℕ) → j < length later
     → IsUntouched contexts later all rest j
-    ⊎ HasReached d styles edit (id_of (after d edit) later j) ⊎ HasReached (after d edit) others edit (id_of (after d edit) later j)
+    ⊎ HasReached d styles edit (root_id (after d edit) later j) ⊎ HasReached (after d edit) others edit (root_id (after d edit) later j)

@@ -34,6 +34,6 @@ abbrev pub ArePlacesTo : List ContextPhase → List CellPlaces → (n : ℕ) →
 ArePlacesTo cells places n = (k : ℕ) (c : ContextPhase) → k < n → slice_get cells k ≡ Some c → StandsThere cells places c
 
 -- these are the places of the cells of all contexts
-pub record ArePlaces (contexts : List Context) (places : List CellPlaces) : Type 0 where
+pub record AreCellPlaces (contexts : List Context) (places : List CellPlaces) : Type 0 where
   pub count : length places ≡ length contexts
   pub each : (c : ℕ) (p : Phase) → c < length contexts → StandsThere (cells_of contexts) places (in_phase p c)

@@ -11,7 +11,7 @@ use Rattle.lay_shape.specs.Shapes.{cells_of}
 use Rattle.lay_shape.specs.Touched.ContextFlags.{ContextLists}
 use Rattle.lay_kept_cells.specs.declared.table.cell_places.CellPlaces.{CellPlaces}
 use Rattle.lay_kept_cells.specs.declared.table.context_root.ContextRoot.{ContextRoot}
-use Rattle.lay_kept_cells.specs.Table.CellPlaces.{ArePlaces}
+use Rattle.lay_kept_cells.specs.Table.CellPlaces.{AreCellPlaces}
 use Rattle.lay_kept_cells.specs.Table.RootColumns.{AreRootColumns}
 
 -- what is known of them besides
@@ -35,7 +35,7 @@ pub record AreTableColumns (t : ContextLists) (columns : TableColumns) : Type 0 
   pub measured : AreMeasured t.formatting_contexts columns.measured
   pub roots : AreRootColumns t.contexts t.formatting_contexts columns.roots columns.firsts
   pub cells : columns.cells ≡ cells_of t.contexts
-  pub places : ArePlaces t.contexts columns.places
+  pub places : AreCellPlaces t.contexts columns.places
   pub no_widths : columns.no_widths ≡ not_measured
   pub no_sizes : columns.no_sizes ≡ not_sized
   pub no_place : columns.no_place ≡ not_placed

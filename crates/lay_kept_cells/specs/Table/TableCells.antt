@@ -36,7 +36,7 @@ input_at medium t rows place =
     option_map (λ c. input_now medium t.contexts t.formatting_contexts rows c.context c.phase) (slice_get (cells_of t.contexts) place)
 
 -- this is what the cell with this key is given now, which is that of a context and a phase
-pub record IsGivenNow (medium : Medium) (t : ContextLists) (rows : List CellRow) (key : CellKey) (input : CellInput) : Type 0 where
+pub record IsGivenBy (medium : Medium) (t : ContextLists) (rows : List CellRow) (key : CellKey) (input : CellInput) : Type 0 where
   pub context : ℕ
   pub phase : Phase
   pub within : context < length t.contexts

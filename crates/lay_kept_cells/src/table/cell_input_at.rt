@@ -6,7 +6,7 @@ ghost use Rattle.lay_cells.specs.Looks.{Looks};
 ghost use Rattle.lay_cells.specs.Places.{AtPlace};
 ghost use Rattle.lay_cells.specs.declared.answers.Look.TheVariants as look;
 ghost use Rattle.lay_cell_work.specs.CellLaws.SoundCells.{input_now};
-ghost use Rattle.lay_kept_cells.specs.Table.TableCells.{AreCellsOn, HaveNeeds, IsGivenNow, input_at};
+ghost use Rattle.lay_kept_cells.specs.Table.TableCells.{AreCellsOn, HaveNeeds, IsGivenBy, input_at};
 
 use crate::steps::ready_to_input;
 use crate::table::cell_table::CellTable;
@@ -32,7 +32,7 @@ pub fn input_at(
     requires cells { AreCellsOn medium.now table.now cells.now }
     requires ready { AtPlace cells.now.rows place (λ r. Looks cells.now.rows r.key look.Ready) }
     ensures value { IfOk result (λ i. input_at medium.now table.now cells.now.rows place ≡ Some (arc_value i)) }
-    ensures of { IfOk result (λ i. AtPlace cells.now.rows place (λ r. IsGivenNow medium.now table.now cells.now.rows r.key (arc_value i))) }
+    ensures of { IfOk result (λ i. AtPlace cells.now.rows place (λ r. IsGivenBy medium.now table.now cells.now.rows r.key (arc_value i))) }
 {
     ready_to_input();
     let cell = table.cell_at(place);

@@ -2,7 +2,7 @@
 
 ghost use Rattle.std.specs.Prelude.{◌≡◌, ◌<◌, IfOk, Some, length, slice_get, slice_set};
 ghost use Rattle.lay_shape.specs.Shapes.{cells_of};
-ghost use Rattle.lay_kept_cells.specs.Table.CellPlaces.{ArePlaces, place_in, places_at, with_place};
+ghost use Rattle.lay_kept_cells.specs.Table.CellPlaces.{AreCellPlaces, place_in, places_at, with_place};
 
 use lay_context::Phase;
 use lay_contexts::Contexts;
@@ -31,7 +31,7 @@ pub(crate) fn cell_places(
     cells: &[ContextPhase],
 ) -> Result<Vec<CellPlaces>, NoMemory>
     requires { cells.now ≡ cells_of contexts.now }
-    ensures { IfOk result (λ v. ArePlaces contexts.now v.items) }
+    ensures { IfOk result (λ v. AreCellPlaces contexts.now v.items) }
 {
     cells_stand_once();
     let mut places = vec![in alloc; NO_PLACES; contexts.len()]?;

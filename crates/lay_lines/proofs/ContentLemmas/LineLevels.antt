@@ -16,7 +16,7 @@ use Rattle.lay_lines.specs.declared.content.content.Stretch.{Stretch}
 use Rattle.lay_lines.specs.declared.content.frame.Extent.{Extent}
 use Rattle.lay_lines.specs.declared.content.frame.Frame.{Frame}
 use Rattle.lay_lines.specs.Content.Extents.{LineParts, part_by, innermost, strut_alone, stood, opened, opened_all, closed, Reading, read, read_all, read_at, reading_to}
-use Rattle.lay_lines.specs.Content.LineContents.{boxes_of_part, open_after, open_after_parts, AreNestedParts, AreNested}
+use Rattle.lay_lines.specs.Content.LineContents.{boxes_of_part, open_count_after, open_after_parts, AreNestedParts, AreNested}
 use Rattle.lay_lines.proofs.ContentLemmas.LineParts.{length_more, part_before, part_last, innermost_before, boxes_more, Counted, ReadingCounted, strut_part, alone_counted, opened_counted, read_counted, to_counted}
 
 index_before : (xs : List ℕ) (x k : ℕ) → k < length xs → slice_index (xs ++ x ∷ []) k ≡ slice_index xs k
@@ -173,7 +173,7 @@ pub record ReadingLevels (strut : LinePart) (d : ℕ) (r : Reading) : Type 0 whe
   pub line : LineLevels d r.line
   pub count : length r.open_boxes ≡ d
 
-read_levels : (strut : LinePart) (d : ℕ) (r : Reading) (x : Part) → d + boxes_of_part x ≤ 128 → ReadingLevels strut d r → ReadingLevels strut (open_after d x) (read r x)
+read_levels : (strut : LinePart) (d : ℕ) (r : Reading) (x : Part) → d + boxes_of_part x ≤ 128 → ReadingLevels strut d r → ReadingLevels strut (open_count_after d x) (read r x)
 read_levels strut d r (Space w) few is = is
 read_levels strut d r (PreservedSpace w) few is = is
 read_levels strut d r (Tab t) few is = is
@@ -200,7 +200,7 @@ read_levels strut d r (Atomic a) few is = record {
 
 all_levels : (strut : LinePart) (d : ℕ) (r : Reading) (xs : List Part) → AreNestedParts d xs → ReadingLevels strut d r → ReadingLevels strut (open_after_parts d xs) (read_all r xs)
 all_levels strut d r [] nested is = is
-all_levels strut d r (x ∷ xs) nested is = all_levels strut (open_after d x) (read r x) xs nested.1 (read_levels strut d r x nested.0 is)
+all_levels strut d r (x ∷ xs) nested is = all_levels strut (open_count_after d x) (read r x) xs nested.1 (read_levels strut d r x nested.0 is)
 
 -- how many inline boxes are open after the first k of these stretches
 abbrev pub open_at : ℕ → Option Stretch → ℕ

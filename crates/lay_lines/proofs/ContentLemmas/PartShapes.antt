@@ -6,7 +6,7 @@ use Rattle.std.proofs.lemmas.List.{get_or_default}
 use Rattle.lay_units.specs.declared.length.Unit.{Unit}
 use Rattle.lay_valign.specs.declared.parts.LineShape.{LineShape}
 use Rattle.lay_valign.specs.declared.parts.Part.{Part as LinePart}
-use Rattle.lay_valign.specs.Parts.{no_part, part_at, AreParts}
+use Rattle.lay_valign.specs.Parts.{no_line_part, part_at, AreParts}
 use Rattle.lay_valign.specs.LineShape.{IsShape}
 use Rattle.lay_valign.specs.Low.{PartReaches, ShapeLow}
 use Rattle.lay_valign.specs.Near.{IsNear}
@@ -40,7 +40,7 @@ module _ (e : Extent) (strut : ExtentWithin e) (n d up down : ℕ) (l : LinePart
   other k lt = subst (λ (ps : List LinePart). PartStands up down (part_at ps (suc k))) c.is (r.each (suc k) (omega arith) (let i = ap (λ (ps : List LinePart). length ps) c.is in omega (arith, i, lt)))
 
   others : All (PartReaches (17179869184 + (up + down)) (17179869184 + up) (17179869184 + down)) c.rest
-  others k p lt = subst (PartReaches (17179869184 + (up + down)) (17179869184 + up) (17179869184 + down)) (get_or_default c.rest k no_part p lt) (other k lt).reaches
+  others k p lt = subst (PartReaches (17179869184 + (up + down)) (17179869184 + up) (17179869184 + down)) (get_or_default c.rest k no_line_part p lt) (other k lt).reaches
 
   shape_low : (shape : LineShape) → IsShape l.parts shape → ShapeLow 17179869184 (17179869184 + (up + down)) (17179869184 + up) (17179869184 + down) (2147483648 * 128) shape
   shape_low shape is =

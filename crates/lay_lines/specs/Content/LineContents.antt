@@ -98,24 +98,24 @@ abbrev pub HasNoBoxes : List Stretch → ℕ → Type 0
 HasNoBoxes ss n = (k : ℕ) (s : Stretch) → k < n → slice_get ss k ≡ Some s → total boxes_of_part s.parts ≡ 0
 
 -- how many inline boxes are open after a part, where so many are before it
-abbrev pub open_after : ℕ → Part → ℕ
-open_after n (Space w) = n
-open_after n (PreservedSpace w) = n
-open_after n (Tab t) = n
-open_after n Linefeed = n
-open_after n (Text w) = n
-open_after n (Start b) = n + 1
-open_after n (End b) = n - 1
-open_after n (Atomic a) = n
+abbrev pub open_count_after : ℕ → Part → ℕ
+open_count_after n (Space w) = n
+open_count_after n (PreservedSpace w) = n
+open_count_after n (Tab t) = n
+open_count_after n Linefeed = n
+open_count_after n (Text w) = n
+open_count_after n (Start b) = n + 1
+open_count_after n (End b) = n - 1
+open_count_after n (Atomic a) = n
 
 abbrev pub open_after_parts : ℕ → List Part → ℕ
 open_after_parts n [] = n
-open_after_parts n (x ∷ xs) = open_after_parts (open_after n x) xs
+open_after_parts n (x ∷ xs) = open_after_parts (open_count_after n x) xs
 
 -- where so many inline boxes are open, at most 128 boxes of these stand in each other
 abbrev pub AreNestedParts : ℕ → List Part → Type 0
 AreNestedParts n [] = n ≤ 128
-AreNestedParts n (x ∷ xs) = (n + boxes_of_part x ≤ 128) × AreNestedParts (open_after n x) xs
+AreNestedParts n (x ∷ xs) = (n + boxes_of_part x ≤ 128) × AreNestedParts (open_count_after n x) xs
 
 abbrev pub AreNested : ℕ → List Stretch → Type 0
 AreNested n [] = n ≤ 128

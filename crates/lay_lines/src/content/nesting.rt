@@ -1,7 +1,7 @@
 //! How deep boxes stand in each other in the lines of a container.
 
 ghost use Rattle.std.specs.Prelude.{◌≡◌, ◌↔◌, ◌+◌, ◌≤◌, IsTrue, None, IfSome};
-ghost use Rattle.lay_lines.specs.Content.LineContents.{AreNested, AreNestedParts, boxes_of_part, open_after, open_after_parts};
+ghost use Rattle.lay_lines.specs.Content.LineContents.{AreNested, AreNestedParts, boxes_of_part, open_count_after, open_after_parts};
 
 use crate::content::budgets::boxes_of_part;
 use crate::content::content::{Part, Stretch};
@@ -37,7 +37,7 @@ fn open_after_parts(before: u64, parts: &[Part]) -> Option<u64>
 
 fn open_after_part(before: u64, part: &Part) -> Option<u64>
     requires { before ≤ 128 }
-    ensures some { IfSome result (λ after. after ≡ open_after before part.now) }
+    ensures some { IfSome result (λ after. after ≡ open_count_after before part.now) }
     ensures nested { IfSome result (λ _. before + boxes_of_part part.now ≤ 128) }
     ensures few { IfSome result (λ after. after ≤ 128) }
     ensures none { result ≡ None → before + boxes_of_part part.now ≤ 128 → ⊥ }
@@ -51,7 +51,7 @@ fn open_after_part(before: u64, part: &Part) -> Option<u64>
 fn open_after(before: u64, part: &Part) -> u64
     requires few { before ≤ 128 }
     requires nested { before + boxes_of_part part.now ≤ 128 }
-    ensures value { result ≡ open_after before part.now }
+    ensures value { result ≡ open_count_after before part.now }
     ensures few { result ≤ 128 }
 {
     match part {

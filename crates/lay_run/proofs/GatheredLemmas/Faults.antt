@@ -15,7 +15,7 @@ use Rattle.lay_run.proofs.Cited.{element_read}
 use Rattle.lay_run.specs.declared.gathered.listing.Listed.{Listed}
 use Rattle.lay_run.specs.declared.gathered.listing.Listing.{Listing}
 use Rattle.lay_run.specs.Gathered.Numbers.{number_of}
-use Rattle.lay_run.specs.Gathered.Listings.{fault_at, is_element_at as is_item_element, depths_of as item_depths}
+use Rattle.lay_run.specs.Gathered.Listings.{insertion_fault, is_listed_element as is_item_element, depths_of as item_depths}
 use Rattle.lay_run.specs.Gathered.Standing.{IsGathered}
 
 pub item_element : (items : List Listed) (k : ℕ) (x : Listed) → k < length items → is_element (get_or items k x).new.kind ≡ is_item_element items k
@@ -37,7 +37,7 @@ no_parent d l g parent new none =
     let placed : place_of parent (ids_of d.nodes) ≡ None = g.found parent ∙ ap (option_map (λ i. get_or g.stands.places i 0)) none in
     rw placed refl
 
-pub fault_is : (d : Document) (l : Listing) → IsGathered d l → (parent up : ℕ) (new : NewNodeValue) → number_of l.numbers parent ≡ Some up → insert_fault d parent (last_index d parent) new ≡ fault_at l up new
+pub fault_is : (d : Document) (l : Listing) → IsGathered d l → (parent up : ℕ) (new : NewNodeValue) → number_of l.numbers parent ≡ Some up → insert_fault d parent (last_index d parent) new ≡ insertion_fault l up new
 fault_is d l g parent up new number =
     let places = g.stands.places in
     let up_within : up < length d.nodes = (let k = g.known parent in rw number at k) in
@@ -75,7 +75,7 @@ none_there : (o : Option ℕ) → is_some o ≡ false → o ≡ None
 none_there None h = refl
 none_there (Some k) h = absurd cc
 
-pub fits : (l : Listing) (up : ℕ) (new : NewNodeValue) → fault_at l up new ≡ None → Fits l up new
+pub fits : (l : Listing) (up : ℕ) (new : NewNodeValue) → insertion_fault l up new ≡ None → Fits l up new
 fits l up new none =
     let a = passed (not (is_item_element l.items.items up)) NotElement _ none in
     let b = passed ((new.id.0 == 0) || is_some (number_of l.numbers new.id.0)) IdTaken _ a.after in

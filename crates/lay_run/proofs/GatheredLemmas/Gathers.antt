@@ -18,9 +18,9 @@ use Rattle.lay_run.specs.declared.gathered.listing.Listed.{Listed}
 use Rattle.lay_run.specs.declared.gathered.listing.Listing.{Listing}
 use Rattle.lay_run.specs.Gathered.Numbers.{number_of}
 use Rattle.lay_run.specs.Gathered.Listings.{ups_of, depths_of as item_depths}
-use Rattle.lay_run.specs.Gathered.Links.{with_behind, with_child, HasLinks}
+use Rattle.lay_run.specs.Gathered.Links.{with_behind, with_child, HasNodeLinks}
 use Rattle.lay_run.specs.Gathered.Growth.{Grows}
-use Rattle.lay_run.specs.Gathered.Standing.{StandsIn, IsGathered}
+use Rattle.lay_run.specs.Gathered.Standing.{IsListingOf, IsGathered}
 use Rattle.lay_run.proofs.GatheredLemmas.Orders.{Shifts, more_places, length-more, more_old, more_new, shifts, stays, moves, shifted_rises, order_more, places_more}
 use Rattle.lay_run.proofs.GatheredLemmas.Faults.{item_at}
 use Rattle.lay_run.proofs.GatheredLemmas.Ends.{Linked, Ends, ends}
@@ -88,7 +88,7 @@ linked d l g =
         get_or-map (λ (n : Node). n.parent) d.nodes (get_or g.stands.places i 0) node 0 within ∙ ap (λ (n : Node). n.parent) (g.stands.nodes i node x lt)
 
 -- so the list has links, by which the last node of a subtree is found
-pub has_links : (d : Document) (l : Listing) → IsGathered d l → HasLinks l
+pub has_links : (d : Document) (l : Listing) → IsGathered d l → HasNodeLinks l
 has_links d l g = record {
   nexts = omega (arith, g.stands.next_count, g.stands.item_count);
   lasts = omega (arith, g.last_count, g.stands.item_count);
@@ -379,7 +379,7 @@ module _ (d : Document) (a b : Listing) (g : IsGathered d a) (parent : NodeId) (
         (λ q. omega (arith, l, q, same, up_within), (let e : get_or b.lasts.items i 0 ≡ k = l ∙ sym at_end in rw e (omega arith))))
   ]
 
-  stands_more : IsDocument put → StandsIn put b.items.items b.nexts.items
+  stands_more : IsDocument put → IsListingOf put b.items.items b.nexts.items
   stands_more is = record {
     document = is;
     places = more_places places at;

@@ -10,10 +10,10 @@ use Rattle.lay_doc.specs.Edits.{root_fault, insert_fault, after_insert, last_ind
 use Rattle.lay_run.proofs.Cited.{element_read}
 use Rattle.lay_run.specs.declared.gathered.listing.Listed.{Listed}
 use Rattle.lay_run.specs.Gathered.Listings.{ups_of, depths_of as item_depths}
-use Rattle.lay_run.specs.Gathered.Standing.{StandsIn, HasPut}
+use Rattle.lay_run.specs.Gathered.Standing.{IsListingOf, HasPut}
 use Rattle.lay_run.proofs.GatheredLemmas.Prefixes.{front, next_fits, next_put}
 
-module _ (d : Document) (items : List Listed) (nexts : List ℕ) (s : StandsIn d items nexts) where
+module _ (d : Document) (items : List Listed) (nexts : List ℕ) (s : IsListingOf d items nexts) where
   abbrev node_of : Listed → Node
   node_of x = becomes x.new 0 0
 
@@ -69,7 +69,7 @@ module _ (d : Document) (items : List Listed) (nexts : List ℕ) (s : StandsIn d
       }
 
 -- the root is put
-pub put_first : (d : Document) (items : List Listed) (nexts : List ℕ) → StandsIn d items nexts → (put : Document) (left : List Listed) → put ≡ front d 1 → length left ≡ length items
+pub put_first : (d : Document) (items : List Listed) (nexts : List ℕ) → IsListingOf d items nexts → (put : Document) (left : List Listed) → put ≡ front d 1 → length left ≡ length items
     → ((i : ℕ) (x : Listed) → i ≢ 0 → get_or left i x ≡ get_or items i x) → HasPut d items nexts put left 0 1
 put_first d items nexts s put left is count others = record {
   stands = s;

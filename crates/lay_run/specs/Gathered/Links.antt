@@ -16,7 +16,7 @@ abbrev pub with_child : List ℕ → ℕ → List ℕ
 with_child lasts up = slice_set (lasts ++ length lasts ∷ []) up (length lasts)
 
 -- each node has its links, and a last child comes after its parent
-pub record HasLinks (l : Listing) : Type 0 where
+pub record HasNodeLinks (l : Listing) : Type 0 where
   pub nexts : length l.nexts.items ≡ length l.items.items
   pub lasts : length l.lasts.items ≡ length l.items.items
   pub rising : (i : ℕ) → i < length l.lasts.items → (i ≤ slice_index l.lasts.items i) × (slice_index l.lasts.items i < length l.lasts.items)

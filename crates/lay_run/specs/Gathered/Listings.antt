@@ -18,20 +18,20 @@ ups_of items = map (λ x. x.up) items
 abbrev pub depths_of : List Listed → List ℕ
 depths_of items = map (λ x. x.depth) items
 
-abbrev pub is_element_at : List Listed → ℕ → Bool
-is_element_at [] k = false
-is_element_at (x ∷ xs) zero = is_element x.new.kind
-is_element_at (x ∷ xs) (suc k) = is_element_at xs k
+abbrev pub is_listed_element : List Listed → ℕ → Bool
+is_listed_element [] k = false
+is_listed_element (x ∷ xs) zero = is_element x.new.kind
+is_listed_element (x ∷ xs) (suc k) = is_listed_element xs k
 
-abbrev pub limit_at : Listing → ℕ → ℕ → Option EditFault
-limit_at l up bytes =
+abbrev pub insertion_limit_fault : Listing → ℕ → ℕ → Option EditFault
+insertion_limit_fault l up bytes =
     if nat_le most_nodes (length l.items.items) then Some TooManyNodes
     else (if nat_le most_depth (slice_index (depths_of l.items.items) up) then Some TooDeep
     else (if is_too_long l.text_bytes bytes then Some TextTooLong
     else None))
 
-abbrev pub fault_at : Listing → ℕ → NewNodeValue → Option EditFault
-fault_at l up new =
-    if not (is_element_at l.items.items up) then Some NotElement
+abbrev pub insertion_fault : Listing → ℕ → NewNodeValue → Option EditFault
+insertion_fault l up new =
+    if not (is_listed_element l.items.items up) then Some NotElement
     else (if (new.id.0 == 0) || is_some (number_of l.numbers new.id.0) then Some IdTaken
-    else limit_at l up (length new.text))
+    else insertion_limit_fault l up (length new.text))

@@ -9,7 +9,7 @@ use Rattle.lay_run.specs.Gathered.Numbers.{number_of}
 use Rattle.lay_run.specs.Gathered.Listings.{ups_of, depths_of}
 
 -- the node that stands at a place
-pub record At (places : List ℕ) (k : ℕ) : Type 0 where
+pub record NodeAtPlace (places : List ℕ) (k : ℕ) : Type 0 where
   pub number : ℕ
   pub within : number < length places
   pub stands : slice_index places number ≡ k
@@ -18,10 +18,10 @@ pub record At (places : List ℕ) (k : ℕ) : Type 0 where
 pub record IsOrder (places : List ℕ) : Type 0 where
   pub within : (i : ℕ) → i < length places → slice_index places i < length places
   pub apart : (i j : ℕ) → i < length places → j < length places → slice_index places i ≡ slice_index places j → i ≡ j
-  pub each : (k : ℕ) → k < length places → At places k
+  pub each : (k : ℕ) → k < length places → NodeAtPlace places k
 
 -- the listed nodes are those of the document, and each is linked to the one behind it
-pub record StandsIn (d : Document) (items : List Listed) (nexts : List ℕ) : Type 0 where
+pub record IsListingOf (d : Document) (items : List Listed) (nexts : List ℕ) : Type 0 where
   pub document : IsDocument d
   pub places : List ℕ
   pub order : IsOrder places
@@ -40,7 +40,7 @@ pub record StandsIn (d : Document) (items : List Listed) (nexts : List ℕ) : Ty
 
 -- a list of nodes keeps what is needed to put one more into its document
 pub record IsGathered (d : Document) (l : Listing) : Type 0 where
-  pub stands : StandsIn d l.items.items l.nexts.items
+  pub stands : IsListingOf d l.items.items l.nexts.items
   pub last_count : length l.lasts.items ≡ length d.nodes
   pub found : (id : ℕ) → place_of id (ids_of d.nodes) ≡ option_map (λ i. slice_index stands.places i) (number_of l.numbers id)
   pub known : (id : ℕ) → IfSome (number_of l.numbers id) (λ i. i < length d.nodes)
@@ -53,7 +53,7 @@ pub record IsGathered (d : Document) (l : Listing) : Type 0 where
 
 -- the nodes before the place m are put into a document, `at` is the last of them, and the others are left
 pub record HasPut (d : Document) (items : List Listed) (nexts : List ℕ) (put : Document) (left : List Listed) (at m : ℕ) : Type 0 where
-  pub stands : StandsIn d items nexts
+  pub stands : IsListingOf d items nexts
   pub count : length left ≡ length items
   pub within : at < length items
   pub last : slice_index stands.places at + 1 ≡ m

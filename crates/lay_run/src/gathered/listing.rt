@@ -4,8 +4,8 @@ ghost use Rattle.std.specs.Prelude.{◌≡◌, ◌+◌, ◌<◌, ◌≤◌, ◌�
 ghost use Rattle.std.specs.Prelude.{slice_index, vec_len, vec_capacity, IfOk, OnOk, OnErr};
 ghost use Rattle.lay_units.specs.Limits.{most_depth, most_nodes, most_text};
 ghost use Rattle.lay_run.specs.Gathered.Numbers.{number_of};
-ghost use Rattle.lay_run.specs.Gathered.Listings.{depths_of, is_element_at, limit_at, fault_at};
-ghost use Rattle.lay_run.specs.Gathered.Links.{IsLastOf, HasLinks, with_behind, with_child};
+ghost use Rattle.lay_run.specs.Gathered.Listings.{depths_of, is_listed_element, insertion_limit_fault, insertion_fault};
+ghost use Rattle.lay_run.specs.Gathered.Links.{IsLastOf, HasNodeLinks, with_behind, with_child};
 ghost use Rattle.lay_run.specs.Gathered.Growth.{IsOfRoot, Grows, IsSame};
 
 use crate::gathered::numbers::Numbers;
@@ -70,7 +70,7 @@ impl Listing {
     pub fn fault_at(&self, up: usize, new: &NewNode) -> Option<EditFault>
         requires up { up < length self.now.items.items }
         requires bytes { self.now.text_bytes ≤ most_text }
-        ensures { result ≡ fault_at self.now up new.now }
+        ensures { result ≡ insertion_fault self.now up new.now }
     {
         if !is_element_at(&self.items, up) {
             return Some(EditFault::NotElement);
@@ -85,7 +85,7 @@ impl Listing {
     fn limit_at(&self, up: usize, bytes: usize) -> Option<EditFault>
         requires up { up < length self.now.items.items }
         requires bytes { self.now.text_bytes ≤ most_text }
-        ensures { result ≡ limit_at self.now up bytes }
+        ensures { result ≡ insertion_limit_fault self.now up bytes }
     {
         if self.items.len() >= MOST_NODES {
             return Some(EditFault::TooManyNodes);
@@ -103,7 +103,7 @@ impl Listing {
 impl Listing {
     /// Puts a node below the one with the number `up`, as its last child. On an error all is as before.
     pub fn put(&mut self, parent: NodeId, up: usize, new: NewNode) -> Result<(), NoMemory>
-        requires links { HasLinks self.old }
+        requires links { HasNodeLinks self.old }
         requires up { up < length self.old.items.items }
         requires few { length self.old.items.items < most_nodes }
         requires shallow { slice_index (depths_of self.old.items.items) up < most_depth }
@@ -138,7 +138,7 @@ impl Listing {
 /// Whether the node with a number is an element.
 fn is_element_at(items: &[Listed], number: usize) -> bool
     requires { number < length items.now }
-    ensures { result ≡ is_element_at items.now number }
+    ensures { result ≡ is_listed_element items.now number }
 {
     items[number].new.kind().is_element()
 }

@@ -4,7 +4,7 @@ ghost use Rattle.std.specs.Prelude.{◌≡◌, ◌≢◌, ◌<◌, ◌≤◌, �
 ghost use Rattle.lay_doc.specs.Document.{root_document};
 ghost use Rattle.lay_doc.specs.Edits.{root_fault};
 ghost use Rattle.lay_run.specs.Gathered.ListedDocuments.{listed_document};
-ghost use Rattle.lay_run.specs.Gathered.Standing.{StandsIn};
+ghost use Rattle.lay_run.specs.Gathered.Standing.{IsListingOf};
 ghost use Rattle.lay_run.specs.declared.gathered.listing.Listed.{Listed};
 
 use crate::gathered::listing::{Listed, Listing};
@@ -15,7 +15,7 @@ use std::mem;
 
 /// The document of listed nodes. Each is put behind all before it in document order.
 pub fn in_order(alloc: Global, width: u32, height: u32, listing: Listing) -> Result<Doc, NoMemory>
-    requires { StandsIn (listed_document width height listing.items.items) listing.items.items listing.nexts.items }
+    requires { IsListingOf (listed_document width height listing.items.items) listing.items.items listing.nexts.items }
     ensures { IfOk result (λ d. d ≡ listed_document width height listing.items.items) }
 {
     let nexts = listing.nexts;

@@ -11,7 +11,7 @@ use Rattle.lay_positioned.specs.Levels.{one_if}
 use Rattle.lay_shape.specs.declared.context_phase.ContextPhase.{ContextPhase}
 use Rattle.lay_shape.specs.Dependencies.{in_phase, inner_flows, is_inner_flow, needs_in, on_way, outer_needs, way_needs}
 use Rattle.lay_shape.specs.Levels.{level_in, level_of}
-use Rattle.lay_shape.specs.Ways.{beyond, is_absolute, is_fixed, way_from, way_of}
+use Rattle.lay_shape.specs.Ways.{outside_unless_held, is_absolute, is_fixed, way_from, way_of}
 use Rattle.lay_shape.proofs.KeptShapesLemmas.SameLinks.{links-at, same-absolute, same-fixed, same-holder-for}
 
 module _ (contexts later : List Context) (made : List Bool) (are : AreRestyled contexts later made) where
@@ -32,8 +32,8 @@ module _ (contexts later : List Context) (made : List Bool) (are : AreRestyled c
   way-stays (suc turns) fixed zero k = refl
   way-stays (suc turns) fixed (suc i) k =
       let l = links-at contexts later made are (suc i) in
-      ap (λ (h : Option ℕ). suc i ∷ beyond h (way_from turns fixed later (after (suc i)).outer (after (suc i)).outer_box)) (same-holder-for (boxes_in later (suc i)) (boxes_in contexts (suc i)) l.boxes fixed k)
-      ∙ ap (λ (w : List ℕ). suc i ∷ beyond (holder_for fixed (before (suc i)).boxes k) w)
+      ap (λ (h : Option ℕ). suc i ∷ outside_unless_held h (way_from turns fixed later (after (suc i)).outer (after (suc i)).outer_box)) (same-holder-for (boxes_in later (suc i)) (boxes_in contexts (suc i)) l.boxes fixed k)
+      ∙ ap (λ (w : List ℕ). suc i ∷ outside_unless_held (holder_for fixed (before (suc i)).boxes k) w)
       (ap (λ (o : ℕ). way_from turns fixed later o (after (suc i)).outer_box) l.outer
       ∙ (ap (way_from turns fixed later (before (suc i)).outer) l.outer_box ∙ way-stays turns fixed (before (suc i)).outer (before (suc i)).outer_box))
 

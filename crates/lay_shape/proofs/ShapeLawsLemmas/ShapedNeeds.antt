@@ -21,7 +21,7 @@ use Rattle.lay_contexts.specs.Laws.{IsNotedAround}
 use Rattle.lay_contexts.specs.declared.spot.Spot.{Spot}
 use Rattle.lay_positioned.specs.Absolute.{is_absolute as is_absolute_among, is_absolute_flow, is_fixed as is_fixed_among, is_own_absolute, is_own_fixed}
 use Rattle.lay_shape.specs.Dependencies.{in_phase, inner_flows, is_inner_flow, needs_in, on_way, outer_needs, way_needs}
-use Rattle.lay_shape.specs.Ways.{IsOnWay, is_absolute, is_fixed, way_of}
+use Rattle.lay_shape.specs.Ways.{IsOnContextWay, is_absolute, is_fixed, way_of}
 use Rattle.lay_shape.proofs.Members.{in_filter, in_flat_map, in_here, in_left, in_map, in_right, in_there}
 use Rattle.lay_shape.proofs.WaySteps.{on_way_in}
 use Rattle.lay_shape.specs.ShapeLaws.NeedLaws.{IsShapedNeed, NeedsAreShaped}
@@ -190,7 +190,7 @@ module _ (contexts : List Context) (all : List FormattingContext) (are : AreCont
       let f = formatting_context_at all (number_of contexts (suc i) 0) in
       let w = way_contexts contexts all are of (is_fixed_among all (number_of contexts (suc i) 0)) m f.outer f.outer_box o k way.way.from t.context t.place
       (ap (λ (x : FormattingContext). x.outer) is) (ap (λ (x : FormattingContext). x.outer_box) is) in
-      let on : IsOnWay contexts (suc i) w.context = record { some = omega arith; absolute = absolute; from = rw (← context_fixed (suc i) lt) w.on } in
+      let on : IsOnContextWay contexts (suc i) w.context = record { some = omega arith; absolute = absolute; from = rw (← context_fixed (suc i) lt) w.on } in
       record {
         context = w.context;
         root = w.root;

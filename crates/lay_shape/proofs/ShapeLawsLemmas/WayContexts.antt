@@ -14,7 +14,7 @@ use Rattle.lay_contexts.specs.declared.spot.Spot.{Spot}
 use Rattle.lay_shape.proofs.Cited.{at_rank, boxes_around, home_root, home_there, is_home, not_own, parent_at, parent_low, place_other, place_root, rank_next, rank_some, root_home, same_home, spot_there, stands_there}
 use Rattle.lay_positioned.specs.Holders.{IsHolderFor, IsNearestHolder, further, is_holder, is_holder_at, none, parent}
 use Rattle.lay_positioned.specs.Ways.{IsOnWayFrom as IsOnWayAmong, here as here_among, further as further_among}
-use Rattle.lay_shape.specs.Ways.{IsOnWayFrom, here as on_here, further as on_further}
+use Rattle.lay_shape.specs.Ways.{IsOnContextWayFrom, here as on_here, further as on_further}
 
 pub holder_of : (boxes : List BoxNode) (k : ℕ) → is_holder_at boxes k ≡ is_holder (box_at boxes k)
 holder_of [] k = refl
@@ -93,7 +93,7 @@ module _ (contexts : List Context) (all : List FormattingContext) (are : AreCont
     pub inside : root < length (boxes_in contexts context)
     pub is_root : is_root (boxes_in contexts context) root ≡ true
     pub number : m ≡ number_of contexts context root
-    pub on : IsOnWayFrom fixed contexts context c k
+    pub on : IsOnContextWayFrom fixed contexts context c k
 
   -- there is no holder around the box at k, where there is none around its home, in the context c
   none_there : (c k : ℕ) → c < length contexts → k < length (boxes_in contexts c)
@@ -115,7 +115,7 @@ module _ (contexts : List Context) (all : List FormattingContext) (are : AreCont
     on = by w.context w.on;
   }
     where
-      by : (j : ℕ) → IsOnWayFrom fixed contexts j c (home c k) → IsOnWayFrom fixed contexts j c k
+      by : (j : ℕ) → IsOnContextWayFrom fixed contexts j c (home c k) → IsOnContextWayFrom fixed contexts j c k
       by j (on_here k-2) = on_here k
       by j (on_further c-2 k-2 some outer rest) = on_further c k some (none_there c k lt inside inner outer) rest
 

@@ -3,7 +3,7 @@
 use Rattle.std.specs.Prelude.{ℕ, ◌≡◌, ◌^◌, ◌<◌, Option, List, length}
 use Rattle.lay_table_grid.specs.declared.placed.PlacedCell.{PlacedCell}
 use Rattle.lay_table_grid.specs.TableParts.{TableParts}
-use Rattle.lay_table_grid.specs.PartBounds.{PartsFit}
+use Rattle.lay_table_grid.specs.PartBounds.{TablePartsFit}
 use Rattle.lay_table_grid.specs.MeetingBorders.{column_groups, row_groups}
 use Rattle.lay_table_grid.specs.Pass.Runs.{AreRunStartsTo}
 use Rattle.lay_table_grid.specs.Pass.Slots.{AreSlots}
@@ -23,11 +23,11 @@ pub record AreLinesOf (p : TableParts) (l : LinesOf) : Type 0 where
   pub column_groups : l.column_groups ≡ column_groups p
   pub column_group_starts : AreRunStartsTo l.column_groups (length l.column_groups) l.column_group_starts
 
-pub record AreKnown (p : TableParts) (l : LinesOf) : Type 0 where
-  pub fit : PartsFit p
+pub record AreKnownLines (p : TableParts) (l : LinesOf) : Type 0 where
+  pub fit : TablePartsFit p
   pub lines : AreLinesOf p l
 
 -- a cell's first row and column are numbers that a border knows
-pub record IsCounted (placed : PlacedCell) : Type 0 where
+pub record IsBorderCounted (placed : PlacedCell) : Type 0 where
   pub row : placed.cell.area.row < 2 ^ 32
   pub column : placed.cell.left < 2 ^ 32

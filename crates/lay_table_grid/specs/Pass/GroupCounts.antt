@@ -10,6 +10,6 @@ pub record GroupCountsTo (boxes : List BoxNode) (k : ℕ) (counts : List ℕ) (n
   pub next_is : next ≡ groups_before boxes k
   pub few : next ≤ k
 
-pub record AreGroupCounts (boxes : List BoxNode) (counts : List ℕ) : Type 0 where
+pub record CountsGroups (boxes : List BoxNode) (counts : List ℕ) : Type 0 where
   pub as_many : length counts ≡ length boxes
   pub each : (k : ℕ) → k < length boxes → slice_index counts k ≡ groups_before boxes k

@@ -1,4 +1,4 @@
-use Rattle.lay_cli.specs.Answers.{IsInput}
+use Rattle.lay_cli.specs.Answers.{IsRunOrRefusal}
 use Rattle.lay_cli.proofs.Answering.{drained_out, over_out, too_many}
 use Rattle.lay_cli.proofs.Streams.{all_gives}
 use Rattle.lay_cli.proofs.run_input.run_input.Goals as goal
@@ -12,7 +12,7 @@ returns-in_ok-fault_line-in-Err-TooLong-clause-input g c =
 pub returns-in_ok-input_in-in-Ok-clause-input : goal.returns-in_ok-input_in-in-Ok-clause-input
 returns-in_ok-input_in-in-Ok-clause-input g c =
     let is = rw c.deref.ensures.value at (c.in_ok-input_in-in-Ok.ensures {u = tt}) in
-    all_gives (g.S.Source.left c.args.source.now) c.in-Ok.bytes.items (λ bytes. IsInput bytes c.in_ok-input_in-in-Ok.field-0) (c.in-Ok.ensures {u = tt}).all is
+    all_gives (g.S.Source.left c.args.source.now) c.in-Ok.bytes.items (λ bytes. IsRunOrRefusal bytes c.in_ok-input_in-in-Ok.field-0) (c.in-Ok.ensures {u = tt}).all is
 
 pub returns-in_ok-fault_line-in-Err-TooLong-clause-read_out :
     goal.returns-in_ok-fault_line-in-Err-TooLong-clause-read_out

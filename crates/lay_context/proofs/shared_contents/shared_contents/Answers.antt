@@ -1,7 +1,7 @@
 use Rattle.std.proofs.Common.{rules}
 use Rattle.lay_flow_boxes.specs.AskedContents.{AreAskedContents}
 use Rattle.lay_contexts.specs.FormattingContexts.{boxes_in}
-use Rattle.lay_context.specs.SharedContents.{AreShared, asked_in}
+use Rattle.lay_context.specs.SharedContents.{AreContentsShared, asked_in}
 use Rattle.lay_context.proofs.SharedSteps.{have_shared, one_more}
 use Rattle.lay_context.proofs.shared_contents.shared_contents.Goals as goal
 
@@ -16,5 +16,5 @@ loop-i-preserved c =
 
 pub returns-clause-have : goal.returns-clause-have
 returns-clause-have c =
-    let shared : AreShared c.args.medium.now.face c.args.contexts.now c.loop-i.contents.items = search rules in
+    let shared : AreContentsShared c.args.medium.now.face c.args.contexts.now c.loop-i.contents.items = search rules in
     have_shared c.args.medium.now.face c.args.contexts.now c.loop-i.contents.items shared

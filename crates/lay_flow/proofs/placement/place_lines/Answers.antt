@@ -1,7 +1,7 @@
 use Rattle.std.proofs.Common.{slice_index_or, ◌≡◌, ◌+◌, ◌+ℤ◌, ◌-ℤ◌, ℤ, List, arith, refl, ap, sym, ◌∙◌, subst}
 use Rattle.lay_units.specs.Units.{IsPosition}
 use Rattle.lay_units.specs.declared.length.Unit.{Unit as Length}
-use Rattle.lay_lines.specs.Lines.{lines_of}
+use Rattle.lay_lines.specs.Lines.{lines_with_floats}
 use Rattle.lay_flow.specs.Blocks.BlockFloats.{Spot}
 use Rattle.lay_flow.specs.Blocks.Lengths.{length_at}
 use Rattle.lay_flow.specs.Blocks.MarginRuns.{block_at}
@@ -39,7 +39,7 @@ invariant_of-end c =
     let b = box_read c.args.of.now.at.boxes.list.now c.args.of.now.at.k c.index-of-of.result c.args.of.now.at.within in
     record {
       near = end_near c.args.of.now.at.boxes.list.now c.args.of.now.at.boxes.are c.args.of.now.marks.now c.args.of.now.at.k c.args.of.now.at.within (c.args.of.now.near c.args.of.now.at.k) c.sum_of.result.0 top
-          c.requires.lines c.args.placing.now.floats c.requires.known.to.within read b (lines_of c.in_ok-lines.lines c.lay_lines.new.floats) c.in_ok-lines.ensures.near;
+          c.requires.lines c.args.placing.now.floats c.requires.known.to.within read b (lines_with_floats c.in_ok-lines.lines c.lay_lines.new.floats) c.in_ok-lines.ensures.near;
     }
 
 pub returns-clause-placed : goal.returns-clause-placed
@@ -52,7 +52,7 @@ returns-clause-placed c places are known =
     let top = ap (λ (v : Length). v.0) c.sum_of.ensures ∙ (λ i. c.length_at.ensures i +ℤ (c.block.ensures.value i).edge_top.0) in
     let read = slice_index_or boxes k c.index-of-of.result in
     let b = box_read boxes k c.index-of-of.result within in
-    let v = lines_of c.in_ok-lines.lines c.lay_lines.new.floats in
+    let v = lines_with_floats c.in_ok-lines.lines c.lay_lines.new.floats in
     let near = laid_near boxes c.args.of.now.at.boxes.are c.args.of.now.marks.now k within (c.args.of.now.near k) c.sum_of.result.0 top c.requires.lines old.floats was.within read b v c.in_ok-lines.ensures.near in
     let laid = laid_lines boxes c.args.of.now.at.boxes.are c.args.of.now.marks.now k within (c.args.of.now.near k) c.sum_of.result.0 top c.requires.lines old.floats was.within read b v c.in_ok-lines.ensures.near c.in_ok-lines.ensures.lines in
     let here : Spot = record { place = c.nowhere.result; lines = v } in

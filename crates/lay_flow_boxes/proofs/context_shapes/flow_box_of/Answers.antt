@@ -1,6 +1,6 @@
 use Rattle.std.proofs.Common.{◌≡◌, ◌∙◌, sym, arith}
 use Rattle.lay_line_measures.specs.BoxMeasuresValue.{BoxMeasuresValue}
-use Rattle.lay_flow_boxes.specs.ContextBlocks.{flow_box_of, is_in_lines}
+use Rattle.lay_flow_boxes.specs.ContextBlocks.{flow_box_of, is_inside_lines}
 use Rattle.lay_flow_boxes.specs.FlowShapes.{measures_in}
 use Rattle.lay_flow_boxes.proofs.FlowFacts.{box_is, first_out, in_lines_is, kind_inside, kind_outside, kind_with}
 use Rattle.lay_flow_boxes.proofs.context_shapes.flow_box_of.Goals as goal
@@ -11,7 +11,7 @@ returns c =
     let m : BoxMeasuresValue = measures_in c.args.of.now.input.now c.args.of.now.parts.now in
     let found = c.in_ok-content.ensures {u = tt} in
     let parent = c.container-parent.ensures.container in
-    let in_lines : c.if-k-gt0.in_lines ≡ is_in_lines m c.args.of.now.lefts.now c.args.k = elim c.if-k-gt0.branch [
+    let in_lines : c.if-k-gt0.in_lines ≡ is_inside_lines m c.args.of.now.lefts.now c.args.k = elim c.if-k-gt0.branch [
       | then-k-gt0 w ↦ (let before = c.container-parent.ensures.before w.if-k-gt0.true in
           w.in_lines-is ∙ w.holds_lines-in_lines.ensures ∙ in_lines_is m c.args.of.now.input.now.own_height c.args.of.now.lefts.now c.args.k c.container-parent.result _ w.if-k-gt0.true parent (c.requires.before c.container-parent.result before))
       | else-k-gt0 w ↦ w.in_lines-is ∙ first_out m c.args.of.now.lefts.now c.args.k (omega (arith, w.if-k-gt0.false))

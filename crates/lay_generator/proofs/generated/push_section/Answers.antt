@@ -2,7 +2,7 @@ use Rattle.std.proofs.Common.{◌≡◌, ◌∙◌, ◌+◌, ◌*◌, ◌++◌, 
 use Rattle.std.proofs.lemmas.Result.{IfOk-weaker}
 use Rattle.lay_doc.specs.declared.node.NodeId.{NodeId}
 use Rattle.lay_doc.specs.NewNodes.{NewNodeValue}
-use Rattle.lay_generator.specs.Nodes.{container, float_box, id, more_count, section_nodes, text}
+use Rattle.lay_generator.specs.Nodes.{container, float_node, id, more_count, section_nodes, text}
 use Rattle.lay_generator.specs.Draws.{state_after, next}
 use Rattle.lay_generator.specs.Generated.{with_node, with_nodes}
 use Rattle.lay_generator.proofs.Faultless.{fits_as_well, second_fits, third_fits, fourth_fits, section_put}
@@ -15,19 +15,19 @@ put-requires c = fits_as_well c.args.doc.now c.args.doc.now 1 c.in_ok-context.co
 
 pub put-requires-2 : goal.put-requires-2
 put-requires-2 c =
-    let is-float = c.in_ok-float.ensures.node ∙ ap (float_box c.args.section) c.in_ok-context.ensures.state in
+    let is-float = c.in_ok-float.ensures.node ∙ ap (float_node c.args.section) c.in_ok-context.ensures.state in
     second_fits c.args.section c.args.draws.now c.args.doc.now c.put.new.doc c.in_ok-context.context c.in_ok-float.float c.requires.fit c.in_ok-context.ensures.node is-float
     c.in_ok-put.ensures.doc
 
 pub put-requires-3 : goal.put-requires-3
 put-requires-3 c =
-    let is-float = c.in_ok-float.ensures.node ∙ ap (float_box c.args.section) c.in_ok-context.ensures.state in
+    let is-float = c.in_ok-float.ensures.node ∙ ap (float_node c.args.section) c.in_ok-context.ensures.state in
     third_fits c.args.section c.args.draws.now c.args.doc.now c.put.new.doc c.put-2.new.doc c.in_ok-context.context c.in_ok-float.float c.in_ok-block.field-0 c.requires.fit
     c.in_ok-context.ensures.node is-float c.in_ok-block.ensures c.in_ok-put.ensures.doc c.in_ok-put-2.ensures.doc
 
 pub put-requires-4 : goal.put-requires-4
 put-requires-4 c =
-    let is-float = c.in_ok-float.ensures.node ∙ ap (float_box c.args.section) c.in_ok-context.ensures.state in
+    let is-float = c.in_ok-float.ensures.node ∙ ap (float_node c.args.section) c.in_ok-context.ensures.state in
     let four : c.float_box.new.draws ≡ state_after 4 c.args.draws.now = c.in_ok-float.ensures.state ∙ ap (state_after 3) c.in_ok-context.ensures.state in
     let is-text = c.in_ok-text.ensures.node ∙ ap (text c.args.section) four in
     fourth_fits c.args.section c.args.draws.now c.args.doc.now c.put.new.doc c.put-2.new.doc c.put-3.new.doc c.in_ok-context.context c.in_ok-float.float c.in_ok-block.field-0 c.in_ok-text.text
@@ -35,7 +35,7 @@ put-requires-4 c =
 
 pub returns-clause-doc : goal.returns-clause-doc
 returns-clause-doc c =
-    let is-float = c.in_ok-float.ensures.node ∙ ap (float_box c.args.section) c.in_ok-context.ensures.state in
+    let is-float = c.in_ok-float.ensures.node ∙ ap (float_node c.args.section) c.in_ok-context.ensures.state in
     let four : c.float_box.new.draws ≡ state_after 4 c.args.draws.now = c.in_ok-float.ensures.state ∙ ap (state_after 3) c.in_ok-context.ensures.state in
     let is-text = c.in_ok-text.ensures.node ∙ ap (text c.args.section) four in
     IfOk-weaker c.put-4.result (λ x. c.put-4.new.doc ≡ with_node c.put-3.new.doc (id (4 + 4 * c.args.section), c.in_ok-text.text))

@@ -11,7 +11,7 @@ use Rattle.lay_grid.specs.Automatic.AutoColumns.{sum_min, sum_room, beyond_minim
 use Rattle.lay_grid.specs.Automatic.AutoColumns.{left_over_at, most_left_over_at}
 
 -- a column is as wide as one more cell that it has alone
-pub record IsRaised (cell : GroupSpan) (before after : List Unit) : Type 0 where
+pub record IsWidthRaised (cell : GroupSpan) (before after : List Unit) : Type 0 where
   pub as_many : length after ≡ length before
   pub each : (i : ℕ) → i < length before → width_at after i
       ≡ cond (has_alone cell i) (int_max cell.width.0 (width_at before i)) (width_at before i)

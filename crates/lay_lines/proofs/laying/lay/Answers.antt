@@ -5,7 +5,7 @@ use Rattle.lay_lines.specs.declared.content.content.Stretch.{Stretch}
 use Rattle.lay_lines.specs.declared.content.frame.Frame.{Frame}
 use Rattle.lay_lines.specs.Content.LineContents.{boxes_of}
 use Rattle.lay_lines.proofs.ContentLemmas.Outcomes.{at_err, not_both}
-use Rattle.lay_lines.specs.Lines.{AreLines, lines_of, frame_of}
+use Rattle.lay_lines.specs.Lines.{AreLines, lines_with_floats, frame_of}
 use Rattle.lay_lines.specs.Meeting.{none_met, IsFront}
 use Rattle.lay_lines.specs.Rows.{AreRows, CanLay, position_of}
 use Rattle.lay_lines.proofs.LinesWithin.{can_lay_lines}
@@ -44,6 +44,6 @@ returns-clause-near c r least most top all =
     let w = c.in_ok-rows.ensures.rows in
     let are = subst (λ (ss : List Stretch). AreRows (position_of (frame_of content c.args.left c.args.right) c.args.top.0 [] ss none) w.0) c.stretches.ensures.value
     (subst (λ (fr : Frame). AreRows (position_of fr c.args.top.0 [] c.stretches.result.now none) w.0) c.frame_of.ensures w.1) in
-    let lines : AreLines content c.args.left c.args.right c.args.top.0 c.args.floats.now (lines_of (record { rows = c.new.result; places = c.new-2.result; end = c.in_ok-rows.rows.end }) c.lay_rows.new.floats) =
+    let lines : AreLines content c.args.left c.args.right c.args.top.0 c.args.floats.now (lines_with_floats (record { rows = c.new.result; places = c.new-2.result; end = c.in_ok-rows.rows.end }) c.lay_rows.new.floats) =
     record { laid = w.0; are = are; rows = w.2 ∙ sym c.new.ensures; end = w.3; places = w.4 ∙ sym c.new-2.ensures; floats = w.5 } in
     c.lines_are_near.ensures content c.args.left c.args.right c.args.top.0 c.args.floats.now _ r c.stretches.ensures.fits c.requires.left c.requires.right least most top all lines

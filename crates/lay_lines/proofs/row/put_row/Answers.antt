@@ -1,7 +1,7 @@
 use Rattle.std.proofs.Common.{◌≡◌, ℤ, [], refl, sym, subst}
 use Rattle.lay_lines.proofs.ContentLemmas.Outcomes.{at_err}
 use Rattle.lay_lines.specs.Meeting.{State, state_of, CanMeetAll, Meets}
-use Rattle.lay_lines.specs.Rows.{emptied, row_of, position_of}
+use Rattle.lay_lines.specs.Rows.{emptied, line_row, position_of}
 use Rattle.lay_lines.proofs.Chains.{front_trans}
 use Rattle.lay_lines.proofs.Steps.{same_states, takes_some, top_fits, heads_from, heads_to, can_heads}
 use Rattle.lay_lines.proofs.LineLists.{one_filled, row_front}
@@ -17,7 +17,7 @@ invariant_of-under-clause-top_fits c =
     let y = c.in_ok-ended.ended.to.0 in
     let filled = state_of c.fill_row.new.floats c.fill_row.new.met in
     let w = c.in_ok-ended.ensures.filled in
-    let ours = row_of c.in_ok-ended.ended w.0 filled st in
+    let ours = line_row c.in_ok-ended.ended w.0 filled st in
     c.requires.can.to ours (w.1 st)
 
 pub meet_all-requires-clause-floats : goal.meet_all-requires-clause-floats
@@ -30,7 +30,7 @@ meet_all-requires-clause-floats c =
     let y = c.in_ok-ended.ended.to.0 in
     let filled = state_of c.fill_row.new.floats c.fill_row.new.met in
     let w = c.in_ok-ended.ensures.filled in
-    let ours = row_of c.in_ok-ended.ended w.0 filled st in
+    let ours = line_row c.in_ok-ended.ended w.0 filled st in
     let none : [] ≡ c.replace-waiting.new.dest.items = cc in
     let list : c.as_slice.result.now ≡ filled.put_off = cc in
     let same = same_states filled.floats c.fill_row.new.floats filled.places c.fill_row.new.met.places.items [] c.replace-waiting.new.dest.items refl refl none in
@@ -47,7 +47,7 @@ returns-clause-row c =
     let y = c.in_ok-ended.ended.to.0 in
     let filled = state_of c.fill_row.new.floats c.fill_row.new.met in
     let w = c.in_ok-ended.ensures.filled in
-    let ours = row_of c.in_ok-ended.ended w.0 filled st in
+    let ours = line_row c.in_ok-ended.ended w.0 filled st in
     let none : [] ≡ c.replace-waiting.new.dest.items = cc in
     let list : c.as_slice.result.now ≡ filled.put_off = cc in
     let same = same_states filled.floats c.fill_row.new.floats filled.places c.fill_row.new.met.places.items [] c.replace-waiting.new.dest.items refl refl none in
@@ -84,7 +84,7 @@ returns-in_err-meet_all-clause-stopped c =
     let y = c.in_ok-ended.ended.to.0 in
     let filled = state_of c.fill_row.new.floats c.fill_row.new.met in
     let w = c.in_ok-ended.ensures.filled in
-    let ours = row_of c.in_ok-ended.ended w.0 filled st in
+    let ours = line_row c.in_ok-ended.ended w.0 filled st in
     let none : [] ≡ c.replace-waiting.new.dest.items = cc in
     let list : c.as_slice.result.now ≡ filled.put_off = cc in
     let same = same_states filled.floats c.fill_row.new.floats filled.places c.fill_row.new.met.places.items [] c.replace-waiting.new.dest.items refl refl none in

@@ -2,7 +2,7 @@ use Rattle.std.proofs.Common.{◌∙◌, ◌++◌, ◌∷◌, ◌+◌, ◌<◌, 
 use Rattle.lay_units.specs.declared.length.Unit.{Unit}
 use Rattle.lay_lines.proofs.ContentLemmas.Outcomes.{at_err}
 use Rattle.lay_lines.specs.Meeting.{none_met, state_of}
-use Rattle.lay_lines.specs.Rows.{Row, Laid, RowsTo, position_of, row_of}
+use Rattle.lay_lines.specs.Rows.{Row, Laid, RowsTo, position_of, line_row}
 use Rattle.lay_lines.proofs.Chains.{all_front}
 use Rattle.lay_lines.proofs.NoBoxes.{opens_none}
 use Rattle.lay_lines.proofs.LineLists.{rows_stopped, row_more, laid_at, same_laid, one_row, listed_more}
@@ -18,7 +18,7 @@ loop-alloc-preserved c =
     let p = position_of here.frame here.top.0 c.loop-alloc.boxes.items c.loop-alloc.rest.stretches.now now in
     let w = c.in_ok-ended.ensures.row in
     let after = state_of c.put_row.new.floats c.put_row.new.met in
-    let r = row_of c.in_ok-ended.ended w.0 w.1 after in
+    let r = line_row c.in_ok-ended.ended w.0 w.1 after in
     let rows = so_far.1 ++ r ∷ [] in
     let more = row_more so_far.0 first so_far.1 p r so_far.2 w.2 in
     let line = c.behind-rest.result in
@@ -55,7 +55,7 @@ returns-in_err-push-clause-stopped c =
     let p = position_of here.frame here.top.0 c.loop-alloc.boxes.items c.loop-alloc.rest.stretches.now now in
     let w = c.in_ok-ended.ensures.row in
     let after = state_of c.put_row.new.floats c.put_row.new.met in
-    let r = row_of c.in_ok-ended.ended w.0 w.1 after in
+    let r = line_row c.in_ok-ended.ended w.0 w.1 after in
     let some : 0 < length c.loop-alloc.rest.stretches.now = search rules in
     at_err c.from_residual-in_err-push.result _ (λ laid all. rows_stopped (record { place = c.one_float_place.ensures; room = c.one_room.ensures }) start (laid_at so_far.1 here.frame here.top.0 c.loop-alloc.boxes.items c.loop-alloc.rest.stretches.now now) laid so_far.0 c.put_row.new.floats
     so_far.2 some (λ q is. all_front _ _ (ap (λ (x : Row). x.after.floats) (one_row (record { place = c.one_float_place.ensures; room = c.one_room.ensures }) p r q w.2 is))) all)

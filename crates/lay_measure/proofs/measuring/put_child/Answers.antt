@@ -6,7 +6,7 @@ use Rattle.lay_box_tree.specs.declared.box_tree.BoxNode.{BoxNode}
 use Rattle.lay_measure.specs.Children.{child_as}
 use Rattle.lay_measure.specs.declared.preferred_widths.PreferredWidths.{PreferredWidths}
 use Rattle.lay_measure.specs.ChildTotals.{totals_of}
-use Rattle.lay_measure.specs.PreferredWidths.{as_child, children}
+use Rattle.lay_measure.specs.PreferredWidths.{as_measured_child, children}
 use Rattle.lay_measure.proofs.ChildrenBefore.{known_further, one_value, parent_at}
 use Rattle.lay_measure.proofs.measuring.put_child.Goals as goal
 
@@ -29,5 +29,5 @@ returns-clause-known c =
     let widths = c.in_ok-widths.ensures cs inside in
     let value = c.in_ok-with_child.ensures ds behind in
     let role = ap (λ (r : Role). totals_of (child_as r c.in_ok-widths.widths ++ ds)) c.role.ensures in
-    let whole = value ∙ role ∙ ap (λ (w : PreferredWidths). totals_of (child_as (role_of b) w ++ ds)) widths ∙ ap (λ (x : BoxNode). totals_of (as_child m k x cs ++ ds)) is in
+    let whole = value ∙ role ∙ ap (λ (w : PreferredWidths). totals_of (child_as (role_of b) w ++ ds)) widths ∙ ap (λ (x : BoxNode). totals_of (as_measured_child m k x cs ++ ds)) is in
     known_further m k b parent old c.put_totals.new.totals c.in_ok-with_child.with_child c.requires.inside at c.put_totals.ensures.here c.put_totals.ensures.others c.requires.known whole

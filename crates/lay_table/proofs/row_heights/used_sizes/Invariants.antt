@@ -1,6 +1,6 @@
 use Rattle.std.proofs.Common.{◌≡◌, map, take}
-use Rattle.lay_table.specs.TableRows.{used_size}
+use Rattle.lay_table.specs.TableRows.{height_as_size}
 use Rattle.lay_table.proofs.row_heights.used_sizes.Given as goal
 
 abbrev pub invariant-loop-height : goal.invariant-loop-height
-invariant-loop-height l = l.used.items ≡ map used_size (take l.height-index l.heights)
+invariant-loop-height l = l.used.items ≡ map height_as_size (take l.height-index l.heights)

@@ -2,7 +2,7 @@ use Rattle.std.proofs.Common.{◌≡◌, ◌∙◌, List, ℕ, ap, arith, length
 use Rattle.lay_style.specs.declared.style.Style.{Style}
 use Rattle.lay_after_edits.proofs.Cited.{length-parents}
 use Rattle.lay_contexts.specs.ListedContexts.{AreContextPlaces}
-use Rattle.lay_after_edits.specs.Contexts.Reach.{AreAlike, AreReachFlags, IsReach}
+use Rattle.lay_after_edits.specs.Contexts.Reach.{AreAlike, AreReachFlags, IsEditReach}
 use Rattle.lay_after_edits.specs.Contexts.Rebuilt.{AreRebuilt}
 use Rattle.lay_after_edits.proofs.ContextsLemmas.BuiltSteps.{from-within, rebuilt-of, until-within}
 use Rattle.lay_after_edits.proofs.ContextsLemmas.ElementPlaces.{context-places}
@@ -56,8 +56,8 @@ built-requires-clause-rebuilt c =
     let ts = c.args.of.now.styles.now in
     let r = c.reach_of-reach.result in
     let placed : c.deref.result.now ≡ c.in_ok-places.places.items = c.deref.ensures.value in
-    let reach : IsReach d.nodes ss c.in_ok-places.places.items c.args.node.0 r =
-    subst (λ (places : List ℕ). IsReach d.nodes ss places c.args.node.0 r) placed c.reach_of-reach.ensures in
+    let reach : IsEditReach d.nodes ss c.in_ok-places.places.items c.args.node.0 r =
+    subst (λ (places : List ℕ). IsEditReach d.nodes ss places c.args.node.0 r) placed c.reach_of-reach.ensures in
     let alike : AreAlike ss ts r.from r.until =
     subst (λ (xs : List Style). AreAlike xs ts r.from r.until) c.as_slice.ensures
     (subst (λ (ys : List Style). AreAlike c.as_slice.result.now ys r.from r.until) c.as_slice-2.ensures (c.are_alike.ensures c.if-not-are_alike.false)) in

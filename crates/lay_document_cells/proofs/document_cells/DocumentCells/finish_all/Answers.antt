@@ -1,6 +1,6 @@
 use Rattle.std.proofs.Common.{◌≡◌, ◌++◌, ◌∷◌, [], ap, append_assoc, arith, length, refl, subst, sym, ◌∙◌}
 use Rattle.std.specs.Vec.Iter.{into_iter_items}
-use Rattle.lay_document_cells.specs.Outcomes.{FinishesAll, HandsIn, finished, released}
+use Rattle.lay_document_cells.specs.Outcomes.{CellsFinishAll, HandsIn, finished, released}
 use Rattle.lay_document_cells.proofs.Batching.{all_yielded, back_draws, finish_draws, handed_more, handed_none}
 use Rattle.lay_document_cells.proofs.document_cells.DocumentCells.finish_all.Goals as goal
 
@@ -44,7 +44,7 @@ returns c =
     let all = all_yielded c.loop-outcome.yielded (into_iter_items c.loop-outcome.outcome-iterator) _ was.0 (sym was.1 ∙ c.in-None.ensures.steps.0)
     ∙ c.into_iter-outcome-iterator.ensures.into_iter_gives.0 ∙ c.into_vec-outcome-items.ensures.outcomes in
     record {
-      answers = subst (λ os. FinishesAll c.args.self.now os c.loop-outcome.tally c.loop-outcome.self) all was.2.finishes;
+      answers = subst (λ os. CellsFinishAll c.args.self.now os c.loop-outcome.tally c.loop-outcome.self) all was.2.finishes;
       all = was.2.sum ∙ ap length all;
       draws = was.2.draws;
     }

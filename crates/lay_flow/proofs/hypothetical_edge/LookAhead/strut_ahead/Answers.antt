@@ -1,5 +1,5 @@
 use Rattle.std.proofs.Common.{◌≡◌, ◌<◌, ℕ, arith, length, refl, subst, sym}
-use Rattle.lay_flow.specs.Pass.LookAhead.{IsReading, HasRead, reading}
+use Rattle.lay_flow.specs.Pass.LookAhead.{IsReading, HasLookedAhead, reading}
 use Rattle.lay_flow.proofs.BlocksLemmas.Truths.{true_or}
 use Rattle.lay_flow.proofs.LookAheadSteps.{begins_reading, ends_before_root}
 use Rattle.lay_flow.proofs.BlocksLemmas.MarginWalk.{place_before}
@@ -24,6 +24,6 @@ close_to-requires c =
     subst (λ (n : ℕ). IsReading c.args.self.now.boxes.list.now c.args.self.now.from (reading c.loop-m.ahead.used.strut c.loop-m.ahead.innermost n)) e was
 
 pub returns : goal.returns
-returns c = true_or c.close_to.result.ended (HasRead c.args.self.now.boxes.list.now c.args.self.now.from c.close_to.result.used.strut)
+returns c = true_or c.close_to.result.ended (HasLookedAhead c.args.self.now.boxes.list.now c.args.self.now.from c.close_to.result.used.strut)
     c.close_to.ensures.ended
     (λ f. absurd (ends_before_root c.args.self.now.boxes.list.now c.args.self.now.from c.args.self.now.begins c.close_to.result.used.strut (c.close_to.ensures.last f (omega arith))))

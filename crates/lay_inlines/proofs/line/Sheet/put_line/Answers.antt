@@ -7,7 +7,7 @@ use Rattle.lay_lines.specs.Content.Pens.{over_all}
 use Rattle.lay_inlines.specs.Bounds.{PenWithin, StrokeWithin}
 use Rattle.lay_inlines.specs.LinePieces.{baseline_of, blank_of, content_end, line_spans, origin_of, piece_of}
 use Rattle.lay_inlines.specs.Looks.{LookAs}
-use Rattle.lay_inlines.specs.Spans.{open_spans, right_edges, spans_of}
+use Rattle.lay_inlines.specs.Spans.{open_spans, ended_right_edges, spans_of}
 use Rattle.lay_inlines.specs.declared.line_piece.LinePiece.{LinePiece}
 use Rattle.lay_inlines.specs.declared.strokes.Stroke.{Stroke}
 use Rattle.lay_inlines.specs.Raises.{behind_strut, raises_of}
@@ -73,7 +73,7 @@ returns c =
     let e : c.clear.new.self ++ strokes fr c.blank-blank.result c.in_ok-raises.raises xs ≡ exact = (λ i. c.clear.ensures i ++ strokes fr (c.blank-blank.ensures i) (raises i) xs) in
     let looks = subst (λ (ss : List Stroke). LookAs drawn ss) e c.in_ok-last.ensures.strokes in
     let last : c.in_ok-last.last ≡ over_all fr p xs = c.in_ok-last.ensures.pen ∙ ap (λ (q : Pen). over_all fr q xs) c.blank-blank.ensures in
-    let edges : right_edges areas drawn ≡ right_edges areas exact = same_edges drawn exact areas looks in
+    let edges : ended_right_edges areas drawn ≡ ended_right_edges areas exact = same_edges drawn exact areas looks in
     let shown : spans_of areas c.in_ok-last.last.solid.0 drawn ≡ spans_of areas (over_all fr p xs).solid.0 exact =
     (λ i. spans_of areas (last i).solid.0 drawn) ∙ same_spans drawn exact areas (over_all fr p xs).solid.0 looks in
     let strut : c.behind_strut.result.now ≡ behind_strut row.shifts = c.behind_strut.ensures ∙ ap behind_strut shifts in
