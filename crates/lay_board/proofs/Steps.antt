@@ -252,7 +252,7 @@ looks_it origin slots id p s k homes at _ =
     let mine = k.passes id p (v, at, refl) in
     let found : ℕ = slice_index s.words 0 in
     let is : found ≡ length k.log = ap (λ ws. slice_index ws 0) k.words in
-    let p' : PassView = record p { seen = found } in
+    let p' : PassView = record p { seen = found; looks = p.looks + 1 } in
     let w = pass_view p' in
     let pass_case : (j : ℕ) (q : PassView) → At pass_of (set s.views id w) j q → ((j ≡ id) × (p' ≡ q)) ⊎ ((j ≢ id) × At pass_of s.views j q) =
     λ j q t. ⊎_elim (λ u. inl (u.0, same_Some p' q u.1)) (λ u. inr u) (at_read pass_of s.views id j w q t) in
@@ -381,13 +381,13 @@ pub sum_cons : (n : ℕ) (ns : List ℕ) → sum (n ∷ ns) ≡ n + sum ns
 sum_cons n ns = ap (λ k. Rattle.std.proofs.Common.fold ◌+◌ k ns) (omega arith) ∙ sum_from n 0 ns
 
 -- a pass is made
-pub makes_it : (origin : Origin) (id : ℕ) (i : Origin) (made n : ℕ) (ns : List ℕ) → Splits (IsKept origin) id (maker_view i made (n ∷ ns)) (maker_view i (made + 1) ns) (pass_view record { origin = i; number = made + 1; left = n; known = []; own = []; seen = 0 })
+pub makes_it : (origin : Origin) (id : ℕ) (i : Origin) (made n : ℕ) (ns : List ℕ) → Splits (IsKept origin) id (maker_view i made (n ∷ ns)) (maker_view i (made + 1) ns) (pass_view record { origin = i; number = made + 1; left = n; known = []; own = []; seen = 0; looks = 0 })
 makes_it origin id i made n ns s k at =
     let m : MakerView = record { origin = i; made = made; calls = n ∷ ns } in
     let m' : MakerView = record { origin = i; made = made + 1; calls = ns } in
     let v = maker_view i made (n ∷ ns) in
     let v' = maker_view i (made + 1) ns in
-    let x : PassView = record { origin = i; number = made + 1; left = n; known = []; own = []; seen = 0 } in
+    let x : PassView = record { origin = i; number = made + 1; left = n; known = []; own = []; seen = 0; looks = 0 } in
     let vs = set s.views id v' in
     let my_maker : At maker_of s.views id m = (v, at, refl) in
     let mine = k.maker id m my_maker in
@@ -446,7 +446,7 @@ makes_it origin id i made n ns s k at =
     after : view_calls (maker_view i (made + 1) ns) ≡ sum ns + 0
     after = refl
 
-    given : view_calls (pass_view record { origin = i; number = made + 1; left = n; known = []; own = []; seen = 0 }) ≡ 0 + n
+    given : view_calls (pass_view record { origin = i; number = made + 1; left = n; known = []; own = []; seen = 0; looks = 0 }) ≡ 0 + n
     given = refl
 
 only : {A : Type 0} (read : View → Option A) (v : View) (j : ℕ) (a : A) → At read (v ∷ []) j a → (j ≡ 0) × (read v ≡ Some a)

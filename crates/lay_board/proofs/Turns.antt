@@ -36,6 +36,7 @@ called p me h c e is some met adds legal =
       last = (h.history ++ adds.before, adds.history ∙ ap (λ (l : List Entry). h.history ++ l) adds.last ∙ sym (append_assoc h.history adds.before (e ∷ [])));
       further = let a = longer h c p.number e adds in let b = met.seen in omega (arith, a, b);
       seen = refl;
+      looks = refl;
       own_is = refl;
       legal = subst (λ i. IsLegal i c.history) (origin_same p h c e met adds) legal;
     })

@@ -23,7 +23,7 @@ nowhere = origin_with
 
 -- the pass with this number, which knows nothing yet and may make so many calls
 abbrev pub new_pass : Origin → ℕ → ℕ → PassView
-new_pass origin number left = record { origin = origin; number = number; left = left; known = []; own = []; seen = 0 }
+new_pass origin number left = record { origin = origin; number = number; left = left; known = []; own = []; seen = 0; looks = 0 }
 
 abbrev pub of_option : Option PassView → PassView
 of_option None = new_pass nowhere 0 0
@@ -54,6 +54,7 @@ pub record Calls (old new : PassView) (entry : Entry) : Type 0 where
   pub last : (before : List Entry) × (new.known ≡ before ++ entry ∷ [])
   pub further : old.seen < length new.known
   pub seen : new.seen ≡ length new.known
+  pub looks : new.looks ≡ old.looks
   pub own_is : new.own ≡ by_editor new.number new.known
   pub legal : IsLegal new.origin.document new.known
 

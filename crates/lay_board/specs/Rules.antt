@@ -172,7 +172,7 @@ GivesIt s me found new = new ≡ (record (me.0) { hold = None }, [])
 
 abbrev pub looked : ℕ → Option PassView → Option PassView
 looked found None = None
-looked found (Some p) = Some (record p { seen = found })
+looked found (Some p) = Some (record p { seen = found; looks = p.looks + 1 })
 
 abbrev pub LooksIt : Step (Option State) → SeatView → ℕ → SeatView → Type 0
 LooksIt s me found new = IfSome me.0.pass (λ p. p.seen ≤ found) × (new ≡ (record (me.0) { pass = looked found me.0.pass }, me.1))
@@ -195,7 +195,7 @@ made_pass (Some m) = of_calls m.calls
   where
     of_calls : List ℕ → Option PassView
     of_calls [] = None
-    of_calls (n ∷ ns) = Some record { origin = m.origin; number = m.made + 1; left = n; known = []; own = []; seen = 0 }
+    of_calls (n ∷ ns) = Some record { origin = m.origin; number = m.made + 1; left = n; known = []; own = []; seen = 0; looks = 0 }
 
 abbrev pub maker_after : View → View
 maker_after v = record v { maker = after_make v.maker }

@@ -1,6 +1,6 @@
 //! The engine, and the calls of editors on it.
 
-ghost use Rattle.std.specs.Prelude.{◌≡◌, ◌<◌, ◌≤◌, length};
+ghost use Rattle.std.specs.Prelude.{◌≡◌, ◌+◌, ◌<◌, ◌≤◌, length};
 ghost use Rattle.lay_board.specs.Passes.{Calls};
 ghost use Rattle.lay_history.specs.declared.edits.history.Entry.TheVariants as entry;
 
@@ -97,7 +97,8 @@ impl Engine {
     pub fn front(&self, pass: &mut Pass) -> u64
         requires of { pass.old.table ≡ self.now.table }
         ensures seen { pass.old.knows.seen ≤ result }
-        ensures pass { pass.new ≡ record pass.old { knows = record pass.old.knows { seen = result } } }
+        ensures pass { pass.new
+            ≡ record pass.old { knows = record pass.old.knows { seen = result; looks = pass.old.knows.looks + 1 } } }
     {
         let found = self.table.shared.load::<Looks>(&mut pass.seat, 0);
         pass.seen = found;

@@ -13,7 +13,7 @@ pub struct Origin {
 }
 
 /// What a pass knows: the number of its editor, how many calls it may make, a beginning of the history, the entries of its editor in it,
-/// and a length that the history had.
+/// a length that the history had, and how often it loaded that length outside its calls.
 pub struct PassView {
     pub origin: Origin,
     pub number: u64,
@@ -21,6 +21,7 @@ pub struct PassView {
     pub known: LinkedList<Entry>,
     pub own: LinkedList<Entry>,
     pub seen: u64,
+    pub looks: u64,
 }
 
 /// What the maker of passes knows: how many were made, and the numbers of calls that those to be made are given.

@@ -13,6 +13,7 @@ use Rattle.lay_history.specs.Histories.{accepted}
 use Rattle.lay_history.specs.Calls.{AnswersScripts}
 use Rattle.lay_history.specs.Legal.{IsWhole}
 use Rattle.lay_history.specs.Trees.{tree_at}
+use Rattle.lay_core.specs.CoreLaws.ReachedCores.{IsReached}
 use Rattle.lay_core.specs.State.{IsCore, State}
 use Rattle.lay_report.specs.Report.{run_report, scratch_report}
 use Rattle.lay_run.specs.Runs.{Run}
@@ -64,11 +65,13 @@ pub record IsScratchReport (run : Run) (text : List ℕ) : Type 0 where
 
 -- A core that answered a run's editors. Its history is legal: each edit has the reply of the document at that point. Each
 -- published version has one tree, and that solves the document of the version (`core`). Each editor's commands are
--- answered once and in order. The last version is published.
+-- answered once and in order. The last version is published. Calls led to it from a new core of the run's document and face, so the laws on
+-- such cores hold of it: each cell was laid out at most once more than its input changed and claims of it came back (`GrantsArePaidByChanges`).
 pub record IsDriven (run : Run) (s : State) : Type 0 where
   pub init : s.init ≡ run.doc
   pub face : s.face ≡ run.face
   pub core : IsCore s
+  pub reached : IsReached run.doc run.face s
   pub scripts : AnswersScripts s.history run.scripts
   pub whole : IsWhole s.history
 

@@ -3,4 +3,7 @@
 
 mod laws;
 
-pub use laws::{published_trees_are_layouts, run_reports_are_legal, run_reports_are_yes};
+pub use laws::{
+    published_trees_are_layouts, reached_trees_are_layouts, run_reports_are_legal,
+    run_reports_are_yes,
+};

@@ -12,9 +12,11 @@ use Rattle.lay_document_cells.specs.Steps.{CellsFinishTo, CellsGiveBackTo}
 use Rattle.lay_cell_work.specs.ClaimLists.Outcomes.{Work}
 use Rattle.lay_core.specs.CellLaws.{BatchesAreUnseen, ClaimsAreUnseen, FinishesAreUnseen, GiveBacksAreUnseen, KeepsHistory, NextClaimsAreUnseen, OutcomesAreUnseen, SettlingIsUnseen, StoppingIsUnseen}
 use Rattle.lay_core.specs.Claims.{DrawsFew}
+use Rattle.lay_core.specs.CoreLaws.ReachedCores.{CallsTo, IsReached}
 use Rattle.lay_core.specs.State.{HasNumbers, IsKept, State, document_cells, with_cells}
 use Rattle.lay_core.specs.Work.{ChangesCells}
 use Rattle.lay_core.proofs.CellWork.{IsWork}
+use Rattle.lay_core.proofs.CoreLawsLemmas.LeadsOn.{leads_on}
 use Rattle.lay_core.proofs.Kept.{work_keeps}
 
 numbers_left : (s : State) (n room : ℕ) (d : DocumentCells) → IsKept s n room → HasNumbers s → CellsDrawFew (document_cells s) d → HasNumbers (with_cells s d)
@@ -24,9 +26,12 @@ numbers_left s n room d is has draws = elim draws [
 ]
 
 -- work on the cells that draws few numbers
-pub leaves : (s : State) (n room : ℕ) → IsKept s n room → HasNumbers s → (d : DocumentCells) → IsWork (document_cells s) d
-    → CellsDrawFew (document_cells s) d → IsOfDocument d → IsKept (with_cells s d) n room × HasNumbers (with_cells s d)
-leaves s n room is has d work draws sound = (work_keeps s d n room is work sound, numbers_left s n room d is has draws)
+pub leaves : (s : State) (n room : ℕ) → IsKept s n room → HasNumbers s → IsReached s.init s.face s → (d : DocumentCells) → IsWork (document_cells s) d
+    → CellsDrawFew (document_cells s) d → IsOfDocument d → CallsTo s (with_cells s d)
+    → IsKept (with_cells s d) n room × HasNumbers (with_cells s d) × IsReached s.init d.face (with_cells s d)
+leaves s n room is has reached d work draws sound call =
+    let kept = work_keeps s d n room is work sound in
+    (kept, numbers_left s n room d is has draws, leads_on s (with_cells s d) reached call kept.is_core)
 
 pub finish_draws : (s : DocumentCells) (d : Work) (a : Finished) (t : DocumentCells) → CellsFinishTo s d a t → t.cells.draws ≡ s.cells.draws
 finish_draws s d a t does = ap (λ x. x.cells.draws) does.state ∙ elim does.finishes [

@@ -8,5 +8,7 @@ pub mod WorkTurns
 pub mod CarriedTurns
 pub mod LaterHistories
 pub mod QuietCalls
+pub mod LeadsOn
+pub mod DocumentVersions
 pub mod ReachedTurns
 pub mod GrantedClaims

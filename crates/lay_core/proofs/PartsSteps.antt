@@ -8,6 +8,7 @@ use Rattle.lay_history.specs.Histories.{accepted, last_or, last_published}
 use Rattle.lay_history.specs.Trees.{PublishedTreeValue, versions_of}
 use Rattle.lay_document_cells.specs.Settling.{CellsSettleTo, CellsStopAt, none}
 use Rattle.lay_document_cells.specs.State.{IsOfDocument, State as DocumentCells}
+use Rattle.lay_core.specs.CoreLaws.ReachedCores.{CallsTo, publish, refresh, settle}
 use Rattle.lay_core.specs.Parts.{parts}
 use Rattle.lay_core.specs.Publishing.{IsBehind, Publishes, PublishesTo, RefreshesTo, is_version}
 use Rattle.lay_core.specs.State.{HasNumbers, IsKept, State, are_clean, document_cells, with_cells}
@@ -127,6 +128,28 @@ pub publishes_of : {X E : Type 0} (r : Result X E) (s now : State) (n room : ℕ
 publishes_of r s now n room same is clean h ts p ok other same_history same_trees published lack =
     subst (λ x. PublishesTo x p (parts s (document_cells s) h ts)) same
     (publishes_by r s n room is clean h ts p ok other same_history same_trees published lack)
+
+-- calls on a core that is seen by its parts
+pub settle_called : {X E : Type 0} (r : Result X E) (s : State) (d : DocumentCells) → OnOk r (CellsSettleTo (document_cells s) d)
+    → OnErr r (CellsStopAt (document_cells s) d) → CallsTo s (with_cells s d)
+settle_called (Ok x) s d ok err = settle _ (inl (changes CellsSettleTo s d (settle_work (document_cells s) d ok) ok))
+settle_called (Err e) s d ok err = settle _ (inr (changes CellsStopAt s d (stop_work (document_cells s) d err) err))
+
+pub refresh_called : {X E : Type 0} (r : Result X E) (s : State) (d : DocumentCells) (h : List Entry) (ts : List PublishedTreeValue)
+    → OnOk r ((z : State) → RefreshesTo (parts z (document_cells s) s.history s.trees) (parts z d h ts))
+    → OnErr r ((z : State) → MaySettle (parts z (document_cells s) s.history s.trees) (parts z d h ts)) → CallsTo s (parts s d h ts)
+refresh_called (Ok x) s d h ts ok err = refresh _ (ok s)
+refresh_called (Err e) s d h ts ok err = settle _ (err s)
+
+pub publish_called : {X E : Type 0} (r : Result X E) (s : State) (n room : ℕ) → IsKept s n room → AllClean s.cells.rows
+    → (h : List Entry) (ts : List PublishedTreeValue)
+    → OnOk r ((z : State) → Publishes (parts z (document_cells s) s.history s.trees) (parts z (document_cells s) h ts))
+    → OnErr r (last_or None (versions_of s.trees) ≢ Some n) → OnErr r (h ≡ s.history) → OnErr r (ts ≡ s.trees)
+    → CallsTo s (parts s (document_cells s) h ts)
+publish_called (Ok x) s n room is clean h ts ok other same_history same_trees =
+    publish (Published n) _ (publishes_by (Ok x) s n room is clean h ts (Published n) ok other same_history same_trees refl tt)
+publish_called (Err e) s n room is clean h ts ok other same_history same_trees =
+    publish NoMemory _ (publishes_by (Err e) s n room is clean h ts NoMemory ok other same_history same_trees tt refl)
 
 -- `Sync`
 abbrev pub ShowsParts : State → DocumentCells → List Entry → List PublishedTreeValue → Reply → Type 0

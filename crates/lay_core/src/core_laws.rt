@@ -8,8 +8,8 @@
 mod laws;
 
 pub use laws::{
-    granted_batches_are_one_by_one, granted_claims_have_one_work, grants_are_paid_by_changes,
-    grants_are_within, layouts_give_inputs, one_given_input, one_list_of_changes, origins_stay,
-    ready_cells_are_given, turns_are_changes, turns_are_few, turns_are_of_versions,
-    turns_are_within,
+    clean_cells_are_given, granted_batches_are_one_by_one, granted_claims_have_one_work,
+    grants_are_paid_by_changes, grants_are_within, layouts_give_inputs, one_given_input,
+    one_list_of_changes, origins_stay, ready_cells_are_given, turns_are_changes, turns_are_few,
+    turns_are_of_versions, turns_are_within, versions_are_documents,
 };

@@ -3,6 +3,7 @@
 ghost use Rattle.std.specs.Prelude.{◌≡◌, ◌≤◌, ◌^◌, IfOk, is_some, length, option_map};
 ghost use Rattle.lay_history.specs.Histories.{accepted as accepted_in, is_published};
 ghost use Rattle.lay_history.specs.Trees.{tree_at};
+ghost use Rattle.lay_core.specs.CoreLaws.ReachedCores.{IsReached};
 ghost use Rattle.lay_core.specs.State.{IsCore};
 ghost use Rattle.lay_core.specs.Steps.{IsNewCore};
 
@@ -32,6 +33,7 @@ pub struct Core {
 
 impl Model for Core {
     ghost use Rattle.std.specs.Prelude.{vec_capacity};
+    ghost use Rattle.lay_core.specs.CoreLaws.ReachedCores.{IsReached};
     ghost use Rattle.lay_core.specs.State.{HasNumbers, IsKept, State};
 
     ghost Value = { State };
@@ -58,7 +60,7 @@ impl Model for Core {
           calls_left = c.calls_left;
           laid = c.cells.laid;
         } in
-        IsKept s c.accepted (vec_capacity c.history) × HasNumbers s };
+        IsKept s c.accepted (vec_capacity c.history) × HasNumbers s × IsReached s.init s.face s };
 }
 
 impl Core {
@@ -101,10 +103,11 @@ impl Core {
         &self.trees
     }
 
-    /// The history.
+    /// The history. Whatever calls came, each call led on from a core that calls led to, so the laws of `core_laws` hold of this one.
     pub fn history(&self) -> &[Entry]
         ensures value { result.now ≡ self.now.history }
         ensures core { IsCore self.now }
+        ensures reached { IsReached self.now.init self.now.face self.now }
     {
         &self.history
     }

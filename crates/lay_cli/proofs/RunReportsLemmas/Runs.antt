@@ -2,13 +2,18 @@
 use Rattle.std.proofs.Common.{◌≡◌, ℕ, ◌==◌, suc, List, [], ◌∷◌, find, cond, Some, option_map, refl, sym, ap, ◌∙◌, subst, arith, inl, inr, eq-eqb, ne_eqb, All}
 use Rattle.std.proofs.lemmas.Bool.{cases_eq}
 use Rattle.std.proofs.lemmas.Option.{same_Some, none-some}
+use Rattle.lay_doc.specs.Document.{Document}
+use Rattle.lay_face.specs.FaceValue.{FaceValue}
 use Rattle.lay_frag.specs.Pieces.{Context}
 use Rattle.lay_history.specs.Histories.{doc_at}
 use Rattle.lay_history.specs.Trees.{PublishedTreeValue, tree_at}
 use Rattle.lay_context.specs.Laws.{OneSolution}
 use Rattle.lay_context.specs.Solves.{Solves}
+use Rattle.lay_core.specs.CoreLaws.Laws.{VersionsAreDocuments}
+use Rattle.lay_core.specs.CoreLaws.ReachedCores.{IsReached, called, new}
 use Rattle.lay_core.specs.Laws.{LastTree}
-use Rattle.lay_cli.specs.RunReports.Laws.{PublishedTreesAreLayouts, RunReportsAreLegal}
+use Rattle.lay_core.specs.State.{IsCore, State}
+use Rattle.lay_cli.specs.RunReports.Laws.{PublishedTreesAreLayouts, ReachedTreesAreLayouts, RunReportsAreLegal}
 
 pub run_reports_are_legal : LastTree → RunReportsAreLegal
 run_reports_are_legal tree_of s scripts has =
@@ -54,3 +59,11 @@ published_trees_are_layouts one s version tree scratch is at valid solves =
   where
     found : IsAmong (λ t. Solves (doc_at s.init s.history t.version) s.face t.tree) version tree
     found = among (λ t. Solves (doc_at s.init s.history t.version) s.face t.tree) version s.trees tree is.solved at
+
+core_of : (init : Document) (face : FaceValue) (s : State) → IsReached init face s → IsCore s
+core_of init face s (new calls _ is core) = core
+core_of init face s (called before _ reached call core) = core
+
+pub reached_trees_are_layouts : OneSolution → VersionsAreDocuments → ReachedTreesAreLayouts
+reached_trees_are_layouts one versions s version tree scratch reached at solves =
+    published_trees_are_layouts one s version tree scratch (core_of s.init s.face s reached) at (versions s.init s.face s version reached) solves

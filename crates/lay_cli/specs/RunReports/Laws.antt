@@ -13,6 +13,7 @@ use Rattle.lay_run.specs.Runs.{Run}
 use Rattle.lay_report.specs.Report.{run_report}
 use Rattle.lay_json.specs.Reading.{HoldsBoth}
 use Rattle.lay_json.specs.Styled.StyledReading.{IsStyledReading}
+use Rattle.lay_core.specs.CoreLaws.ReachedCores.{IsReached}
 use Rattle.lay_core.specs.State.{IsCore, State}
 use Rattle.lay_audit.specs.declared.verdict.Verdict.{Verdict}
 use Rattle.lay_audit.specs.declared.verdict.Verdict.TheVariants.{Yes}
@@ -46,3 +47,8 @@ RunReportsAreYes = (s : State) (run : Run) (bytes both : List ℕ) → IsOfRun s
 abbrev pub PublishedTreesAreLayouts : Type 0
 PublishedTreesAreLayouts = (s : State) (version : ℕ) (tree scratch : List Context) → IsCore s → tree_at version s.trees ≡ Some tree
     → IsDocument (doc_at s.init s.history version) → Solves (doc_at s.init s.history version) s.face scratch → tree ≡ scratch
+
+-- so it is of every version of a core that calls led to
+abbrev pub ReachedTreesAreLayouts : Type 0
+ReachedTreesAreLayouts = (s : State) (version : ℕ) (tree scratch : List Context) → IsReached s.init s.face s
+    → tree_at version s.trees ≡ Some tree → Solves (doc_at s.init s.history version) s.face scratch → tree ≡ scratch

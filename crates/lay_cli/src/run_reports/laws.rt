@@ -1,9 +1,10 @@
 //! The laws of reports of runs.
 
-ghost use Rattle.lay_cli.specs.RunReports.Laws.{PublishedTreesAreLayouts, RunReportsAreLegal, RunReportsAreYes};
+ghost use Rattle.lay_cli.specs.RunReports.Laws.{PublishedTreesAreLayouts, ReachedTreesAreLayouts, RunReportsAreLegal, RunReportsAreYes};
 
 use lay_audit::one_verdict;
 use lay_context::one_solution;
+use lay_core::core_laws::versions_are_documents;
 use lay_core::last_tree;
 use lay_json::styled::{one_styled_check, runs_are_styled_beside_reports};
 
@@ -29,4 +30,12 @@ pub fn published_trees_are_layouts()
     ensures { PublishedTreesAreLayouts }
 {
     one_solution();
+}
+
+/// So it is in every core that calls led to, which each core is.
+pub fn reached_trees_are_layouts()
+    ensures { ReachedTreesAreLayouts }
+{
+    one_solution();
+    versions_are_documents();
 }

@@ -41,7 +41,7 @@ both_stay s m t a b = record {
   history = rests_both s.init s.history m.history t.history a.history (subst (λ (d : Document). Rests d m.history t.history) a.init b.history);
 }
 
-change_stays : (Does : DocumentCells → DocumentCells → Type 0) (s t : State) → ChangesCells Does s t → Stays s t
+pub change_stays : (Does : DocumentCells → DocumentCells → Type 0) (s t : State) → ChangesCells Does s t → Stays s t
 change_stays Does s t does = record {
   init = ap (λ (x : State). x.init) does.state;
   face = ap (λ (x : State). x.face) does.state;
@@ -58,16 +58,16 @@ unless_stays false s t does = subst (λ (x : State). Stays s x) (sym does.state)
 publishes_stay : (s t : State) → Publishes s t → Stays s t
 publishes_stay s t does = unless_stays (is_last s) s t does
 
-publish_stays : (p : Publish) (s t : State) → PublishesTo s p t → Stays s t
+pub publish_stays : (p : Publish) (s t : State) → PublishesTo s p t → Stays s t
 publish_stays (Published v) s t does = publishes_stay s t does.2
 publish_stays (Unsettled k) s t does = same_stays s t does.1
 publish_stays no_publishing s t does = same_stays s t does.2
 
-refresh_stays : (s t : State) → RefreshesTo s t → Stays s t
+pub refresh_stays : (s t : State) → RefreshesTo s t → Stays s t
 refresh_stays s t does =
     both_stay s does.settled t (change_stays _ s does.settled does.settles) (publishes_stay does.settled t does.publishes)
 
-may_settle_stays : (s t : State) → MaySettle s t → Stays s t
+pub may_settle_stays : (s t : State) → MaySettle s t → Stays s t
 may_settle_stays s t does = elim does [ inl all ↦ change_stays _ s t all | inr some ↦ change_stays _ s t some ]
 
 may_settle_works : (s t : State) → MaySettle s t → Works (document_cells s) (document_cells t)
@@ -86,13 +86,13 @@ latest_by false s t r shows = same_stays s t shows.1
 called_stays : (s : State) (e : Entry) → list_in e ≡ [] → Stays s (called s e)
 called_stays s e no_list = record { init = refl; face = refl; history = rests_one s.init s.history e no_list }
 
-latest_stays : (editor index : ℕ) (r : Reply) (s t : State) → LatestTo s editor index r t → Stays s t
+pub latest_stays : (editor index : ℕ) (r : Reply) (s t : State) → LatestTo s editor index r t → Stays s t
 latest_stays editor index r s t does =
     subst (λ (x : State). Stays s x) (sym does.state)
     (both_stay s does.before (called does.before (entry.Latest editor index r)) (latest_by (is_due s) s does.before r does.shows)
     (called_stays does.before (entry.Latest editor index r) refl))
 
-sync_stays : (editor index : ℕ) (r : Reply) (s t : State) → SyncTo s editor index r t → Stays s t
+pub sync_stays : (editor index : ℕ) (r : Reply) (s t : State) → SyncTo s editor index r t → Stays s t
 sync_stays editor index r s t does =
     subst (λ (x : State). Stays s x) (sym does.state)
     (both_stay s does.before (called does.before (entry.Sync editor index r)) (present_stays s does.before r does.shows)

@@ -1,6 +1,6 @@
 -- What a cell that is ready is given among the values that cells keep is what it is given in the layout of the document: all that it depends
 -- on is clean, and so right beside what it is given now.
-use Rattle.std.proofs.Common.{◌≡◌, ◌<◌, List, length, Option, None, Some, option_map, refl, ap, sym, subst, ◌∙◌}
+use Rattle.std.proofs.Common.{◌≡◌, ◌<◌, false, List, length, Option, None, Some, option_map, refl, ap, sym, subst, ◌∙◌}
 use Rattle.lay_doc.specs.Document.{Document}
 use Rattle.lay_face.specs.FaceValue.{FaceValue}
 use Rattle.lay_cells.specs.Looks.{AreClean, IsClean, Looks}
@@ -23,7 +23,7 @@ use Rattle.lay_cell_work.specs.CellValues.{CellValue}
 use Rattle.lay_cell_work.specs.KeptValues.{kept_value, value_or_none}
 use Rattle.lay_document_cells.specs.State.{AreListsOf}
 use Rattle.lay_core.specs.CoreLaws.GivenInputs.{DependsOn, IsGivenIn, directly, through}
-use Rattle.lay_core.specs.CoreLaws.Laws.{ReadyCellsAreGiven}
+use Rattle.lay_core.specs.CoreLaws.Laws.{CleanCellsAreGiven, ReadyCellsAreGiven}
 
 -- what a clean cell keeps
 record KeepsPair (k : Option (Solved CellKey CellInput CellValue)) (i : CellInput) : Type 0 where
@@ -34,6 +34,11 @@ record KeepsPair (k : Option (Solved CellKey CellInput CellValue)) (i : CellInpu
 keeps_pair : (k : Option (Solved CellKey CellInput CellValue)) (i : CellInput) → option_map (λ (d : Solved CellKey CellInput CellValue). d.input) k ≡ Some i → KeepsPair k i
 keeps_pair None i e = absurd cc
 keeps_pair (Some d) i e = record { pair = d; is = refl; input = cc }
+
+kept_input : (k : Option (Solved CellKey CellInput CellValue)) (pair : Solved CellKey CellInput CellValue) (i : CellInput) → k ≡ Some pair
+    → option_map (λ (d : Solved CellKey CellInput CellValue). d.input) k ≡ Some i → pair.input ≡ i
+kept_input None pair i is e = absurd cc
+kept_input (Some d) pair i is e = let same : d.input ≡ i = cc in let of : d ≡ pair = cc in sym (ap (λ (x : Solved CellKey CellInput CellValue). x.input) of) ∙ same
 
 module _ (d : Document) (face : FaceValue) (contexts : List Context) (all : List FormattingContext) (s : CellState) (cells : AreDocumentCells d face contexts all s) where
   abbrev Now : ContextPhase → CellInput
@@ -87,8 +92,10 @@ module _ (d : Document) (face : FaceValue) (contexts : List Context) (all : List
     record { has_styles = cells.has_styles; are_contexts = cells.are_contexts; are_formatting_contexts = cells.are_formatting_contexts },
   )
 
-  pub ready_given : (c : ContextPhase) → c.context < length contexts → Looks s.rows (key_of contexts c) Ready → IsGivenIn d face (key_of contexts c) (Now c)
-  ready_given c lt ready = record {
+  -- what it is given now, where the dependencies of its row are clean
+  given_now : (c : ContextPhase) (r : CellRow) → c.context < length contexts → IsIn s.rows r → r.key ≡ key_of contexts c → AreClean s.rows r.needs
+      → IsGivenIn d face (key_of contexts c) (Now c)
+  given_now c r lt there key clean = record {
     is_document = cells.is_document;
     lists = record { contexts = contexts; formatting_contexts = all };
     lists_are = lists_are;
@@ -96,10 +103,26 @@ module _ (d : Document) (face : FaceValue) (contexts : List Context) (all : List
       cell = c;
       cell_is = record { within = lt; key_is = refl };
       values = kept_value s.rows contexts;
-      right = λ need on. (let q = all_clean c ready.0 lt ready.1 ready.2 ready.4 need on in clean_right need q.within q.clean);
+      right = λ need on. (let q = all_clean c r lt there key clean need on in clean_right need q.within q.clean);
       input_is = refl;
     };
   }
 
+  pub ready_given : (c : ContextPhase) → c.context < length contexts → Looks s.rows (key_of contexts c) Ready → IsGivenIn d face (key_of contexts c) (Now c)
+  ready_given c lt ready = given_now c ready.0 lt ready.1 ready.2 ready.4
+
+  pub clean_given : (c : ContextPhase) (r : CellRow) (kept : Solved CellKey CellInput CellValue) → c.context < length contexts → IsIn s.rows r
+      → r.key ≡ key_of contexts c → r.dirty ≡ false → r.kept ≡ Some kept → IsGivenIn d face (key_of contexts c) kept.input × IsCellLocal kept.input kept.value
+  clean_given c r kept lt there key clean is =
+      let sound = cells.cells.sound.each r there in
+      let has = cells.cells.present c.context c.phase r lt (record { there = there; key = key }) clean in
+      let same = kept_input r.kept kept (Now c) is has in (
+        subst (λ (i : CellInput). IsGivenIn d face (key_of contexts c) i) (sym same) (given_now c r lt there key (sound.clean clean)),
+        (sound.pair kept is).meets,
+      )
+
 pub ready_cells_are_given_lem : ReadyCellsAreGiven
 ready_cells_are_given_lem d face contexts all s cell cells lt ready = ready_given d face contexts all s cells cell lt ready
+
+pub clean_cells_are_given_lem : CleanCellsAreGiven
+clean_cells_are_given_lem d face contexts all s cell r kept cells lt there key clean is = clean_given d face contexts all s cells cell r kept lt there key clean is

@@ -2,13 +2,14 @@
 -- whoever claims it and in whatever order, is the input of the version that the core had then. Its turns are then changes that lists of
 -- edits made, and its grants are paid for by these changes, beside its first and beside the claims that came back. And a claim that a core
 -- grants has one work, so a batch of them comes to what they come to one after another, on however many threads.
-use Rattle.std.specs.Prelude.{ℕ, ◌≡◌, ◌+◌, ◌≤◌, ◌<◌, Bool, List, length, slice_get, Option, Result, Some}
+use Rattle.std.specs.Prelude.{ℕ, ◌≡◌, ◌+◌, ◌≤◌, ◌<◌, Bool, false, List, length, slice_get, Option, Result, Some}
 use Rattle.lay_units.specs.declared.memory.NoMemory.{NoMemory}
 use Rattle.lay_doc.specs.Document.{Document, IsDocument}
 use Rattle.lay_history.specs.declared.edits.history.Entry.{Entry}
 use Rattle.lay_face.specs.FaceValue.{FaceValue}
-use Rattle.lay_history.specs.Histories.{accepted}
+use Rattle.lay_history.specs.Histories.{accepted, doc_at}
 use Rattle.lay_frag.specs.Pieces.{Context as PageContext}
+use Rattle.lay_cells.specs.Rows.{Solved}
 use Rattle.lay_cells.specs.Shapes.{IsIn}
 use Rattle.lay_cells.specs.Looks.{Looks}
 use Rattle.lay_cells.specs.declared.answers.Look.TheVariants.{Ready}
@@ -19,6 +20,7 @@ use Rattle.lay_context.specs.Solves.{IsAssembled, Solves, medium_of}
 use Rattle.lay_cell_work.specs.CellLaws.DocumentCells.{AreDocumentCells}
 use Rattle.lay_cell_work.specs.CellLaws.SoundCells.{CellRow, CellState, input_now}
 use Rattle.lay_cell_work.specs.CellInputs.{CellInput}
+use Rattle.lay_cell_work.specs.CellLocal.{IsCellLocal}
 use Rattle.lay_cell_work.specs.CellValues.{CellValue}
 use Rattle.lay_cell_work.specs.Claims.{Claim}
 use Rattle.lay_cell_work.specs.KeptValues.{workings_of}
@@ -49,6 +51,13 @@ ReadyCellsAreGiven = (d : Document) (face : FaceValue) (contexts : List Context)
     (cell : ContextPhase) → AreDocumentCells d face contexts all s → cell.context < length contexts
     → Looks s.rows (key_of contexts cell) Ready
     → IsGivenIn d face (key_of contexts cell) (input_now (medium_of d face) contexts all s.rows cell.context cell.phase)
+
+-- What a cell keeps that isn't dirty is of the input that it is given in the layout of the document as it is, and right beside that.
+abbrev pub CleanCellsAreGiven : Type 0
+CleanCellsAreGiven = (d : Document) (face : FaceValue) (contexts : List Context) (all : List FormattingContext) (s : CellState)
+    (cell : ContextPhase) (r : CellRow) (kept : Solved CellKey CellInput CellValue) → AreDocumentCells d face contexts all s
+    → cell.context < length contexts → IsIn s.rows r → r.key ≡ key_of contexts cell → r.dirty ≡ false → r.kept ≡ Some kept
+    → IsGivenIn d face (key_of contexts cell) kept.input × IsCellLocal kept.input kept.value
 
 -- where the value of each cell is right, the tree of these values is the layout of the document, and among them each is given that input
 abbrev pub LayoutsGiveInputs : Type 0
@@ -96,6 +105,11 @@ GrantsArePaidByChanges = (init : Document) (face : FaceValue) (s : State) (r : C
 -- the document and the face stay those of the new core
 abbrev pub OriginsStay : Type 0
 OriginsStay = (init : Document) (face : FaceValue) (s : State) → IsReached init face s → (s.init ≡ init) × (s.face ≡ face)
+
+-- each version is a document within the limits
+abbrev pub VersionsAreDocuments : Type 0
+VersionsAreDocuments = (init : Document) (face : FaceValue) (s : State) (version : ℕ) → IsReached init face s
+    → IsDocument (doc_at init s.history version)
 
 -- A claim that a core grants has one work, whoever does it.
 abbrev pub GrantedClaimsHaveOneWork : Type 0

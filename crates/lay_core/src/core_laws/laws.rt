@@ -1,8 +1,8 @@
 //! The laws.
 
-ghost use Rattle.lay_core.specs.CoreLaws.Laws.{GrantedBatchesAreOneByOne, GrantedClaimsHaveOneWork, GrantsArePaidByChanges};
+ghost use Rattle.lay_core.specs.CoreLaws.Laws.{CleanCellsAreGiven, GrantedBatchesAreOneByOne, GrantedClaimsHaveOneWork, GrantsArePaidByChanges};
 ghost use Rattle.lay_core.specs.CoreLaws.Laws.{GrantsAreWithin, LayoutsGiveInputs, OneGivenInput, OneListOfChanges, OriginsStay};
-ghost use Rattle.lay_core.specs.CoreLaws.Laws.{ReadyCellsAreGiven, TurnsAreChanges, TurnsAreFew, TurnsAreOfVersions, TurnsAreWithin};
+ghost use Rattle.lay_core.specs.CoreLaws.Laws.{ReadyCellsAreGiven, TurnsAreChanges, TurnsAreFew, TurnsAreOfVersions, TurnsAreWithin, VersionsAreDocuments};
 
 use lay_cell_work::cell_laws::{inputs_are_kept, one_cell_local, present_inputs_lead_inward};
 use lay_cell_work::outcome_laws::{batches_are_one_by_one, one_work};
@@ -25,6 +25,11 @@ pub fn one_given_input()
 /// A cell that is ready is given that among the values that cells keep.
 pub fn ready_cells_are_given()
     ensures { ReadyCellsAreGiven }
+{}
+
+/// What a clean cell keeps is of that input, and right beside it.
+pub fn clean_cells_are_given()
+    ensures { CleanCellsAreGiven }
 {}
 
 /// Among values that are all right each cell is given that, and the tree of them is the layout of the document.
@@ -95,6 +100,11 @@ pub fn origins_stay()
 {
     claims_work();
 }
+
+/// Each version of a core that calls led to is a document.
+pub fn versions_are_documents()
+    ensures { VersionsAreDocuments }
+{}
 
 /// A claim that a core grants has one work.
 pub fn granted_claims_have_one_work()

@@ -1,12 +1,15 @@
 use Rattle.lay_core.proofs.CellWork.{works_work}
 use Rattle.lay_core.proofs.ClaimSteps.{few_drawn, leaves}
 use Rattle.lay_core.proofs.PartsSteps.{changes_of}
+use Rattle.lay_core.proofs.ShownKept.{changes}
+use Rattle.lay_core.specs.CoreLaws.ReachedCores.{claim}
 use Rattle.lay_core.proofs.core_state.Core.claim.Goals as goal
 
 pub invariant_of-self : goal.invariant_of-self
 invariant_of-self c =
-    leaves _ _ _ c.self.invariant.0 c.self.invariant.1 c.claim-answer.new.self
-    (works_work _ _ (c.claims_work.ensures.claims _ _ c.args.key c.claim-answer.result c.claim-answer.ensures.answers)) c.claim-answer.ensures.draws c.sound.ensures
+    let work = works_work _ _ (c.claims_work.ensures.claims _ _ c.args.key c.claim-answer.result c.claim-answer.ensures.answers) in
+    leaves _ _ _ c.self.invariant.0 c.self.invariant.1 c.self.invariant.2 c.claim-answer.new.self work c.claim-answer.ensures.draws c.sound.ensures
+    (claim c.args.key c.claim-answer.result _ (changes _ _ c.claim-answer.new.self work c.claim-answer.ensures.answers))
 
 pub returns-clause-answers : goal.returns-clause-answers
 returns-clause-answers c =

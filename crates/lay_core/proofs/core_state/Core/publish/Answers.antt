@@ -2,7 +2,8 @@ use Rattle.std.proofs.Common.{refl, subst}
 use Rattle.lay_cells.specs.Reads.{IsFirstDirtyKey}
 use Rattle.lay_core.specs.State.{State}
 use Rattle.lay_core.proofs.Kept.{publish_room}
-use Rattle.lay_core.proofs.PartsSteps.{publish_leaves, publishes_of}
+use Rattle.lay_core.proofs.CoreLawsLemmas.LeadsOn.{leads_on}
+use Rattle.lay_core.proofs.PartsSteps.{publish_called, publish_leaves, publishes_of}
 use Rattle.lay_core.proofs.core_state.Core.publish.Goals as goal
 
 pub returns-in-Some : goal.returns-in-Some
@@ -13,10 +14,16 @@ published-published-requires-clause-room c = λ other. publish_room _ _ _ c.self
 
 pub invariant_of-self : goal.invariant_of-self
 invariant_of-self c =
+    let kept = publish_leaves c.published-published.result _ _ _ c.self.invariant.0 c.published-published.new.history.items
+    c.published-published.new.trees.items c.published-published.ensures.ok c.published-published.ensures.same_history
+    c.published-published.ensures.same_trees in
     rw (c.published-published.ensures.capacity) (
-      publish_leaves c.published-published.result _ _ _ c.self.invariant.0 c.published-published.new.history.items c.published-published.new.trees.items
-          c.published-published.ensures.ok c.published-published.ensures.same_history c.published-published.ensures.same_trees,
+      kept,
       c.self.invariant.1,
+      leads_on _ _ c.self.invariant.2
+          (publish_called c.published-published.result _ _ _ c.self.invariant.0 (c.in_default.ensures {u = tt}).none c.published-published.new.history.items
+          c.published-published.new.trees.items c.published-published.ensures.ok c.published-published.ensures.other
+          c.published-published.ensures.same_history c.published-published.ensures.same_trees) kept.is_core,
     )
 
 pub returns : goal.returns

@@ -1,6 +1,7 @@
 use Rattle.std.proofs.Common.{refl}
 use Rattle.lay_core.proofs.Kept.{publish_room}
-use Rattle.lay_core.proofs.PartsSteps.{behind_of, may_settle_of, on_err, on_ok, refresh_leaves, refreshes_of, settled_numbers}
+use Rattle.lay_core.proofs.CoreLawsLemmas.LeadsOn.{leads_on}
+use Rattle.lay_core.proofs.PartsSteps.{behind_of, may_settle_of, on_err, on_ok, refresh_called, refresh_leaves, refreshes_of, settled_numbers}
 use Rattle.lay_core.proofs.core_state.Core.refresh.Goals as goal
 
 pub refreshed-refreshed-requires-clause-room : goal.refreshed-refreshed-requires-clause-room
@@ -9,10 +10,14 @@ refreshed-refreshed-requires-clause-room c = λ other. publish_room _ _ _ c.self
 pub invariant_of-self : goal.invariant_of-self
 invariant_of-self c =
     let few = rw (← c.self.view_is) at c.requires.draws in
+    let kept = refresh_leaves c.refreshed-refreshed.result _ _ _ c.self.invariant.0 c.refreshed-refreshed.new.cells c.refreshed-refreshed.new.history.items
+    c.refreshed-refreshed.new.trees.items c.refreshed-refreshed.ensures.ok c.refreshed-refreshed.ensures.err c.sound.ensures in
     rw (c.refreshed-refreshed.ensures.capacity) (
-      refresh_leaves c.refreshed-refreshed.result _ _ _ c.self.invariant.0 c.refreshed-refreshed.new.cells c.refreshed-refreshed.new.history.items
-          c.refreshed-refreshed.new.trees.items c.refreshed-refreshed.ensures.ok c.refreshed-refreshed.ensures.err c.sound.ensures,
+      kept,
       settled_numbers _ _ _ _ c.self.invariant.0 few c.refreshed-refreshed.ensures.draws,
+      leads_on _ _ c.self.invariant.2
+          (refresh_called c.refreshed-refreshed.result _ c.refreshed-refreshed.new.cells c.refreshed-refreshed.new.history.items
+          c.refreshed-refreshed.new.trees.items c.refreshed-refreshed.ensures.ok c.refreshed-refreshed.ensures.err) kept.is_core,
     )
 
 pub returns-clause-ok : goal.returns-clause-ok
