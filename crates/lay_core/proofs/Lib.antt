@@ -6,6 +6,7 @@ pub mod CleanCells
 pub mod Fronts
 pub mod Kept
 pub mod LastTree
+pub mod NewCore
 pub mod ClaimSteps
 pub mod One
 pub mod PartsSteps

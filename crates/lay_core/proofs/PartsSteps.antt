@@ -146,10 +146,10 @@ pub publish_called : {X E : Type 0} (r : Result X E) (s : State) (n room : ℕ) 
     → OnOk r ((z : State) → Publishes (parts z (document_cells s) s.history s.trees) (parts z (document_cells s) h ts))
     → OnErr r (last_or None (versions_of s.trees) ≢ Some n) → OnErr r (h ≡ s.history) → OnErr r (ts ≡ s.trees)
     → CallsTo s (parts s (document_cells s) h ts)
-publish_called (Ok x) s n room is clean h ts ok other same_history same_trees =
-    publish (Published n) _ (publishes_by (Ok x) s n room is clean h ts (Published n) ok other same_history same_trees refl tt)
-publish_called (Err e) s n room is clean h ts ok other same_history same_trees =
-    publish NoMemory _ (publishes_by (Err e) s n room is clean h ts NoMemory ok other same_history same_trees tt refl)
+publish_called {X} {E} (Ok x) s n room is clean h ts ok other same_history same_trees =
+    publish (Published n) _ (publishes_by {X = X} {E = E} (Ok x) s n room is clean h ts (Published n) ok other same_history same_trees refl tt)
+publish_called {X} {E} (Err e) s n room is clean h ts ok other same_history same_trees =
+    publish NoMemory _ (publishes_by {X = X} {E = E} (Err e) s n room is clean h ts NoMemory ok other same_history same_trees tt refl)
 
 -- `Sync`
 abbrev pub ShowsParts : State → DocumentCells → List Entry → List PublishedTreeValue → Reply → Type 0
