@@ -30,6 +30,8 @@ pub use at_point::hit;
 pub use call::top;
 pub use checking::check;
 pub use from_scratch::scratch;
-pub use laws::{one_summary, run_reports_are_answered_yes, summaries_come_of_numbers};
+pub use laws::{
+    one_hit_report, one_summary, run_reports_are_answered_yes, summaries_come_of_numbers,
+};
 pub use means::Means;
 pub use status::Status;
