@@ -19,16 +19,16 @@ use Rattle.lay_audit.proofs.Taking.{first_played}
 abbrev first_present : Basis → PresentValue
 first_present basis = record { document = basis.init; count = 0; last = None; next = replicate (length basis.scripts) 0 }
 
-none_answered : (n k : ℕ) → slice_index_or (replicate n 0) k 0 ≡ 0
+none_answered : (n k : ℕ) → ◌≡◌ {A = ℕ} (slice_index_or (replicate n 0) k 0) 0
 none_answered zero k = refl
 none_answered (suc n) zero = refl
 none_answered (suc n) (suc k) = none_answered n k
 
-answered_none : (n editor : ℕ) → answered_of (replicate n 0) editor ≡ 0
+answered_none : (n editor : ℕ) → ◌≡◌ {A = ℕ} (answered_of (replicate n 0) editor) 0
 answered_none n zero = refl
 answered_none n (suc place) = none_answered n place
 
-length_same : (n : ℕ) → length (replicate n 0) ≡ n
+length_same : (n : ℕ) → length (replicate {A = ℕ} n 0) ≡ n
 length_same zero = refl
 length_same (suc n) = ap suc (length_same n)
 

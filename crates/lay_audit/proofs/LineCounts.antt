@@ -1,18 +1,23 @@
 -- How many lines a text has, and that texts with all lines and the end in common are equal.
 use Rattle.std.proofs.Common.{◌≡◌, ◌∙◌, ℕ, zero, suc, ◌+◌, ◌<◌, ◌≤◌, ◌==◌, ◌⊎◌, inl, inr, Bool, true, false, cond, List, [], ◌∷◌, ◌++◌, count_by, refl, sym, ap, arith, if◌then◌else◌}
 use Rattle.std.proofs.lemmas.Bool.{cases_Bool}
+use Rattle.std.proofs.lemmas.List.Sums.{sum_by-cons}
 use Rattle.lay_audit.specs.Lines.{StartAlike, behind_line, ends_whole, first_line, line_count}
 use Rattle.lay_audit.proofs.LineFacts.{line_parts, no_first}
 
 abbrev ends_of : List ℕ → ℕ
 ends_of text = count_by (λ b. b == 10) text
 
+-- what stands behind the last linefeed is a line, where there is something
+abbrev last_of : Bool → ℕ
+last_of whole = if whole then 0 else 1
+
 -- a first byte that ends its line, and one that doesn't
 count_end : (b : ℕ) (bs : List ℕ) → (b == 10) ≡ true → ends_of (b ∷ bs) ≡ 1 + ends_of bs
-count_end b bs e = rw e refl
+count_end b bs e = sum_by-cons (λ x. cond (x == 10) 1 0) b bs ∙ ap (λ c. cond c 1 0 + ends_of bs) e
 
-count_other : (b : ℕ) (bs : List ℕ) → (b == 10) ≡ false → ends_of (b ∷ bs) ≡ ends_of bs
-count_other b bs e = rw e (omega arith)
+count_other : (b : ℕ) (bs : List ℕ) → (b == 10) ≡ false → ends_of (b ∷ bs) ≡ 0 + ends_of bs
+count_other b bs e = sum_by-cons (λ x. cond (x == 10) 1 0) b bs ∙ ap (λ c. cond c 1 0 + ends_of bs) e
 
 whole_end : (b : ℕ) (bs : List ℕ) → (b == 10) ≡ true → ends_whole (b ∷ bs) ≡ ends_whole bs
 whole_end b [] e = e
@@ -27,15 +32,15 @@ behind_other b bs e = rw e refl
 at_end : (b : ℕ) (bs : List ℕ) → (b == 10) ≡ true → line_count (b ∷ bs) ≡ suc (line_count (behind_line (b ∷ bs)))
 at_end b bs e =
     let n = count_end b bs e in
-    let w : (if ends_whole (b ∷ bs) then 0 else 1) ≡ (if ends_whole bs then 0 else 1) = ap (λ c. if c then 0 else 1) (whole_end b bs e) in
+    let w : last_of (ends_whole (b ∷ bs)) ≡ last_of (ends_whole bs) = ap last_of (whole_end b bs e) in
     let r : line_count (behind_line (b ∷ bs)) ≡ line_count bs = ap line_count (behind_end b bs e) in
     omega (arith, n, w, r)
 
 alone : (b : ℕ) → (b == 10) ≡ false → line_count (b ∷ []) ≡ suc (line_count (behind_line (b ∷ [])))
 alone b e =
-    let n : ends_of (b ∷ []) ≡ 0 = count_other b [] e in
-    let w : (if ends_whole (b ∷ []) then 0 else 1) ≡ 1 = ap (λ c. if c then 0 else 1) e in
-    let r : line_count (behind_line (b ∷ [])) ≡ 0 = ap line_count (behind_other b [] e) in
+    let n : ◌≡◌ {A = ℕ} (ends_of (b ∷ [])) 0 = count_other b [] e in
+    let w : ◌≡◌ {A = ℕ} (last_of (ends_whole (b ∷ []))) 1 = ap last_of e in
+    let r : ◌≡◌ {A = ℕ} (line_count (behind_line (b ∷ []))) 0 = ap line_count (behind_other b [] e) in
     omega (arith, n, w, r)
 
 further : (b c : ℕ) (cs : List ℕ) → (b == 10) ≡ false → line_count (c ∷ cs) ≡ suc (line_count (behind_line (c ∷ cs))) →
