@@ -19,4 +19,5 @@ mod Numbers
 mod Rooms
 mod Taking
 mod LegalThere
+mod FaultLaws
 pub mod OnlyReplies

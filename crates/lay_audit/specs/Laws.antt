@@ -1,8 +1,16 @@
--- What follows of the definitions: there is one verdict on a text, lines that are alike make texts that are equal, and the first bad
--- line is counted from 1.
-use Rattle.std.specs.Prelude.{ℕ, suc, ◌≡◌, ◌*◌, ◌^◌, ◌<◌, ◌≤◌, ◌↔◌, List, length}
-use Rattle.lay_doc.specs.Document.{IsDocument}
+-- What follows of the definitions: there is one verdict on a text, lines that are alike make texts that are equal, the first bad line
+-- is counted from 1, and memory never answers for a fault.
+use Rattle.std.specs.Prelude.{ℕ, suc, ◌≡◌, ◌*◌, ◌^◌, ◌<◌, ◌≤◌, ◌↔◌, List, [], ◌∷◌, length, take, slice_get, Some}
+use Rattle.lay_doc.specs.Document.{Document, IsDocument}
+use Rattle.lay_doc.specs.Edits.{fault}
+use Rattle.lay_doc.specs.declared.edit.Edit.{Edit as Change}
+use Rattle.lay_doc.specs.declared.edit.EditFault.{EditFault}
 use Rattle.lay_frag.specs.Pieces.{Context}
+use Rattle.lay_history.specs.declared.edits.command.Reply.{Reply}
+use Rattle.lay_history.specs.declared.edits.command.Reply.TheVariants.{Refused}
+use Rattle.lay_history.specs.declared.edits.history.Entry.{Entry}
+use Rattle.lay_history.specs.declared.edits.history.Entry.TheVariants.{Edit}
+use Rattle.lay_history.specs.Legal.{IsLegal, doc_after}
 use Rattle.lay_context.specs.Solves.{Solves}
 use Rattle.lay_audit.specs.declared.verdict.Verdict.{Verdict}
 use Rattle.lay_audit.specs.declared.verdict.Verdict.TheVariants.{Yes}
@@ -40,3 +48,9 @@ SomeReportIsLegal = (basis : Basis) → BeginsWithLayout basis → (report : Lis
 -- so lines are counted from 1
 abbrev pub BadLinesCountFromOne : Type 0
 BadLinesCountFromOne = (basis : Basis) (text : List ℕ) (number : ℕ) → BeginsWithLayout basis → IsFirstBad basis text number → 1 ≤ number
+
+-- in a legal history an edit alone that has a fault is refused for it
+abbrev pub FaultsAreRefused : Type 0
+FaultsAreRefused = (init : Document) (history : List Entry) (k editor index : ℕ) (edit : Change) (f : EditFault) (reply : Reply)
+    → IsLegal init history → slice_get history k ≡ Some (Edit editor index (edit ∷ []) reply)
+    → fault (doc_after init (take k history)) edit ≡ Some f → reply ≡ Refused 0 f

@@ -1,6 +1,6 @@
 //! The laws of verdicts.
 
-ghost use Rattle.lay_audit.specs.Laws.{AlikeAreEqual, BadLineIsThere, BadLinesCountFromOne, OneVerdict, SomeReportIsLegal, YesIsLegal};
+ghost use Rattle.lay_audit.specs.Laws.{AlikeAreEqual, BadLineIsThere, BadLinesCountFromOne, FaultsAreRefused, OneVerdict, SomeReportIsLegal, YesIsLegal};
 
 use lay_context::one_solution;
 
@@ -37,3 +37,8 @@ pub fn bad_lines_count_from_one()
 {
     one_solution();
 }
+
+/// In a legal history an edit alone that has a fault is refused for it: memory doesn't run out first.
+pub fn faults_are_refused()
+    ensures { FaultsAreRefused }
+{}

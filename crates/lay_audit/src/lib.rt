@@ -21,7 +21,7 @@ mod verdict;
 
 pub use auditing::audit;
 pub use laws::{
-    alike_are_equal, bad_line_is_there, bad_lines_count_from_one, one_verdict,
+    alike_are_equal, bad_line_is_there, bad_lines_count_from_one, faults_are_refused, one_verdict,
     some_report_is_legal, yes_is_legal,
 };
 pub use verdict::Verdict;
