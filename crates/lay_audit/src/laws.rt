@@ -1,6 +1,7 @@
 //! The laws of verdicts.
 
-ghost use Rattle.lay_audit.specs.Laws.{AlikeAreEqual, BadLineIsThere, BadLinesCountFromOne, FaultsAreRefused, OneVerdict, SomeReportIsLegal, YesIsLegal};
+ghost use Rattle.lay_audit.specs.Laws.{AlikeAreEqual, BadLineIsThere, BadLinesCountFromOne, FaultsAreRefused};
+ghost use Rattle.lay_audit.specs.Laws.{OneVerdict, SomeReportIsLegal, YesIsLegal};
 
 use lay_context::one_solution;
 
