@@ -91,7 +91,9 @@ pub fn top<R: Threads + Wait + Sync, S: Source, K: Sink, G: Gate + Sync>(
         Ok(None) => Exit {
             status: told(sink, "usage\n", Status::Usage),
         },
-        Err(_) => Exit::without_memory(),
+        Err(_) => Exit {
+            status: Status::NoMemory,
+        },
     }
 }
 
