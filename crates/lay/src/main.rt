@@ -1,24 +1,22 @@
 //! The program `lay`: the top call over standard input and standard output.
 #![tactic(auto)]
 
-use lay_cli::{Means, Status, top};
+use lay_cli::{Exit, Means, top};
 use lay_outside::{InputSource, OpenGate, OutputSink};
-use std::process::ExitCode;
 use std::rt::Env;
 use std::sync::Wait;
 use std::thread::Threads;
 use std::{env, io};
 
-fn main(rt: HostRuntime) -> ExitCode {
+fn main(rt: HostRuntime) -> Exit {
     // Words that can't be had as text are a wrong command line, as none is, but for want of memory.
-    let status = match words(&rt) {
+    match words(&rt) {
         Ok(words) => run(&rt, &words),
         Err(error) => match error.kind() {
-            io::ErrorKind::OutOfMemory => Status::NoMemory,
+            io::ErrorKind::OutOfMemory => Exit::without_memory(),
             _ => run(&rt, &[]),
         },
-    };
-    ExitCode::from(status.number())
+    }
 }
 
 fn words(rt: &(impl Env + AllocGlobal)) -> io::Result<Vec<String>> {
@@ -29,7 +27,7 @@ fn words(rt: &(impl Env + AllocGlobal)) -> io::Result<Vec<String>> {
     Ok(words)
 }
 
-fn run<R: Threads + Wait + Sync + Input + Print + AllocGlobal>(rt: &R, words: &[String]) -> Status {
+fn run<R: Threads + Wait + Sync + Input + Print + AllocGlobal>(rt: &R, words: &[String]) -> Exit {
     let mut source = InputSource::new(rt.reader());
     let mut sink = OutputSink::new(io::writer(rt));
     let mut kept = None;

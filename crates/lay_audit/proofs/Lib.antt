@@ -1,6 +1,7 @@
 pub mod Cited
 pub mod CheckLemmas
 mod LineFacts
+mod LineCounts
 mod VerdictLaws
 mod Fronts
 mod NextEntries
@@ -17,4 +18,6 @@ mod Judging
 mod Numbers
 mod Rooms
 mod Taking
+mod LegalThere
+mod FaultLaws
 pub mod OnlyReplies

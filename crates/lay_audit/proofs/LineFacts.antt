@@ -132,7 +132,7 @@ shorter : (bs : List ℕ) → length (behind_line bs) ≤ length bs
 shorter [] = omega arith
 shorter (b ∷ bs) = let s : length (behind_line (b ∷ bs)) ≤ length bs = shorter_by (b == 10) bs (shorter bs) in omega (arith, s)
 
-no_first : (b : ℕ) (bs : List ℕ) → [] ≡ first_line (b ∷ bs) → ⊥
+pub no_first : (b : ℕ) (bs : List ℕ) → [] ≡ first_line (b ∷ bs) → ⊥
 no_first b bs e = by (b == 10) e
   where
     by : (c : Bool) → [] ≡ (if c then b ∷ [] else b ∷ first_line bs) → ⊥

@@ -4,9 +4,10 @@ use Rattle.std.proofs.lemmas.Bool.{cases_lt}
 use Rattle.lay_audit.specs.declared.verdict.Verdict.TheVariants.{Yes, No}
 use Rattle.lay_audit.specs.Laws.{AlikeAreEqual, BadLineIsThere, OneVerdict, YesIsLegal}
 use Rattle.lay_audit.specs.LegalReports.{Basis, IsLegalReport}
-use Rattle.lay_audit.specs.Lines.{first_line}
+use Rattle.lay_audit.specs.Lines.{first_line, line_count}
 use Rattle.lay_audit.specs.WholeLines.{AreLines}
 use Rattle.lay_audit.specs.Verdicts.{CanBegin, IsFirstBad, IsVerdict}
+use Rattle.lay_audit.proofs.LineCounts.{alike_lines}
 use Rattle.lay_audit.proofs.LineFacts.{alike_back, alike_equal, alike_front, alike_less, alike_same, begins_front}
 
 begins_itself : (basis : Basis) (text : List ℕ) (n : ℕ) → IsLegalReport basis text → CanBegin basis n text
@@ -34,9 +35,9 @@ pub alike_are_equal : AlikeAreEqual
 alike_are_equal s t alike = alike_equal (suc (length s)) s t (omega arith) alike
 
 pub bad_line_is_there : BadLineIsThere
-bad_line_is_there basis text number bad = elim (cases_lt (suc (length text)) number) [
-  | inl past ↦ absurd (let can = bad.before (suc (length text)) past in
-      let same = alike_are_equal text can.report (alike_back (suc (length text)) can.report text can.alike) in
+bad_line_is_there basis text number bad = elim (cases_lt (suc (line_count text)) number) [
+  | inl past ↦ absurd (let can = bad.before (suc (line_count text)) past in
+      let same = alike_lines (suc (line_count text)) text can.report (omega arith) (alike_back (suc (line_count text)) can.report text can.alike) in
       bad.never (begins_itself basis text number (subst (IsLegalReport basis) (sym same) can.legal)))
   | inr le ↦ le
 ]

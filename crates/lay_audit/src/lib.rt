@@ -20,5 +20,8 @@ mod step;
 mod verdict;
 
 pub use auditing::audit;
-pub use laws::{alike_are_equal, bad_line_is_there, one_verdict, yes_is_legal};
+pub use laws::{
+    alike_are_equal, bad_line_is_there, bad_lines_count_from_one, faults_are_refused, one_verdict,
+    some_report_is_legal, yes_is_legal,
+};
 pub use verdict::Verdict;

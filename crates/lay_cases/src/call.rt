@@ -69,7 +69,7 @@ fn answered<R: Threads + Wait + Sync, S: Source, K: Sink, G: Gate + Sync>(
 ) -> Status
     requires nothing_kept { kept.old ≡ None }
 {
-    top(means, words, source, sink, kept)
+    top(means, words, source, sink, kept).status()
 }
 
 /// The gate of a call on these terms: where none is to be held, the editors of a run take turns.

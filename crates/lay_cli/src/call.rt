@@ -12,6 +12,7 @@ ghost use Rattle.lay_cli.specs.Input.{IsReadOut};
 use crate::at_point::hit;
 use crate::checking::check;
 use crate::drive::{Generation, generate, run};
+use crate::exit::Exit;
 use crate::from_scratch::scratch;
 use crate::means::Means;
 use crate::status::Status;
@@ -33,7 +34,7 @@ pub fn top<R: Threads + Wait + Sync, S: Source, K: Sink, G: Gate + Sync>(
     source: &mut S,
     sink: &mut K,
     kept: &mut Option<Core>,
-) -> Status
+) -> Exit
     requires nothing_kept { kept.old ≡ None }
 
     // What was written is the report for the words and the bytes, of the core that is kept.
@@ -84,9 +85,15 @@ pub fn top<R: Threads + Wait + Sync, S: Source, K: Sink, G: Gate + Sync>(
         (λ bytes. (line : List ℕ) → IsRefused asked bytes line → (result ≡ Status.Refused) ⊎ (result ≡ Status.NoMemory)) }
 {
     match read_words(means.alloc, words) {
-        Ok(Some(form)) => asked(means, form, source, sink, kept),
-        Ok(None) => told(sink, "usage\n", Status::Usage),
-        Err(_) => Status::NoMemory,
+        Ok(Some(form)) => Exit {
+            status: asked(means, form, source, sink, kept),
+        },
+        Ok(None) => Exit {
+            status: told(sink, "usage\n", Status::Usage),
+        },
+        Err(_) => Exit {
+            status: Status::NoMemory,
+        },
     }
 }
 

@@ -1,10 +1,11 @@
-//! The laws of reports that are checked, and of summaries.
+//! The laws of reports that are checked, of summaries, and of what is seen at a point.
 
-ghost use Rattle.lay_cli.specs.Laws.{OneSummary, RunReportsAreAnsweredYes, SummariesComeOfNumbers};
+ghost use Rattle.lay_cli.specs.Laws.{OneHitReport, OneSummary, RunReportsAreAnsweredYes, SummariesComeOfNumbers};
 
 use crate::run_reports::run_reports_are_yes;
 use lay_context::one_solution;
 use lay_core::last_tree;
+use lay_doc::one_style_column;
 use lay_generator::{generated_nodes_stay, generated_runs_come_to_one};
 
 /// Each report that `run` writes is answered `yes` by `check`.
@@ -28,3 +29,11 @@ pub fn summaries_come_of_numbers()
 pub fn one_summary()
     ensures { OneSummary }
 {}
+
+/// There is one line for a run and a point.
+pub fn one_hit_report()
+    ensures { OneHitReport }
+{
+    one_solution();
+    one_style_column();
+}

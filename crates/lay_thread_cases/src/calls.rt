@@ -13,6 +13,7 @@
 //!                                    one that is called from then on
 //!     close-early                    starts an engine of two editors, closes it while a pass is out, and once more when that has made its
 //!                                    call (`closing.rt`)
+//!     sync                           what an editor of an engine without workers is shown (`helping.rt`)
 //!     span                           how many microseconds passed in the last of these two calls from the start of the first claim that
 //!                                    was worked out to the end of the last one; what `bench/threads` reads
 //!     laid, draws
@@ -24,6 +25,7 @@ use crate::batches::{Batch, computed, joined, lay, number, shared};
 use crate::closing::closed_early;
 use crate::core_calls::{claim_some, driven, finish_all, publish};
 use crate::gates::{CaseGate, gate};
+use crate::helping::synced;
 use crate::shown;
 use crate::span::Span;
 use lay_cell_work::claim_lists::{ClaimList, Outcome, Outcomes};
@@ -80,6 +82,7 @@ impl OneCore {
             "lay" => self.lay(rt, alloc, rest),
             "drive" => self.drive(rt, alloc, rest),
             "close-early" => self.close_early(rt, alloc),
+            "sync" => self.sync(rt, alloc),
             "span" => Ok(Some(format!(in alloc; "{}", self.span)?)),
             "laid" => Ok(Some(format!(in alloc; "{}", self.core.laid())?)),
             "draws" => Ok(Some(format!(in alloc; "{}", self.core.draws())?)),
@@ -179,6 +182,13 @@ impl OneCore {
     fn close_early<R: Wait>(&self, rt: &R, alloc: Global) -> Result<Option<String>, NoMemory> {
         match run_of(alloc, &self.bytes) {
             Some(run) => closed_early(rt, alloc, run),
+            None => Ok(None),
+        }
+    }
+
+    fn sync<R: Wait>(&self, rt: &R, alloc: Global) -> Result<Option<String>, NoMemory> {
+        match run_of(alloc, &self.bytes) {
+            Some(run) => synced(rt, alloc, run, &self.gate),
             None => Ok(None),
         }
     }

@@ -13,10 +13,10 @@ use std::sync::Wait;
 
 /// An engine, the passes that are back, and the one that is out.
 #[derive(Drop)]
-struct Early {
-    engine: Engine,
-    passes: Passes,
-    out: Pass,
+pub(crate) struct Early {
+    pub(crate) engine: Engine,
+    pub(crate) passes: Passes,
+    pub(crate) out: Pass,
 }
 
 /// Closes an engine of two editors while the pass of the second one is out, and once more when that has made its call. The answer says how
@@ -49,7 +49,7 @@ pub(crate) fn closed_early<R: Wait>(
 }
 
 /// An engine of two editors with a call each, over the document of a run.
-fn started(alloc: Global, run: RunDoc) -> Result<Option<Early>, NoMemory>
+pub(crate) fn started(alloc: Global, run: RunDoc) -> Result<Option<Early>, NoMemory>
     ensures { IfOk result (λ o. IfSome o (λ r. (r.passes.closer.table ≡ r.engine.table)
         × All (λ p. p.table ≡ r.engine.table) r.passes.items.items × (r.out.table ≡ r.engine.table) × (0 < r.out.knows.left))) }
 {
@@ -99,7 +99,8 @@ fn closed_late<R: Wait>(rt: &R, alloc: Global, early: Early) -> Result<Option<St
     Ok(Some(format!(in alloc; "back {back}, {shown}, entries {entries}")?))
 }
 
-fn shown(alloc: Global, reply: Reply) -> Result<String, NoMemory> {
+/// The version that a reply shows.
+pub(crate) fn shown(alloc: Global, reply: Reply) -> Result<String, NoMemory> {
     match reply {
         Reply::Shown(version) => Ok(format!(in alloc; "shown {version}")?),
         Reply::NoMemory => Err(NoMemory),

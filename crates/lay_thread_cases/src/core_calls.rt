@@ -88,6 +88,20 @@ pub(crate) fn latest<R: Wait>(rt: &R, alloc: Global, engine: &Engine, pass: Pass
     engine.latest(rt, alloc, pass, &OpenGate)
 }
 
+/// A call of an editor that asks for the version with all edits so far; the gate is told of what it lays out before its turn.
+pub(crate) fn sync<R: Wait, G: Gate>(
+    rt: &R,
+    alloc: Global,
+    engine: &Engine,
+    pass: Pass,
+    gate: &G,
+) -> (Reply, Pass)
+    requires of { pass.table ≡ engine.now.table }
+    requires left { 0 < pass.knows.left }
+{
+    engine.sync(rt, alloc, pass, gate)
+}
+
 pub(crate) fn entries(core: &Core) -> usize {
     core.history().len()
 }

@@ -13,6 +13,7 @@ mod case;
 mod closing;
 mod core_calls;
 mod gates;
+mod helping;
 mod shown;
 mod span;
 
