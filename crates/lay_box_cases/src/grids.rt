@@ -81,10 +81,10 @@ fn span(word: &str) -> Result<Span>
 /// The widths of columns.
 pub(crate) fn columns(alloc: Global, text: &str) -> Result<String> {
     let (table, rest) = section(text)?;
-    let (given, first) = section(rest)?;
+    let (widths, first_row) = section(rest)?;
     let (width, spacing) = two_lengths(table)?;
-    let given = lengths_or_none(alloc, given)?;
-    let first = first_cells(alloc, first, &given)?;
+    let given = lengths_or_none(alloc, widths)?;
+    let first = first_cells(alloc, first_row, &given)?;
     let columns = ColumnsIn {
         given: WidthOptions::new(given),
         first: FirstCells::new(first),
@@ -113,10 +113,10 @@ fn first_cells(alloc: Global, text: &str, columns: &[Option<Unit>]) -> Result<Ve
 /// The heights of rows.
 pub(crate) fn heights(alloc: Global, text: &str) -> Result<String> {
     let (table, rest) = section(text)?;
-    let (own, cells) = section(rest)?;
+    let (own_heights, needs) = section(rest)?;
     let (total, spacing) = two_lengths(table)?;
-    let own = lengths(alloc, own)?;
-    let cells = row_cells(alloc, cells, &own)?;
+    let own = lengths(alloc, own_heights)?;
+    let cells = row_cells(alloc, needs, &own)?;
     let heights = RowsIn {
         own: UnitList::new(own),
         cells: RowCells::new(cells),
