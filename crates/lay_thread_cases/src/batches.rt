@@ -1,16 +1,16 @@
 //! Batches of claims on the cells of a core.
 
-use crate::cell_calls::{CellCalls, Handed};
-use crate::said;
-use crate::thread_calls::batch;
-use lay_case_reading::{Limit, Said, Workers};
+ghost use Rattle.std.specs.Prelude.{◌<◌, ◌≤◌, IfSome};
+
+use crate::core_calls::{batch, claim_some, finish_all};
+use crate::shown;
 use lay_cell_work::Claim;
 use lay_cell_work::claim_lists::{ClaimList, Outcome, Outcomes};
+use lay_core::{Core, Idle};
 use lay_outside::Gate;
 use lay_pool::{Hand, hands};
 use lay_units::NoMemory;
 use std::alloc::Global;
-use std::mem::replace;
 use std::thread;
 use std::thread::Threads;
 
@@ -31,72 +31,16 @@ pub(crate) enum Batch {
     Outcomes(Outcomes),
 }
 
-impl Batch {
-    /// Takes these claims in hand, after those that are, and shows them.
-    pub(crate) fn take(&mut self, alloc: Global, list: ClaimList) -> Result<Said, NoMemory> {
-        let said = said::claims(alloc, list.as_slice())?;
-        *self = match replace(self, Batch::None) {
-            Batch::Claims(held) => Batch::Claims(joined(alloc, held, list)?),
-            _ => Batch::Claims(list),
-        };
-        Ok(said)
-    }
-
-    /// The claims in hand, or those of which the outcomes in hand are; None where there are none.
-    pub(crate) fn held(&self, alloc: Global) -> Result<Option<Said>, NoMemory> {
-        match self {
-            Batch::None => Ok(None),
-            Batch::Claims(claims) => Ok(Some(said::claims(alloc, claims.as_slice())?)),
-            Batch::Outcomes(outcomes) => Ok(Some(said::outcomes(alloc, outcomes.as_slice())?)),
-        }
-    }
-
-    /// What came of the claims in hand.
-    pub(crate) fn said_computed(&self, alloc: Global) -> Result<Option<Said>, NoMemory> {
-        match self {
-            Batch::Outcomes(outcomes) if !is_lacking(outcomes.as_slice()) => {
-                Ok(Some(said::outcomes(alloc, outcomes.as_slice())?))
-            }
-            Batch::None => Ok(None),
-            _ => Ok(Some(Said::LACKS)),
-        }
-    }
-
-    /// The claims in hand, which are in hand no more; None where there are none.
-    pub(crate) fn claims(&mut self) -> Option<ClaimList> {
-        match replace(self, Batch::None) {
-            Batch::Claims(claims) => Some(claims),
-            _ => None,
-        }
-    }
-
-    /// The outcomes in hand, which are in hand no more; None where there are none.
-    pub(crate) fn outcomes(&mut self) -> Option<Outcomes> {
-        match replace(self, Batch::None) {
-            Batch::Outcomes(outcomes) => Some(outcomes),
-            _ => None,
-        }
-    }
-}
-
-/// Whether memory was wanting for a claim.
-fn is_lacking(outcomes: &[Outcome]) -> bool {
-    for outcome in outcomes {
-        if let Outcome::NoMemory(_claim) = outcome {
-            return true;
-        }
-    }
-    false
-}
-
 /// A batch whose claims are computed. Where they were, those are computed once more for which memory was wanting.
 pub(crate) fn computed<R: Threads + Sync, G: Gate + Sync>(
     rt: &R,
     alloc: Global,
     held: Batch,
-    workers: Workers,
+    workers: u32,
     gate: &G,
-) -> Result<Batch, NoMemory> {
+) -> Result<Batch, NoMemory>
+    requires { (0 < workers) × (workers ≤ 16) }
+{
     match held {
         Batch::None => Ok(Batch::None),
         Batch::Claims(claims) => match batch(rt, alloc, claims, workers, gate) {
@@ -133,7 +77,11 @@ fn once_more(alloc: Global, claim: Claim) -> Outcome {
 }
 
 /// The claims of two lists, as far as there is room for them in one.
-fn joined(alloc: Global, first: ClaimList, second: ClaimList) -> Result<ClaimList, NoMemory> {
+pub(crate) fn joined(
+    alloc: Global,
+    first: ClaimList,
+    second: ClaimList,
+) -> Result<ClaimList, NoMemory> {
     let mut all = ClaimList::with_room(alloc, BATCH)?;
     add_all(&mut all, first);
     add_all(&mut all, second);
@@ -153,10 +101,10 @@ pub(crate) fn shared<R: Threads + Sync, G: Gate + Sync>(
     rt: &R,
     alloc: Global,
     claims: ClaimList,
-    workers: Workers,
+    workers: u32,
     gate: &G,
 ) -> Result<Vec<Outcomes>, NoMemory> {
-    let mut hands = hands(alloc, workers.number())?;
+    let mut hands = hands(alloc, workers)?;
     let mut all = Vec::new(alloc);
     if let Some(refused) = dealt(alloc, hands.as_mut_slice(), claims)? {
         all.push(refused)?;
@@ -193,34 +141,54 @@ fn add_works<R: Threads + Sync, G: Gate + Sync>(
     Ok(())
 }
 
-/// Finishes each of these in turn, and says how many cells are clean then.
-pub(crate) fn finish_each<C: CellCalls>(core: &mut C, all: Vec<Outcomes>) -> u64 {
-    let mut cleaned = 0u64;
-    for outcomes in all {
-        let tally = core.all_finished(outcomes);
-        cleaned = cleaned.saturating_add(tally.cleaned() as u64);
+/// The number of a text, from 1 to the greatest one; None where it is none.
+pub(crate) fn number(text: &str, greatest: u32) -> Option<u32>
+    ensures { IfSome result (λ n. (0 < n) × (n ≤ greatest)) }
+{
+    match text.parse::<u32>() {
+        Ok(number) if 0 < number && number <= greatest => Some(number),
+        _ => None,
     }
-    cleaned
 }
 
-/// Lays the document of a core out by batches, and says why there is no more to lay out.
-pub(crate) fn lay<R: Threads + Sync, G: Gate + Sync, C: CellCalls>(
+/// Lays the document of a core out by batches, as `LIMIT WORKERS` says, and says why there is no more to lay out.
+pub(crate) fn lay<R: Threads + Sync, G: Gate + Sync>(
     rt: &R,
     alloc: Global,
-    core: &mut C,
-    (limit, workers): (Limit, Workers),
+    core: &mut Core,
+    rest: &str,
     gate: &G,
-) -> Result<Option<Said>, NoMemory> {
+) -> Result<Option<String>, NoMemory> {
+    let Some((limit, workers)) = rest.split_once(' ') else {
+        return Ok(None);
+    };
+    let (Some(limit), Some(workers)) = (number(limit, 64), number(workers, 16)) else {
+        return Ok(None);
+    };
     for _batch in 0..BATCHES {
-        let claims = match core.some_claims(alloc, limit)? {
-            Handed::Claims(claims) => claims,
-            Handed::Nothing(kind) => return Ok(Some(said::idle(kind))),
-            Handed::NoMemory => return Err(NoMemory),
+        let claims = match next_claims(alloc, core, limit)? {
+            Ok(claims) => claims,
+            Err(idle) => return Ok(Some(shown::idle(alloc, &idle)?)),
         };
         let Ok(outcomes) = batch(rt, alloc, claims, workers, gate) else {
             return Err(NoMemory);
         };
-        let _tally = core.all_finished(outcomes);
+        let _tally = finish_all(core, outcomes);
     }
     Ok(None)
+}
+
+/// At most so many claims, or why there is none.
+fn next_claims(
+    alloc: Global,
+    core: &mut Core,
+    limit: u32,
+) -> Result<Result<ClaimList, Idle>, NoMemory>
+    requires { (0 < limit) × (limit ≤ 64) }
+{
+    let mut list = ClaimList::with_room(alloc, limit)?;
+    match claim_some(core, limit, &mut list)? {
+        Some(idle) => Ok(Err(idle)),
+        None => Ok(Ok(list)),
+    }
 }

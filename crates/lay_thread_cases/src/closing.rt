@@ -3,9 +3,8 @@
 ghost use Rattle.std.specs.Prelude.{◌≡◌, ◌<◌, IfOk, IfSome};
 ghost use Rattle.std.specs.List.{All};
 
-use crate::thread_calls::{closed, entries, latest};
+use crate::core_calls::{closed, entries, latest};
 use lay_board::{Engine, Pass, Passes};
-use lay_case_reading::Said;
 use lay_history::edits::Reply;
 use lay_run::RunDoc;
 use lay_units::NoMemory;
@@ -20,30 +19,32 @@ struct Early {
     out: Pass,
 }
 
-/// What comes of closing an engine once more.
-#[derive(Drop)]
-struct Late {
-    /// How many passes came back the first time.
-    back: usize,
-    /// The reply to the call of the pass that was out.
-    reply: Reply,
-    /// How many entries the history has in the end; None where the engine isn't closed.
-    entries: Option<usize>,
-}
-
 /// Closes an engine of two editors while the pass of the second one is out, and once more when that has made its call. The answer says how
 /// many passes came back the first time, what the call was shown, and how many entries the history has in the end.
 pub(crate) fn closed_early<R: Wait>(
     rt: &R,
     alloc: Global,
     run: RunDoc,
-) -> Result<Option<Said>, NoMemory> {
-    match started(alloc, run)? {
-        Some(early) => match closed_twice(rt, alloc, early)? {
-            Some(late) => Ok(Some(said(alloc, late)?)),
-            None => Ok(Some(Said::Word("closed early"))),
-        },
-        None => Ok(None),
+) -> Result<Option<String>, NoMemory> {
+    let Some(early) = started(alloc, run)? else {
+        return Ok(None);
+    };
+    let Early {
+        engine,
+        passes,
+        out,
+    } = early;
+    match closed(rt, engine, passes) {
+        Ok(_core) => Ok(Some(String::from_str(alloc, "closed early")?)),
+        Err((engine, passes)) => closed_late(
+            rt,
+            alloc,
+            Early {
+                engine,
+                passes,
+                out,
+            },
+        ),
     }
 }
 
@@ -75,8 +76,8 @@ fn without_last(engine: Engine, mut passes: Passes) -> Option<Early>
     }
 }
 
-/// Closes an engine, and once more when the pass that is out has made its call; None where it is closed the first time.
-fn closed_twice<R: Wait>(rt: &R, alloc: Global, early: Early) -> Result<Option<Late>, NoMemory>
+/// Makes the call of the pass that is out, and closes the engine.
+fn closed_late<R: Wait>(rt: &R, alloc: Global, early: Early) -> Result<Option<String>, NoMemory>
     requires closer { early.passes.closer.table ≡ early.engine.table }
     requires of { All (λ p. p.table ≡ early.engine.table) early.passes.items.items }
     requires out { early.out.table ≡ early.engine.table }
@@ -84,53 +85,18 @@ fn closed_twice<R: Wait>(rt: &R, alloc: Global, early: Early) -> Result<Option<L
 {
     let Early {
         engine,
-        passes,
+        mut passes,
         out,
     } = early;
-    match closed(rt, engine, passes) {
-        Ok(_core) => Ok(None),
-        Err((engine, passes)) => Ok(Some(closed_late(rt, alloc, engine, passes, out)?)),
-    }
-}
-
-/// Makes the call of the pass that is out, and closes the engine.
-fn closed_late<R: Wait>(
-    rt: &R,
-    alloc: Global,
-    engine: Engine,
-    mut passes: Passes,
-    out: Pass,
-) -> Result<Late, NoMemory>
-    requires closer { passes.closer.table ≡ engine.table }
-    requires of { All (λ p. p.table ≡ engine.table) passes.items.items }
-    requires out { out.table ≡ engine.table }
-    requires left { 0 < out.knows.left }
-{
     let back = passes.items.len();
     let (reply, out) = latest(rt, alloc, &engine, out);
     passes.items.push(out)?;
-    let entries = match closed(rt, engine, passes) {
-        Ok(core) => Some(entries(&core)),
-        Err(_) => None,
+    let Ok(core) = closed(rt, engine, passes) else {
+        return Ok(Some(String::from_str(alloc, "closed never")?));
     };
-    Ok(Late {
-        back,
-        reply,
-        entries,
-    })
-}
-
-fn said(alloc: Global, late: Late) -> Result<Said, NoMemory> {
-    let Late {
-        back,
-        reply,
-        entries: Some(entries),
-    } = late
-    else {
-        return Ok(Said::Word("closed never"));
-    };
+    let entries = entries(&core);
     let shown = shown(alloc, reply)?;
-    Ok(Said::Text(format!(in alloc; "back {back}, {shown}, entries {entries}")?))
+    Ok(Some(format!(in alloc; "back {back}, {shown}, entries {entries}")?))
 }
 
 fn shown(alloc: Global, reply: Reply) -> Result<String, NoMemory> {

@@ -3,23 +3,22 @@
 //!
 //! `NAME.json` is a run document, whose editors are taken as none. `NAME.batches` beside it has cases, each over a core of that document:
 //! a line `case NAME`, and calls that are made in turn, each a line `CALL -> ANSWER`, or `CALL` where the answer is `done`. Lines that
-//! begin with `#` are remarks. Which calls there are is said in `batch_call.rt` of lay_case_reading, and what of a call that lacks memory
-//! in its `trial.rt`; `tools/refuse_calls` has each request for memory of the cases in `refusals.batches` refused.
+//! begin with `#` are remarks. Which calls there are is said in `calls.rt`, and what of a call that lacks memory in `case.rt`;
+//! `tools/refuse_calls` has each request for memory of the cases in `refusals.batches` refused.
 #![tactic(auto)]
 
 mod batches;
-mod cell_calls;
+mod calls;
+mod case;
 mod closing;
+mod core_calls;
 mod gates;
-mod one_core;
-mod said;
+mod shown;
 mod span;
-mod thread_calls;
 
-use crate::cell_calls::CellCalls;
-use crate::one_core::OneCore;
+use crate::calls::OneCore;
+use crate::case::{Comparison, compared};
 use anyhow::{Context, Result, bail};
-use lay_case_reading::{Comparison, Trial, files, print, run_document, told};
 use lay_core::Core;
 use lay_json::read_run;
 use lay_run::RunDoc;
@@ -34,19 +33,33 @@ use std::{env, fs};
 /// No editor calls.
 const CALLS: u32 = 0;
 
-/// More calls than a case has.
-const MOST: u64 = 1_000_000_000;
-
 fn main(rt: HostRuntime) -> Result<()> {
-    let Some(folder) = env::args(&rt)?.nth(1) else {
-        bail!("usage: lay_thread_cases FOLDER");
-    };
+    let folder = folder(&rt)?;
     for file in files(&rt, folder.as_str())? {
         if let Some(name) = file.as_str().strip_suffix(".batches") {
             go_through(&rt, folder.as_str(), name)?;
         }
     }
     Ok(())
+}
+
+/// The first word of the command line.
+fn folder(rt: &(impl Env + AllocGlobal)) -> Result<String> {
+    match env::args(rt)?.nth(1) {
+        Some(folder) => Ok(folder),
+        None => bail!("usage: lay_thread_cases FOLDER"),
+    }
+}
+
+/// The names of a folder's files, in order.
+fn files<R: Files + AllocGlobal + Clone + Drop>(rt: &R, folder: &str) -> Result<Vec<String>> {
+    let mut names = Vec::new(rt.alloc());
+    for entry in fs::read_dir(rt, folder)? {
+        let entry = entry?;
+        names.push(String::from_str(rt.alloc(), entry.file_name())?)?;
+    }
+    names.sort()?;
+    Ok(names)
 }
 
 /// Goes through the cases of a file, and prints a line for each.
@@ -59,39 +72,52 @@ fn go_through<R: Files + Print + AllocGlobal + Threads + Wait + Clock + Sync>(
     let text = fs::read_to_string(rt, path.as_str()).context("reading a file of batches")?;
     for case in text.as_str().split("\ncase ").skip(1) {
         let (case, lines) = case.split_once('\n').unwrap_or((case, ""));
-        let bytes = run_document(rt, folder, name)?;
-        let comparison = compared(rt, name, bytes, lines)?;
+        let bytes = document(rt, folder, name)?;
+        let comparison = compared_on(rt, name, bytes, lines)?;
         print(rt, name, case, &comparison)?;
     }
     Ok(())
 }
 
 /// What comes of a case on a core of the document of these bytes.
-fn compared<R: AllocGlobal + Threads + Wait + Clock + Sync>(
+fn compared_on<R: AllocGlobal + Threads + Wait + Clock + Sync>(
     rt: &R,
     name: &str,
     bytes: Vec<u8>,
     lines: &str,
 ) -> Result<Comparison> {
-    let core = core(rt.alloc(), run(rt.alloc(), name, &bytes)?)?;
-    compared_on(rt, rt.alloc(), &mut OneCore::new(core, bytes), lines)
+    let core = core(rt.alloc(), name, &bytes)?;
+    let mut subject = OneCore::new(core, bytes);
+    compared(rt, rt.alloc(), &mut subject, lines)
 }
 
-fn compared_on<R: Threads + Wait + Clock + Sync, C: CellCalls + From<Core> + Drop>(
-    rt: &R,
-    alloc: Global,
-    core: &mut OneCore<C>,
-    lines: &str,
-) -> Result<Comparison> {
-    let mut trial = Trial::new(alloc, lines)?;
-    for _ in 0..MOST {
-        let Some(call) = trial.next_call() else {
-            return Ok(trial.comparison());
-        };
-        let answer = told(call, core.answer(rt, alloc, call))?;
-        trial.take(alloc, answer.as_str())?;
+/// Prints what came of a case.
+fn print(
+    rt: &(impl Print + AllocGlobal),
+    name: &str,
+    case: &str,
+    comparison: &Comparison,
+) -> Result<()> {
+    let lacking = comparison.lacking.as_str();
+    match &comparison.other {
+        None => println!(rt; "{name}: {case}: ok{lacking}")?,
+        Some(other) => println!(rt; "{name}: {case}: NOT SO, but {other}{lacking}")?,
     }
-    bail!("no call is the last one")
+    Ok(())
+}
+
+/// The bytes of `NAME.json`.
+fn document(rt: &(impl Files + AllocGlobal), folder: &str, name: &str) -> Result<Vec<u8>> {
+    let path = format!(in rt.alloc(); "{folder}/{name}.json")?;
+    fs::read(rt, path.as_str()).context("reading a run document")
+}
+
+/// A core of the document of these bytes.
+fn core(alloc: Global, name: &str, bytes: &[u8]) -> Result<Core> {
+    match new_core(alloc, run(alloc, name, bytes)?) {
+        Ok(core) => Ok(core),
+        Err(NoMemory) => bail!("out of memory"),
+    }
 }
 
 /// The run document of these bytes.
@@ -103,10 +129,7 @@ fn run(alloc: Global, name: &str, bytes: &[u8]) -> Result<RunDoc> {
 }
 
 /// A core of the document of a run.
-fn core(alloc: Global, run: RunDoc) -> Result<Core> {
+fn new_core(alloc: Global, run: RunDoc) -> Result<Core, NoMemory> {
     let (doc, face, _scripts, _listed) = run.into_parts();
-    match Core::new(alloc, doc, face, CALLS) {
-        Ok(core) => Ok(core),
-        Err(NoMemory) => bail!("out of memory"),
-    }
+    Core::new(alloc, doc, face, CALLS)
 }

@@ -1,13 +1,12 @@
-//! The calls on those who work on cells and on an engine, without most of what is promised of them: a case asks for the answers alone, and
-//! each function that has the promises at hand takes long to prove.
+//! The calls on a core, on those who work on its cells and on an engine, without most of what is promised of them: a case asks for the
+//! answers alone, and each function that has the promises at hand takes long to prove.
 
-ghost use Rattle.std.specs.Prelude.{◌≡◌, ◌<◌, IfErr};
+ghost use Rattle.std.specs.Prelude.{◌≡◌, ◌<◌, ◌≤◌, [], IfErr};
 ghost use Rattle.std.specs.List.{All};
 
 use lay_board::{Engine, Pass, Passes};
-use lay_case_reading::Workers;
 use lay_cell_work::claim_lists::{ClaimList, Outcomes};
-use lay_core::Core;
+use lay_core::{Core, Idle, Publish, Tally};
 use lay_drive::drive;
 use lay_history::edits::Reply;
 use lay_outside::{Gate, OpenGate};
@@ -18,15 +17,37 @@ use std::alloc::Global;
 use std::sync::Wait;
 use std::thread::Threads;
 
+pub(crate) fn claim_some(
+    core: &mut Core,
+    limit: u32,
+    list: &mut ClaimList,
+) -> Result<Option<Idle>, NoMemory>
+    requires limit { 0 < limit }
+    requires room { limit ≤ list.old.room }
+    requires empty { list.old.claims ≡ [] }
+{
+    core.claim_some(limit, list)
+}
+
+pub(crate) fn finish_all(core: &mut Core, outcomes: Outcomes) -> Tally {
+    core.finish_all(outcomes)
+}
+
+pub(crate) fn publish(core: &mut Core) -> Publish {
+    core.publish()
+}
+
 /// What comes of claims; for want of memory they come back.
 pub(crate) fn batch<R: Threads + Sync, G: Gate + Sync>(
     rt: &R,
     alloc: Global,
     claims: ClaimList,
-    workers: Workers,
+    workers: u32,
     gate: &G,
-) -> Result<Outcomes, ClaimList> {
-    match run_batch(rt, alloc, claims, workers.number(), gate) {
+) -> Result<Outcomes, ClaimList>
+    requires { (0 < workers) × (workers ≤ 16) }
+{
+    match run_batch(rt, alloc, claims, workers, gate) {
         Ok(outcomes) => Ok(outcomes),
         Err((NoMemory, claims)) => Err(claims),
     }
@@ -37,10 +58,12 @@ pub(crate) fn driven<R: Threads + Wait + Sync, G: Gate + Sync>(
     rt: &R,
     alloc: Global,
     run: RunDoc,
-    workers: Workers,
+    workers: u32,
     gate: &G,
-) -> Result<Core, NoMemory> {
-    drive(rt, alloc, run, workers.number(), gate)
+) -> Result<Core, NoMemory>
+    requires { (0 < workers) × (workers ≤ 16) }
+{
+    drive(rt, alloc, run, workers, gate)
 }
 
 /// The core of an engine that was closed; where a pass is out all comes back.
@@ -65,7 +88,6 @@ pub(crate) fn latest<R: Wait>(rt: &R, alloc: Global, engine: &Engine, pass: Pass
     engine.latest(rt, alloc, pass, &OpenGate)
 }
 
-/// How many entries the history of a core has.
 pub(crate) fn entries(core: &Core) -> usize {
     core.history().len()
 }
