@@ -1,5 +1,7 @@
 //! Calls.
 
+ghost use Rattle.std.specs.Prelude.{◌≡◌, None};
+
 use crate::gates::CaseGate;
 use crate::turn_gate::TurnGate;
 use anyhow::{Result, bail};
@@ -14,13 +16,6 @@ use lay_words::{Form, read_words};
 use std::alloc::{AllocError, Global};
 use std::sync::Wait;
 use std::thread::Threads;
-
-/// A core that is kept: the number of its history's entries, and how much it laid out.
-#[derive(Clone, Copy)]
-struct Kept {
-    entries: usize,
-    laid: u64,
-}
 
 /// Makes the top call on these terms, over the bytes of a document.
 pub(crate) fn call<R: Threads + Wait + Sync>(
@@ -38,12 +33,7 @@ pub(crate) fn call<R: Threads + Wait + Sync>(
         alloc,
         gate: &gate,
     };
-    let (status, kept) = answered(&means, &words, &mut source, &mut sink);
-    let status = if terms.shows_kept() {
-        status_and_kept(alloc, status, kept)?
-    } else {
-        format!(in alloc; "{status:?}")?
-    };
+    let status = status_of(&means, terms, &words, &mut source, &mut sink)?;
     answer_of(alloc, status, gate.met(), sink.bytes())
 }
 
@@ -55,6 +45,19 @@ fn answer_of(alloc: Global, status: String, met: Option<bool>, bytes: &[u8]) -> 
     }
 }
 
+/// The status of the call, and the core that it keeps where the terms ask for it.
+fn status_of<R: Threads + Wait + Sync, S: Source, K: Sink, G: Gate + Sync>(
+    means: &Means<'_, R, G>,
+    terms: &Terms<'_>,
+    words: &[String],
+    source: &mut S,
+    sink: &mut K,
+) -> Result<String, AllocError> {
+    let mut kept = None;
+    let status = answered(means, words, source, sink, &mut kept);
+    status_text(means.alloc, terms, status, &kept)
+}
+
 /// Makes the call over any streams, whose bytes the call's contract doesn't reach: over those in memory it is large, and nothing here
 /// asks for it.
 fn answered<R: Threads + Wait + Sync, S: Source, K: Sink, G: Gate + Sync>(
@@ -62,21 +65,11 @@ fn answered<R: Threads + Wait + Sync, S: Source, K: Sink, G: Gate + Sync>(
     words: &[String],
     source: &mut S,
     sink: &mut K,
-) -> (Status, Option<Kept>) {
-    let mut kept = None;
-    let status = top(means, words, source, sink, &mut kept);
-    (status, told(&kept))
-}
-
-/// What a case shows of the core that is kept.
-fn told(kept: &Option<Core>) -> Option<Kept> {
-    match kept {
-        Some(core) => Some(Kept {
-            entries: core.history().len(),
-            laid: core.laid(),
-        }),
-        None => None,
-    }
+    kept: &mut Option<Core>,
+) -> Status
+    requires nothing_kept { kept.old ≡ None }
+{
+    top(means, words, source, sink, kept)
 }
 
 /// The gate of a call on these terms: where none is to be held, the editors of a run take turns.
@@ -111,15 +104,31 @@ fn met_answer(alloc: Global, status: &str, met: bool, bytes: &[u8]) -> Result<An
     Ok(Answer::new(status, front.as_bytes().to_vec(alloc)?))
 }
 
-/// A status and the core that is kept.
+/// A status, and the core that is kept where the terms ask for it.
+fn status_text(
+    alloc: Global,
+    terms: &Terms<'_>,
+    status: Status,
+    kept: &Option<Core>,
+) -> Result<String, AllocError> {
+    if terms.shows_kept() {
+        status_and_kept(alloc, status, kept)
+    } else {
+        format!(in alloc; "{status:?}")
+    }
+}
+
+/// A status and the core that is kept, by the number of its history's entries and how much it laid out.
 fn status_and_kept(
     alloc: Global,
     status: Status,
-    kept: Option<Kept>,
+    kept: &Option<Core>,
 ) -> Result<String, AllocError> {
     match kept {
         None => format!(in alloc; "{status:?}, nothing kept"),
-        Some(Kept { entries, laid }) => {
+        Some(core) => {
+            let entries = core.history().len();
+            let laid = core.laid();
             format!(in alloc; "{status:?}, kept {entries} entries, laid {laid}")
         }
     }
