@@ -5,7 +5,7 @@ ghost use Rattle.lay_units.specs.Units.{IsSize};
 ghost use Rattle.lay_grid.specs.Automatic.AutoColumns.{sum_min};
 ghost use Rattle.lay_grid.specs.Automatic.Fit.{BoundFits, CellFits, SpanFits};
 
-use crate::lengths::{size, sizes_or_none};
+use crate::lengths::{length, lengths_or_none, section, two_lengths};
 use anyhow::{Result, bail};
 use lay_case_reading::{ample, spanned};
 use lay_grid::WidthOptions;
@@ -21,28 +21,18 @@ pub(crate) fn answer(alloc: Global, text: &str) -> Result<String> {
     let (table, rest) = section(text)?;
     let (given, rest) = section(rest)?;
     let (cells, groups) = section(rest)?;
-    let Some((space, spacing)) = table.trim().split_once(' ') else {
-        bail!("not two lengths: {table}");
-    };
-    let given = sizes_or_none(alloc, given)?;
+    let (space, spacing) = two_lengths(table)?;
+    let given = lengths_or_none(alloc, given)?;
     let cells = span_cells(alloc, cells, given.len())?;
     let groups = group_spans(alloc, groups, given.len())?;
     let asked = BoundsIn {
         given: WidthOptions::new(given),
         cells: SpanCells::new(cells),
         groups: GroupSpans::new(groups),
-        spacing: size(spacing)?,
+        spacing,
     };
     let bounds = ample(column_bounds(alloc, &asked))?;
-    let space = size(space)?;
     out(alloc, &bounds, space)
-}
-
-fn section(text: &str) -> Result<(&str, &str)> {
-    match text.split_once(';') {
-        Some(parts) => Ok(parts),
-        None => bail!("a section is missing"),
-    }
 }
 
 fn span_cells(alloc: Global, text: &str, columns: usize) -> Result<Vec<SpanCell>>
@@ -57,8 +47,8 @@ fn span_cells(alloc: Global, text: &str, columns: usize) -> Result<Vec<SpanCell>
         cells.push(SpanCell {
             column: u32::from(place),
             span: u32::from(span),
-            min: size(min)?,
-            max: size(max)?,
+            min: length(min)?,
+            max: length(max)?,
         })?;
     }
     Ok(cells)
@@ -73,7 +63,7 @@ fn group_spans(alloc: Global, text: &str, columns: usize) -> Result<Vec<GroupSpa
         groups.push(GroupSpan {
             column: u32::from(place),
             span: u32::from(span),
-            width: size(rest)?,
+            width: length(rest)?,
         })?;
     }
     Ok(groups)

@@ -39,7 +39,7 @@ fn first_difference(alloc: Global, seed: u16, count: u16) -> Result<Option<u16>>
     let mut plain = Plain::new(alloc);
     for k in 0..count {
         let float = draws.float();
-        let place = page.put(&float)?;
+        let place = page.put(&float.request())?;
         if (place.x.0, place.y.0) != plain.put(&float)? {
             return Ok(Some(k));
         }
@@ -54,7 +54,7 @@ fn sum_of_places(alloc: Global, seed: u16, count: u16) -> Result<i64> {
     let mut sum: i64 = 0;
     for _ in 0..count {
         let float = draws.float();
-        let place = page.put(&float)?;
+        let place = page.put(&float.request())?;
         sum = sum
             .wrapping_mul(31)
             .wrapping_add(place.x.0)

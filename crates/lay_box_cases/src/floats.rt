@@ -10,22 +10,15 @@
 //! - `next TOP HEIGHT` is answered with the highest of the bottoms of the floats beside a box there.
 //! - `clear SIDE` is answered with the edge below the floats to clear, or `none`.
 
-ghost use Rattle.std.specs.Prelude.{pos, ◌+◌, ◌*◌, ◌^◌, All};
-ghost use Rattle.lay_floats.specs.Within.{BoxWithin, IsWithin, RequestWithin};
+ghost use Rattle.std.specs.Prelude.{pos, ◌^◌};
+ghost use Rattle.lay_floats.specs.Within.{IsWithin, RequestWithin};
 
+use crate::float_page::Page;
 use anyhow::{Result, bail};
 use lay_case_reading::Row;
-use lay_floats::{Clear, FloatReq, Floats, Place, Side, SolidReq, place_within};
+use lay_floats::{Clear, FloatReq, Floats, Place, Side, SolidReq};
 use lay_units::Unit;
 use std::alloc::Global;
-
-/// Floats that were placed one after the other, at most 65,535 of them.
-#[derive(Drop)]
-struct Page {
-    floats: Floats,
-    count: u16,
-    ghost within: { All (BoxWithin (pos ((count + 1) * 2 ^ 24))) floats },
-}
 
 /// A float that is to be placed.
 #[derive(Drop)]
@@ -41,82 +34,68 @@ struct FloatTerm {
 
 /// The answers to terms.
 pub(crate) fn answers(alloc: Global, text: &str) -> Result<String> {
-    let mut page = Page {
-        floats: Floats::new(alloc),
-        count: 0,
-    };
+    let mut page = Page::new(alloc);
     let mut out = String::new(alloc);
     for term in text.split(',') {
         if !out.is_empty() {
             out.push_str(", ")?;
         }
-        page.answer(&mut out, Row::new(term))?;
+        push_answer(&mut page, &mut out, Row::new(term))?;
     }
     Ok(out)
 }
 
-impl Page {
-    /// Writes the answer to a term.
-    fn answer(&mut self, out: &mut String, mut cells: Row<'_>) -> Result<()> {
-        match cells.word() {
-            Some("left") => push_place(out, self.put(&float_term(Side::Left, cells)?)?),
-            Some("right") => push_place(out, self.put(&float_term(Side::Right, cells)?)?),
-            Some("line") => self.push_room(out, cells),
-            Some("next") => self.push_next_bottom(out, cells),
-            Some("solid") => self.push_solid(out, cells),
-            Some("clear") => self.push_clear_edge(out, cells),
-            _ => bail!("no term"),
-        }
+/// Writes the answer to a term.
+fn push_answer(page: &mut Page, out: &mut String, mut cells: Row<'_>) -> Result<()> {
+    match cells.word() {
+        Some("left") => push_float(page, out, &float_term(Side::Left, cells)?),
+        Some("right") => push_float(page, out, &float_term(Side::Right, cells)?),
+        Some("line") => push_room(&page.floats, out, cells),
+        Some("next") => push_next_bottom(&page.floats, out, cells),
+        Some("solid") => push_solid(&page.floats, out, cells),
+        Some("clear") => push_clear_edge(&page.floats, out, cells),
+        _ => bail!("no term"),
     }
+}
 
-    /// Places a float.
-    fn put(&mut self, float: &FloatTerm) -> Result<Place> {
-        if self.count == u16::MAX {
-            bail!("too many floats");
-        }
-        place_within();
-        let Ok(place) = self.floats.place(&request(float)) else {
-            bail!("out of memory");
-        };
-        self.count += 1;
-        Ok(place)
-    }
+fn push_float(page: &mut Page, out: &mut String, float: &FloatTerm) -> Result<()> {
+    push_place(out, page.put(&request(float))?)
+}
 
-    fn push_room(&self, out: &mut String, mut cells: Row<'_>) -> Result<()> {
-        let top = cells.number()?;
-        let height = cells.number()?;
-        cells.end()?;
-        let (left, right) = self.floats.room(px(top), px(height), px(0), px(800));
-        push_px(out, left, right)
-    }
+fn push_room(floats: &Floats, out: &mut String, mut cells: Row<'_>) -> Result<()> {
+    let top = cells.number()?;
+    let height = cells.number()?;
+    cells.end()?;
+    let (left, right) = floats.room(px(top), px(height), px(0), px(800));
+    push_px(out, left, right)
+}
 
-    fn push_solid(&self, out: &mut String, mut cells: Row<'_>) -> Result<()> {
-        let width = cells.number()?;
-        let height = cells.number()?;
-        let top = cells.number()?;
-        cells.end()?;
-        let request = SolidReq {
-            x: px(0),
-            width: px(width),
-            height: px(height),
-            right: px(800),
-            top: px(top),
-        };
-        push_place(out, self.floats.fit_solid(&request))
-    }
+fn push_solid(floats: &Floats, out: &mut String, mut cells: Row<'_>) -> Result<()> {
+    let width = cells.number()?;
+    let height = cells.number()?;
+    let top = cells.number()?;
+    cells.end()?;
+    let request = SolidReq {
+        x: px(0),
+        width: px(width),
+        height: px(height),
+        right: px(800),
+        top: px(top),
+    };
+    push_place(out, floats.fit_solid(&request))
+}
 
-    fn push_next_bottom(&self, out: &mut String, mut cells: Row<'_>) -> Result<()> {
-        let top = cells.number()?;
-        let height = cells.number()?;
-        cells.end()?;
-        push_px_or_none(out, self.floats.next_bottom(px(top), px(height)))
-    }
+fn push_next_bottom(floats: &Floats, out: &mut String, mut cells: Row<'_>) -> Result<()> {
+    let top = cells.number()?;
+    let height = cells.number()?;
+    cells.end()?;
+    push_px_or_none(out, floats.next_bottom(px(top), px(height)))
+}
 
-    fn push_clear_edge(&self, out: &mut String, mut cells: Row<'_>) -> Result<()> {
-        let clear = clear(&mut cells)?;
-        cells.end()?;
-        push_px_or_none(out, self.floats.clear_edge(clear))
-    }
+fn push_clear_edge(floats: &Floats, out: &mut String, mut cells: Row<'_>) -> Result<()> {
+    let clear = clear(&mut cells)?;
+    cells.end()?;
+    push_px_or_none(out, floats.clear_edge(clear))
 }
 
 fn float_term(side: Side, mut cells: Row<'_>) -> Result<FloatTerm> {

@@ -2,8 +2,9 @@
 //! units, and there are at most 255 rows, columns, and cells of a row.
 
 ghost use Rattle.std.specs.Prelude.{◌+◌, ◌≤◌, length, All, IfOk};
-ghost use Rattle.lay_box_cases.specs.Small.{IsSmall, IsSmallCell, IsSmallNeed, IsSmallRow, IsSmallSpan, MayBeSmall};
+ghost use Rattle.lay_box_cases.specs.Small.{IsSmallCell, IsSmallNeed, IsSmallRow, IsSmallSpan};
 
+use crate::lengths::{length, length_or_none, lengths, lengths_or_none, section, two_lengths};
 use anyhow::{Result, bail};
 use lay_case_reading::{Row, ample, number, spanned};
 use lay_grid::{
@@ -79,10 +80,11 @@ fn span(word: &str) -> Result<Span>
 
 /// The widths of columns.
 pub(crate) fn columns(alloc: Global, text: &str) -> Result<String> {
-    let (table, given, first) = sections(text)?;
+    let (table, rest) = section(text)?;
+    let (widths, first_row) = section(rest)?;
     let (width, spacing) = two_lengths(table)?;
-    let given = lengths_or_none(alloc, given)?;
-    let first = first_cells(alloc, first, &given)?;
+    let given = lengths_or_none(alloc, widths)?;
+    let first = first_cells(alloc, first_row, &given)?;
     let columns = ColumnsIn {
         given: WidthOptions::new(given),
         first: FirstCells::new(first),
@@ -110,10 +112,11 @@ fn first_cells(alloc: Global, text: &str, columns: &[Option<Unit>]) -> Result<Ve
 
 /// The heights of rows.
 pub(crate) fn heights(alloc: Global, text: &str) -> Result<String> {
-    let (table, own, cells) = sections(text)?;
+    let (table, rest) = section(text)?;
+    let (own_heights, needs) = section(rest)?;
     let (total, spacing) = two_lengths(table)?;
-    let own = lengths(alloc, own)?;
-    let cells = row_cells(alloc, cells, &own)?;
+    let own = lengths(alloc, own_heights)?;
+    let cells = row_cells(alloc, needs, &own)?;
     let heights = RowsIn {
         own: UnitList::new(own),
         cells: RowCells::new(cells),
@@ -141,76 +144,6 @@ fn row_cells(alloc: Global, text: &str, rows: &[Unit]) -> Result<Vec<RowCell>>
         })?;
     }
     Ok(cells)
-}
-
-/// The three sections of a row of these tables.
-fn sections(text: &str) -> Result<(&str, &str, &str)> {
-    if let Some((first, rest)) = text.split_once(';') {
-        if let Some((second, third)) = rest.split_once(';') {
-            return Ok((first, second, third));
-        }
-    }
-    bail!("not three sections: {text}")
-}
-
-fn two_lengths(text: &str) -> Result<(Unit, Unit)>
-    ensures first { IfOk result (λ t. IsSmall t.0.0) }
-    ensures second { IfOk result (λ t. IsSmall t.1.0) }
-{
-    let mut cells = Row::new(text);
-    let first = cells.number()?;
-    let second = cells.number()?;
-    cells.end()?;
-    Ok((units(first), units(second)))
-}
-
-fn lengths(alloc: Global, text: &str) -> Result<Vec<Unit>>
-    ensures few { IfOk result (λ v. length v.items ≤ 255) }
-    ensures small { IfOk result (λ v. All (λ (u : Unit). IsSmall u.0) v.items) }
-{
-    let mut lengths = Vec::new(alloc);
-    for word in text.split_whitespace() {
-        if lengths.len() == 255 {
-            bail!("too many lengths");
-        }
-        lengths.push(length(word)?)?;
-    }
-    Ok(lengths)
-}
-
-fn lengths_or_none(alloc: Global, text: &str) -> Result<Vec<Option<Unit>>>
-    ensures few { IfOk result (λ v. length v.items ≤ 255) }
-    ensures small { IfOk result (λ v. All MayBeSmall v.items) }
-{
-    let mut lengths = Vec::new(alloc);
-    for word in text.split_whitespace() {
-        if lengths.len() == 255 {
-            bail!("too many lengths");
-        }
-        lengths.push(length_or_none(word)?)?;
-    }
-    Ok(lengths)
-}
-
-fn length(word: &str) -> Result<Unit>
-    ensures { IfOk result (λ u. IsSmall u.0) }
-{
-    Ok(units(number(word)?))
-}
-
-fn length_or_none(word: &str) -> Result<Option<Unit>>
-    ensures { IfOk result MayBeSmall }
-{
-    if word == "auto" || word == "none" {
-        return Ok(None);
-    }
-    Ok(Some(length(word)?))
-}
-
-fn units(v: u16) -> Unit
-    ensures { IsSmall result.0 }
-{
-    Unit(i64::from(v))
 }
 
 fn out(alloc: Global, lengths: &UnitList) -> Result<String> {

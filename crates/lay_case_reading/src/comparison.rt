@@ -1,11 +1,13 @@
-//! Calls with the answers that their lines say.
-//!
-//! A call that lacks memory is made again, and has then the answer that its line says. What its line says after ` | `, as in
-//! `sync -> shown 1 | contexts 1 -> none`, is what stands between the two.
+//! What comes of cases whose calls are made on a subject.
 
+use crate::lines::CallLine;
+use crate::trial::Trial;
 use anyhow::{Result, bail};
 use lay_units::NoMemory;
 use std::alloc::{AllocError, Global};
+
+/// More calls than a case has.
+const MOST: u64 = 1_000_000_000;
 
 /// What the calls of a case are made on.
 pub trait Subject {
@@ -22,129 +24,69 @@ pub struct Comparison {
     pub lacking: String,
 }
 
-/// What comes of a case.
-pub fn compared<S: Subject>(alloc: Global, subject: &mut S, lines: &str) -> Result<Comparison> {
-    let mut lacking = String::new(alloc);
-    for line in lines.lines() {
-        let other = other_at_last(alloc, subject, line, &mut lacking)?;
-        if other.is_some() {
-            return Ok(Comparison { other, lacking });
+impl Comparison {
+    /// All is as it should be.
+    pub(crate) fn new(alloc: Global) -> Comparison {
+        Comparison {
+            other: None,
+            lacking: String::new(alloc),
         }
     }
-    Ok(Comparison {
-        other: None,
-        lacking,
-    })
+
+    /// Notes a call that lacked memory.
+    pub(crate) fn push_lacking(&mut self, call: &str) -> Result<(), AllocError> {
+        write!(self.lacking, ", {call} lacked memory")
+    }
 }
 
-/// Makes the call of a line, once more where it lacks memory, and answers what is other than the line says.
-fn other_at_last<S: Subject>(
-    alloc: Global,
-    subject: &mut S,
-    line: &str,
-    lacking: &mut String,
-) -> Result<Option<String>> {
-    let (line, between) = call_and_between(line);
-    let other = other_answer(alloc, subject, line)?;
-    if !lacks(&other) {
-        return Ok(other);
+/// What comes of a case.
+pub fn compared<S: Subject>(alloc: Global, subject: &mut S, lines: &str) -> Result<Comparison> {
+    let mut trial = Trial::new(alloc, lines)?;
+    for _ in 0..MOST {
+        let Some(call) = trial.next_call() else {
+            return Ok(trial.comparison());
+        };
+        let answer = answer(alloc, subject, call)?;
+        trial.take(alloc, answer.as_str())?;
     }
-    write!(lacking, ", {} lacked memory", call_and_answer(line).0)?;
-    answer_again(alloc, subject, line, between)
+    bail!("no call is the last one")
 }
 
 /// A case with the answers that come.
 pub fn answers<S: Subject>(alloc: Global, subject: &mut S, lines: &str) -> Result<String> {
     let mut text = String::new(alloc);
     for line in lines.lines() {
-        if is_call(line) {
-            let (line, between) = call_and_between(line);
-            let (call, _) = call_and_answer(line);
-            let answer = answer(alloc, subject, call)?;
-            push_call(&mut text, call, answer.as_str(), between)?;
-        } else {
-            writeln!(text, "{line}")?;
+        match CallLine::read(line) {
+            Some(line) => {
+                let answer = answer(alloc, subject, line.call)?;
+                push_call(&mut text, &line, answer.as_str())?;
+            }
+            None => writeln!(text, "{line}")?,
         }
     }
     Ok(text)
 }
 
 /// Adds the line of a call with its answer.
-fn push_call(text: &mut String, call: &str, answer: &str, between: &str) -> Result<(), AllocError> {
-    text.push_str(call)?;
+fn push_call(text: &mut String, line: &CallLine<'_>, answer: &str) -> Result<(), AllocError> {
+    text.push_str(line.call)?;
     if answer != "done" {
         write!(text, " -> {answer}")?;
     }
-    if !between.is_empty() {
-        write!(text, " | {between}")?;
+    if !line.between.is_empty() {
+        write!(text, " | {}", line.between)?;
     }
     text.push('\n')
 }
 
-fn is_call(line: &str) -> bool {
-    !line.is_empty() && !line.starts_with('#')
-}
-
-/// The call of a line with its answer, and what stands where the call lacks memory.
-fn call_and_between(line: &str) -> (&str, &str) {
-    line.split_once(" | ").unwrap_or((line, ""))
-}
-
-/// A call, and its answer.
-fn call_and_answer(line: &str) -> (&str, &str) {
-    line.split_once(" -> ").unwrap_or((line, "done"))
-}
-
-/// Whether a call has lacked memory, by its answer where that is another than the line says.
-fn lacks(other: &Option<String>) -> bool {
-    match other {
-        Some(other) => other.as_str().ends_with(" -> no memory"),
-        None => false,
-    }
-}
-
-/// Looks at what stands after a call that lacked memory, and makes it again; answers what is other than the lines say.
-fn answer_again<S: Subject>(
-    alloc: Global,
-    subject: &mut S,
-    line: &str,
-    between: &str,
-) -> Result<Option<String>> {
-    for state in between.split(" | ") {
-        let other = other_answer(alloc, subject, state)?;
-        if other.is_some() {
-            return Ok(other);
-        }
-    }
-    other_answer(alloc, subject, line)
-}
-
-/// Makes the call of a line, if it has one, and answers what is other than it says.
-fn other_answer<S: Subject>(alloc: Global, subject: &mut S, line: &str) -> Result<Option<String>> {
-    if !is_call(line) {
-        return Ok(None);
-    }
-    let (call, wanted) = call_and_answer(line);
-    let answer = answer(alloc, subject, call)?;
-    Ok(told(alloc, call, answer.as_str(), wanted)?)
-}
-
-/// A call with its answer, where that is another than the wanted one.
-fn told(
-    alloc: Global,
-    call: &str,
-    answer: &str,
-    wanted: &str,
-) -> Result<Option<String>, AllocError> {
-    if answer == wanted {
-        return Ok(None);
-    }
-    Ok(Some(format!(in alloc; "{call} -> {answer}")?))
-}
-
 /// The answer to a call.
 fn answer<S: Subject>(alloc: Global, subject: &mut S, call: &str) -> Result<String> {
-    match subject.answer(alloc, call) {
+    told(call, subject.answer(alloc, call))
+}
+
+/// The answer to a call, where it is one and there was memory.
+pub fn told(call: &str, answer: Result<Option<String>, NoMemory>) -> Result<String> {
+    match answer {
         Ok(Some(answer)) => Ok(answer),
         Ok(None) => bail!("no call: {call}"),
         Err(NoMemory) => bail!("out of memory"),

@@ -5,7 +5,7 @@
 //! `NAME.json` is a run document, whose editors are taken as none. `NAME.calls` beside it has cases, each over a core of that document:
 //! a line `case NAME`, and calls that are made in turn, each a line `CALL -> ANSWER`, or `CALL` where the answer is `done`. Lines that
 //! begin with `#` are remarks. Which calls there are is said in `core_call.rt` of lay_case_reading, and what of a call that lacks memory
-//! in its `comparison.rt`; `tools/refuse_calls` has each request for memory of the cases in `refusals.calls` refused.
+//! in its `trial.rt`; `tools/refuse_calls` has each request for memory of the cases in `refusals.calls` refused.
 #![tactic(auto)]
 
 mod claims;

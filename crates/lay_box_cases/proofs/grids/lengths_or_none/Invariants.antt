@@ -1,6 +1,0 @@
-use Rattle.std.proofs.Common.{◌≤◌, length, All}
-use Rattle.lay_box_cases.specs.Small.{MayBeSmall}
-use Rattle.lay_box_cases.proofs.grids.lengths_or_none.Given as goal
-
-abbrev pub invariant-loop-word : goal.invariant-loop-word
-invariant-loop-word l = record { few : length l.lengths.items ≤ 255; small : All MayBeSmall l.lengths.items }
