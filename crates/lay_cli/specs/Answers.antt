@@ -65,8 +65,9 @@ pub record IsScratchReport (run : Run) (text : List ℕ) : Type 0 where
 
 -- A core that answered a run's editors. Its history is legal: each edit has the reply of the document at that point. Each
 -- published version has one tree, and that solves the document of the version (`core`). Each editor's commands are
--- answered once and in order. The last version is published. Calls led to it from a new core of the run's document and face, so the laws on
--- such cores hold of it: each cell was laid out at most once more than its input changed and claims of it came back (`GrantsArePaidByChanges`).
+-- answered once and in order. The last version is published. Calls led to it from a new core of the run's document and
+-- face, so the laws of such cores hold of it: each of its cells was granted at most once, plus once per accepted
+-- list of edits and per claim of the cell that came back (`GrantsAreWithin`).
 pub record IsDriven (run : Run) (s : State) : Type 0 where
   pub init : s.init ≡ run.doc
   pub face : s.face ≡ run.face
