@@ -568,7 +568,7 @@
       return;
     }
     pen.out.push(cluster === '\r' || cluster === '\f' ? ' ' : cluster);         // browsers read CR as a space, CSS 2.2 as a character
-    if (cluster === '\t') { pen.top = null; pen.last = null; return; }
+    if (cluster === '\t' && kept) { pen.top = null; pen.last = null; return; }       // a collapsed one is a space
     if (pen.item.made) { pen.written += pen.space + pen.letter; return; }
     if (!rect || rect.width === 0) return;                                      // collapsed away
     if (pen.top === null || Math.abs(rect.top - pen.top) > 0.5) startLine(pen, rect);
