@@ -442,7 +442,7 @@
   function measureBreaks(job, groups) {
     const words = new Map(), family = job.main.used['font-family'].replace(/"/g, "'");
     const style = `all:initial;display:block;width:0;white-space:normal;hyphens:manual;font-size:16px;font-family:${family}`;
-    for (const group of groups) if (!/^(pre|nowrap)$/.test(group.block.used['white-space'])) {
+    for (const group of groups) if (!isUnbroken(group.block)) {
       for (const [word] of group.text.matchAll(WORD)) {
         if (!/[^A-Za-z0-9]/.test(word) || word.length < 2 || words.has(word) || words.size >= 20000) continue;
         const node = makeNode(job, 'div', style, word);
@@ -455,6 +455,17 @@
     for (const [, node] of nodes) node.remove();
     return words;
   }
+  const isUnbroken = item => /^(pre|nowrap)$/.test(item.used['white-space']);
+  const isIn = (item, box) => { for (let up = item.up; up; up = up.up) if (up === box) return true; return false; };
+  // A line may be broken between two texts where the box that holds both says so. Where the first one's own box doesn't, the place stands
+  // behind that box.
+  function allowBreak(before, item) {
+    let box = before;
+    while (!isIn(item, box.up)) box = box.up;
+    if (isUnbroken(box.up)) return;
+    before.breakAfter = true;
+    if (isUnbroken(before.up)) box.breakBehind = true;
+  }
   // Gives each text the places of its breaks.
   function findBreaks(job) {
     const groups = lineGroups(job), words = measureBreaks(job, groups);
@@ -464,7 +475,7 @@
       while (group.parts[part][0] > at) part--;
       const [start, item] = group.parts[part];
       if (start < at) (item.breaks || (item.breaks = new Set())).add(at - start);
-      else if (part > 0) group.parts[part - 1][1].breakAfter = true;
+      else if (part > 0) allowBreak(group.parts[part - 1][1], item);
     }
   }
 
@@ -477,11 +488,12 @@
   }
   // A pen writes one text. `written` is how far `lay` comes on this line, in units, from `left` on.
   function startPen(job, item) {
-    const used = item.up.used, pre = /^(pre|nowrap)$/.test(used['white-space']);
+    const used = item.up.used, pre = isUnbroken(item.up);
     return { job, item, used, data: item.data, fontSize: item.up.fontSize, letter: lengthUnits(used['letter-spacing']),
       space: item.up.spaceWidth, breaks: pre ? null : item.breaks || new Set(), everywhere: /break-all/.test(used['word-break']), pre,
       edge: pre ? null : lineEdge(job, item),
-      out: [], next: 0, top: null, left: 0, right: 0, written: 0, solid: false, last: null, lastOfLine: null, end: null, isFresh: true };
+      out: [], next: 0, top: null, left: 0, right: 0, written: 0, solid: false, last: null, lastOfLine: null, end: null, isFresh: true,
+      leads: item.group && item.group.parts[0][1] === item };
   }
   // Where lines end on the right, without floats, in px of the window; null where that isn't known.
   function lineEdge(job, item) {
@@ -552,6 +564,8 @@
     const next = rectBetween(pen, at, at + 1);
     return next !== null && next.width > 0 && Math.abs(next.top - rect.top) <= 0.5 && next.left >= rect.right - 0.5;
   }
+  // Whether a space of `pre-wrap` begins a line and another one is behind it: no line is broken there.
+  const isIndent = (pen, cluster) => pen.leads && cluster === ' ' && pen.used['white-space'] === 'pre-wrap' && pen.data[pen.next] === ' ';
   function writeSpace(pen, cluster, from) {
     if (cluster === '\u00a0' && pen.solid && pen.breaks && pen.breaks.has(from)) writeBreakPlace(pen);
     pen.solid = cluster === '\u00a0';
@@ -559,7 +573,8 @@
     // Nothing breaks at a space of `pre` and at a no-break space: it becomes a character of its width. So does a tab, which would count
     // the face's spaces; with `pre-wrap` a line may break behind it.
     const pre = pen.used['white-space'], kept = cluster === '\t' ? /^(pre|pre-wrap|break-spaces)$/.test(pre) : cluster === '\u00a0' ||
-      pre === 'pre' && cluster !== '\n';
+      pre === 'pre' && cluster !== '\n' || isIndent(pen, cluster);
+    if (cluster === '\n' && /^pre/.test(pre)) Object.assign(pen, { leads: true, lastOfLine: null });
     if (kept && !pen.item.made) {
       if (rect) toLineOf(pen, rect);
       emit(pen, rect ? restOf(pen, rect) : 0);
@@ -568,7 +583,7 @@
       return;
     }
     pen.out.push(cluster === '\r' || cluster === '\f' ? ' ' : cluster);         // browsers read CR as a space, CSS 2.2 as a character
-    if (cluster === '\t') { pen.top = null; pen.last = null; return; }
+    if (cluster === '\t' && kept) { pen.top = null; pen.last = null; return; }       // a collapsed one is a space
     if (pen.item.made) { pen.written += pen.space + pen.letter; return; }
     if (!rect || rect.width === 0) return;                                      // collapsed away
     if (pen.top === null || Math.abs(rect.top - pen.top) > 0.5) startLine(pen, rect);
@@ -590,6 +605,7 @@
   }
   function writeVisible(pen, cluster, from) {
     const at = pen.item.up.element;
+    pen.leads = false;
     if (cluster === '\u00ad') { warn(pen.job, 'soft hyphen (dropped)', at); return; }
     if (cluster === '\u200b') { pen.out.push(cluster); pen.solid = false; return; }
     const rect = rectBetween(pen, from, pen.next);
@@ -634,6 +650,14 @@
     before.item.out += '\u200b';
     warn(job, 'word broken inside', item.up.element);
   }
+  // The right edges of the inline boxes that end behind a text, before the next one of its line content, in px.
+  function edgesBehind(item, next) {
+    let sum = 0;
+    for (let box = item.up; box.used.display === 'inline' && !(next && isIn(next[1], box)); box = box.up) {
+      sum += ['margin-right', 'border-right-width', 'padding-right'].reduce((edges, name) => edges + float(box.used[name]), 0);
+    }
+    return sum;
+  }
   // How wide the word is that begins at a place of a text, up to where a line may be broken, in px; it goes on in the texts behind it. Null
   // where it stands on several lines.
   function wordWidth(job, item, from) {
@@ -648,7 +672,9 @@
       const rects = [...job.range.getClientRects()].filter(rect => rect.width > 0);
       if (rects.length > 1) return null;
       width += rects.length ? rects[0].width : 0;
-      if (to < data.length || breakAfter) return width;
+      if (to < data.length) return width;
+      width += edgesBehind(parts[part][1], parts[part + 1]);
+      if (breakAfter) return width;
     }
     return width;
   }
@@ -1235,7 +1261,15 @@
     const widths = isTable(making.display) ? freezeTable(job, making) : null;
     if (isTable(making.display)) freezeRows(job, item);
     if (widths) writeColumns(job, item, widths, making.inherited);
-    for (const kid of item.kids) if (!widths || !/^table-column/.test(displayOf(kid))) write(job, kid, item.id, making.inherited);
+    for (const kid of item.kids) if (!widths || !/^table-column/.test(displayOf(kid))) {
+      write(job, kid, item.id, making.inherited);
+      if (kid.breakBehind && job.measured) writeBreakBehind(job, item.id);
+    }
+  }
+  function writeBreakBehind(job, parent) {
+    const id = job.extraId++;
+    job.nodes.push({ id, parent, kind: 'text', text: '\u200b', as: '' });
+    job.kinds[id] = 'skip';
   }
   // What columns and their groups have but their widths: the borders, which tables with collapsed borders draw, and whether they collapse.
   function columnStyle(job, item, inherited) {

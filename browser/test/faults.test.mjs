@@ -20,6 +20,8 @@ const PAGES = [
   ['inline_parts', {}],
   ['tabs', {}],
   ['full_lines', { [FROZEN_TABLE]: 1 }],
+  ['kept_spaces', {}],
+  ['unbroken_boxes', {}],
 ];
 const url = name => new URL(`pages/${name}.html`, import.meta.url).href;
 
