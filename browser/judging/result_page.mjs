@@ -9,7 +9,7 @@ const BROWSERS = new URL('../../docs/BROWSERS.md', import.meta.url).href;
 export const escaped = text => String(text).replace(/[&<>"]/g, c => ({ '&': '&amp;', '<': '&lt;', '>': '&gt;', '"': '&quot;' }[c]));
 const px = units => String(Math.round(units / 64 * 1000) / 1000);
 const place = rects => rects.length ? rects.slice(0, 4).map(([x, y, width, height]) =>
-  `${px(x)}, ${px(y)}<wbr> ${px(width)} × ${px(height)}`).join('<br>') +
+  `${px(x)},&nbsp;${px(y)}, ${px(width)}&nbsp;×&nbsp;${px(height)}`).join('<br>') +
   (rects.length > 4 ? '<br>…' : '') : 'none';
 
 // What the page's script draws: each box and text of the report, and the rectangles of both for those that differ.
