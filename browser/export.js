@@ -1263,13 +1263,15 @@
     if (widths) writeColumns(job, item, widths, making.inherited);
     for (const kid of item.kids) if (!widths || !/^table-column/.test(displayOf(kid))) {
       write(job, kid, item.id, making.inherited);
-      if (kid.breakBehind && job.measured) writeBreakBehind(job, item.id);
+      if (kid.breakBehind && job.measured) writeBreakBehind(job, item);
     }
   }
-  function writeBreakBehind(job, parent) {
-    const id = job.extraId++;
-    job.nodes.push({ id, parent, kind: 'text', text: '\u200b', as: '' });
-    job.kinds[id] = 'skip';
+  // The place is a character of its own, which gets no letter spacing.
+  function writeBreakBehind(job, item) {
+    const put = node => { job.nodes.push(node); job.kinds[node.id] = 'skip'; return node.id; };
+    const parent = lengthUnits(item.used['letter-spacing'])
+      ? put({ id: job.extraId++, parent: item.id, kind: 'element', style: { 'letter-spacing': '0px' } }) : item.id;
+    put({ id: job.extraId++, parent, kind: 'text', text: '\u200b', as: '' });
   }
   // What columns and their groups have but their widths: the borders, which tables with collapsed borders draw, and whether they collapse.
   function columnStyle(job, item, inherited) {
