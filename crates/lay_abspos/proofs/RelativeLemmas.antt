@@ -1,5 +1,6 @@
 pub mod NoMoves
 pub mod SomeFormers
+pub mod SomeMoves
 pub mod Ends
 pub mod MoveSteps
 pub mod Nearest

@@ -1,5 +1,5 @@
--- What is said of an absolutely positioned box beside what it is given from outside has one value: its sizes and its offset
--- (CSS 2.2, 10.3.7, 10.3.8 and 10.6.4).
+-- What is said of an absolutely positioned box beside what it is given from outside has a value, and one alone: its sizes and
+-- its offset (CSS 2.2, 10.3.7, 10.3.8 and 10.6.4).
 use Rattle.std.specs.Prelude.{◌≡◌, Option}
 use Rattle.lay_units.specs.declared.length.Unit.{Unit as Length}
 use Rattle.lay_style.specs.declared.style.Style.{Style}
@@ -26,3 +26,16 @@ OneTableLeft = (s : AbsoluteSetting) (style : Style) (width x y : Length) → Is
 abbrev pub OneOffset : Type 0
 OneOffset = (s : AbsoluteSetting) (own : BoxNode) (left height : Length) (x y : Corner)
     → IsOffset s own left height x → IsOffset s own left height y → x ≡ y
+
+abbrev pub SomeAbsoluteSizes : Type 0
+SomeAbsoluteSizes = (s : AbsoluteSetting) (own : BoxNode) (minimum preferred : Length)
+    → (z : BoxSizes) × (left : Length) × IsAbsoluteSized s own minimum preferred z left
+
+abbrev pub SomeStretchedHeight : Type 0
+SomeStretchedHeight = (s : AbsoluteSetting) (own : BoxNode) → (height : Option Length) × IsStretchedHeight s own height
+
+abbrev pub SomeTableLeft : Type 0
+SomeTableLeft = (s : AbsoluteSetting) (style : Style) (width : Length) → (left : Length) × IsTableLeft s style width left
+
+abbrev pub SomeOffset : Type 0
+SomeOffset = (s : AbsoluteSetting) (own : BoxNode) (left height : Length) → (corner : Corner) × IsOffset s own left height corner

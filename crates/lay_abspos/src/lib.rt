@@ -36,9 +36,12 @@ pub use lengths::{inside, moved};
 pub use offsets::absolute_offset;
 pub use own_offsets::own_offset;
 pub use own_place::OwnPlace;
-pub use place_laws::one_own_place;
+pub use place_laws::{one_own_place, some_own_place};
 pub use setting::{AbsoluteSetting, block_in};
-pub use setting_laws::{one_absolute_sizes, one_offset, one_stretched_height, one_table_left};
+pub use setting_laws::{
+    one_absolute_sizes, one_offset, one_stretched_height, one_table_left, some_absolute_sizes,
+    some_offset, some_stretched_height, some_table_left,
+};
 pub use sizes::{AbsoluteSizes, absolute_sizes, stretched_height};
 pub use stand_input::StandInput;
 pub use tables::table_left;

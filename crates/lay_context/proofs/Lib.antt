@@ -4,7 +4,9 @@ pub mod AllMeasured
 pub mod CornerSteps
 pub mod FlagSteps
 pub mod FlowSettings
+pub mod FoundLists
 pub mod GivenFacts
+pub mod ListedContexts
 pub mod MeasuredInward
 pub mod OneCorners
 pub mod OneTree
@@ -16,6 +18,13 @@ pub mod PlaceInputs
 pub mod SharedSteps
 pub mod ShrinkSteps
 pub mod SizedFacts
+pub mod SomeContexts
+pub mod SomeCorners
+pub mod SomeFormatting
+pub mod SomeLayout
+pub mod SomeStyles
+pub mod SomeTrees
+pub mod SomeValue
 pub mod StandingSteps
 pub mod TaskContents
 pub mod TaskInputs

@@ -1,6 +1,6 @@
 -- A task has one value beside what it is given, and no values give it anything but those of the tasks that it needs, of which each has
 -- its turn before it. So a document has one layout, and in that an absolutely positioned box stands in its containing block.
-use Rattle.std.specs.Prelude.{ℕ, ◌≡◌, ◌<◌, ◌↔◌, true, List, length}
+use Rattle.std.specs.Prelude.{ℕ, ◌≡◌, ◌<◌, ◌≤◌, ◌↔◌, true, List, length}
 use Rattle.lay_doc.specs.Document.{Document, IsDocument}
 use Rattle.lay_frag.specs.Pieces.{Context as PageContext}
 use Rattle.lay_face.specs.FaceValue.{FaceValue}
@@ -73,3 +73,7 @@ AbsoluteBoxesStandInContainingBlocks = (medium : Medium) (p : PageLayout) (i : �
 -- two trees that solve one document in one face are equal
 abbrev pub OneSolution : Type 0
 OneSolution = (d : Document) (face : FaceValue) (s t : List PageContext) → IsDocument d → Solves d face s → Solves d face t → s ≡ t
+
+-- and a tree that solves it has no more contexts than it has nodes
+abbrev pub LayoutsAreShort : Type 0
+LayoutsAreShort = (d : Document) (face : FaceValue) (tree : List PageContext) → Solves d face tree → length tree ≤ length d.nodes

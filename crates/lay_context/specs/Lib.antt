@@ -17,4 +17,5 @@ pub mod Settings
 pub mod Settling
 pub mod SharedContents
 pub mod Solves
+pub mod SomeLayouts
 pub mod Workings

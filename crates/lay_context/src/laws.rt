@@ -3,12 +3,17 @@
 
 ghost use Rattle.lay_context.specs.Laws.{AbsoluteBoxesStandInContainingBlocks, InputsComeOfNeeds, MeasuredGoesInward};
 ghost use Rattle.lay_context.specs.Laws.{MeasuredWhereShrunk, MeasuringAllChangesNoTree, NeedsComeFirst, OneLocal, OnePageCorners};
-ghost use Rattle.lay_context.specs.Laws.{OneSolution};
+ghost use Rattle.lay_context.specs.Laws.{LayoutsAreShort, OneSolution};
+ghost use Rattle.lay_context.specs.SomeLayouts.{SomeLayout, SomeLocal, SomePageCorners, SomeTree};
 
-use lay_context_sizes::{one_context_sizes, one_context_widths, widths_count_where_shrunk};
+use lay_context_sizes::{
+    one_context_sizes, one_context_widths, some_context_sizes, some_context_widths,
+    widths_count_where_shrunk,
+};
 use lay_contexts::{formatting_contexts_stand_in_order, one_formatting_context_list};
-use lay_placement::one_placement;
-use lay_table::one_table_placement;
+use lay_placement::{one_placement, some_placement};
+use lay_table::{one_table_placement, some_table_placement};
+use lay_table_grid::grids_are_of_boxes;
 
 /// Beside what it is given a task has one value.
 pub fn one_local()
@@ -73,3 +78,39 @@ pub fn one_solution()
     one_formatting_context_list();
     formatting_contexts_stand_in_order();
 }
+
+/// Beside what it is given a task has a value.
+pub fn some_local()
+    ensures { SomeLocal }
+{
+    some_context_widths();
+    some_context_sizes();
+    some_placement();
+    some_table_placement();
+}
+
+/// Formatting contexts that are placed stand on the page.
+pub fn some_page_corners()
+    ensures { SomePageCorners }
+{}
+
+/// Formatting contexts have a tree that solves them.
+pub fn some_tree()
+    ensures { SomeTree }
+{
+    some_local();
+    grids_are_of_boxes();
+}
+
+/// Each document has a layout in each face.
+pub fn some_layout()
+    ensures { SomeLayout }
+{
+    some_tree();
+    formatting_contexts_stand_in_order();
+}
+
+/// A layout has no more contexts than its document has nodes.
+pub fn layouts_are_short()
+    ensures { LayoutsAreShort }
+{}

@@ -7,7 +7,8 @@
 //! the ones inside it (lay_placement, and lay_table of a table). Which of these needs which is the table of
 //! `specs/Needs.antt`, and one of them by itself is `specs/Local.antt`. Absolutely positioned boxes
 //! come level by level (lay_positioned).
-//! `specs/Laws.antt` says that a document has one tree.
+//! `specs/Laws.antt` says that a document has one tree, and `specs/SomeLayouts.antt` that it has one at all, where
+//! each block formatting context has a flow.
 #![tactic(auto)]
 
 mod assembling;
@@ -46,9 +47,10 @@ pub use given::input_of;
 pub use input::Input;
 pub use laid_contexts::LaidContexts;
 pub use laws::{
-    absolute_boxes_stand_in_containing_blocks, inputs_come_of_needs, measured_goes_inward,
-    measured_where_shrunk, measuring_all_changes_no_tree, needs_come_first, one_local,
-    one_page_corners, one_solution,
+    absolute_boxes_stand_in_containing_blocks, inputs_come_of_needs, layouts_are_short,
+    measured_goes_inward, measured_where_shrunk, measuring_all_changes_no_tree, needs_come_first,
+    one_local, one_page_corners, one_solution, some_layout, some_local, some_page_corners,
+    some_tree,
 };
 pub use layout::{last_scratch, scratch, viewport_of};
 pub use measure_parts::MeasureParts;

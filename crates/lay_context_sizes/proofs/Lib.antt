@@ -5,3 +5,5 @@ pub mod OneWidths
 pub mod ShrunkWidths
 pub mod SizeSteps
 pub mod SizesFit
+pub mod SomeSizes
+pub mod SomeWidths

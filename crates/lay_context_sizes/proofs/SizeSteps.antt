@@ -25,7 +25,7 @@ pub record SizesTo (own : BoxSizes) (boxes : List BoxNode) (sizes : List BoxSize
   pub inner : (k : ℕ) → 0 < k → k < n → is_inner boxes k ≡ true → sizes_at sizes k ≡ no_sizes
   pub bounds : HaveSizeBounds sizes
 
-around_before : (boxes : List BoxNode) → AreContextBoxes boxes → (sizes : List BoxSizes) (z : BoxSizes) (k : ℕ) → 0 < k → k < length boxes → k ≤ length sizes
+pub around_before : (boxes : List BoxNode) → AreContextBoxes boxes → (sizes : List BoxSizes) (z : BoxSizes) (k : ℕ) → 0 < k → k < length boxes → k ≤ length sizes
     → block_around boxes (sizes ++ z ∷ []) k ≡ block_around boxes sizes k
 around_before boxes are sizes z k inside within known =
     let c : ℕ = container_of boxes k in

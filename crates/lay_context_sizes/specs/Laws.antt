@@ -1,4 +1,4 @@
--- Beside what a formatting context is given its preferred widths and the used sizes of its boxes are the only ones. Preferred widths
+-- Beside what a formatting context is given it has preferred widths and used sizes of its boxes, and these alone. Preferred widths
 -- count for the sizes of what shrinks to fit alone, and the bounds of a table for one of the automatic layout alone.
 use Rattle.std.specs.Prelude.{◌≡◌, Bool, true, false}
 use Rattle.lay_box_tree.specs.ContextBoxes.{AreContextBoxes}
@@ -30,3 +30,11 @@ abbrev pub WidthsCountWhereShrunk : Type 0
 WidthsCountWhereShrunk = (i : SizeInput) (m : MeasuredContext) (sized : SizedContext)
     → shrinks_to_fit i.boxes ≡ false → is_absolute_setting i.setting ≡ false
     → HasSizes i sized → HasSizes (with_measured i m) sized
+
+-- a formatting context has preferred widths, whatever is in it
+abbrev pub SomeContextWidths : Type 0
+SomeContextWidths = (i : MeasureInput) → (m : MeasuredContext) × IsMeasured i m
+
+-- and its boxes have used sizes in any setting, whatever preferred widths it is given
+abbrev pub SomeContextSizes : Type 0
+SomeContextSizes = (i : SizeInput) → AreContextBoxes i.boxes → (sized : SizedContext) × HasSizes i sized

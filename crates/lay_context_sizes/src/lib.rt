@@ -18,7 +18,10 @@ mod sizing;
 mod table_contexts;
 
 pub use inputs::{MeasureInput, SizeInput};
-pub use laws::{one_context_sizes, one_context_widths, widths_count_where_shrunk};
+pub use laws::{
+    one_context_sizes, one_context_widths, some_context_sizes, some_context_widths,
+    widths_count_where_shrunk,
+};
 pub use measured_context::MeasuredContext;
 pub use measuring::context_widths;
 pub use setting::Setting;

@@ -86,7 +86,7 @@ module _ (boxes : List FlowBox) (flow : Pass) (corners : List Place) (is : IsFin
   corners_put = subst (λ (met : List (List NodePlace)). AreCorners (length boxes) met corners) (sym is.are.met_are) put
 
   counted : length is.places ≡ length boxes
-  counted = ap length is.context.places_are ∙ is.context.is_flow.places_length
+  counted = ap length is.context.places_are ∙ is.context.is_flow.by_clearances.places_length
 
   corner_is : (k : ℕ) → k < length boxes → corner_at corners k ≡ place_in_lines is.places k
   corner_is k lt = corners_put.each k lt ∙ ap (place_or no_place k) (sym (joined_lines is.places))
@@ -121,8 +121,8 @@ module _ (boxes : List FlowBox) (flow : Pass) (out : FlowColumns) (corners : Lis
 
   pub near_columns : AreFlowBoxes boxes → AreNear flow.marks.items → AreBoxHeights boxes flow.heights.items → AreNearColumns boxes out
   near_columns input near sized =
-      let mine : length flow.marks.items ≡ length boxes = ap length is.context.tops_are ∙ is.context.is_flow.layout.has_positions.marks_length in
-      let high : length flow.heights.items ≡ length boxes = ap length is.context.heights_are ∙ is.context.is_flow.layout.has_positions.heights_length in
+      let mine : length flow.marks.items ≡ length boxes = ap length is.context.tops_are ∙ is.context.is_flow.by_clearances.layout.has_positions.marks_length in
+      let high : length flow.heights.items ≡ length boxes = ap length is.context.heights_are ∙ is.context.is_flow.by_clearances.layout.has_positions.heights_length in
       record {
         tops_length = rw tops mine;
         heights_length = rw heights high;

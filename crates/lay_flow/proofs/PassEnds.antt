@@ -165,24 +165,26 @@ module _ (boxes : List FlowBox) (input : AreFlowBoxes boxes) where
       record {
         flow = record { layout = y; places = placing'.places };
         is_flow = record {
-          layout = is;
-          extents_length = placed.extents_length;
-          clear_edges_length = known.are_clears.edges_length;
-          places_length = placed.places_length;
+          by_clearances = record {
+            layout = is;
+            extents_length = placed.extents_length;
+            clear_edges_length = known.are_clears.edges_length;
+            places_length = placed.places_length;
+            float = λ k side low lt s. stands.float k side low lt s;
+            solid = λ k low lt solid. stands.solid k low lt solid;
+            no_place_root = stands.root input.is_tree.some;
+            no_place_else = λ k low lt none flow. stands.other k low lt none flow;
+            solid_extent = λ k low lt solid. stands.extent k low lt solid;
+            no_extent = λ k lt flow. no_extents k flow;
+            lines = λ k lt lines. stands.lines k lt lines;
+            no_lines_else = λ k lt none. stands.no_lines_else k lt none;
+            lines_extent = λ k lt lines. stands.lines_extent k lt lines;
+            bottom = subst (λ (fs : List Placed). IsClearEdge fs clear_both bottom) stands.floats_are is_bottom;
+          };
           root_clear = clears 0 ∙ known.are_clears.root;
           float_clear = λ k side lt s. clears k ∙ known.are_clears.float k side s;
           clearance = λ k low lt none. known.decided k low lt none y placing'.places may_be candidate same;
           no_edge = λ k lt off. known.are_clears.no_edge k (sym (clears k) ∙ off);
-          float = λ k side low lt s. stands.float k side low lt s;
-          solid = λ k low lt solid. stands.solid k low lt solid;
-          no_place_root = stands.root input.is_tree.some;
-          no_place_else = λ k low lt none flow. stands.other k low lt none flow;
-          solid_extent = λ k low lt solid. stands.extent k low lt solid;
-          no_extent = λ k lt flow. no_extents k flow;
-          lines = λ k lt lines. stands.lines k lt lines;
-          no_lines_else = λ k lt none. stands.no_lines_else k lt none;
-          lines_extent = λ k lt lines. stands.lines_extent k lt lines;
-          bottom = subst (λ (fs : List Placed). IsClearEdge fs clear_both bottom) stands.floats_are is_bottom;
         };
         tops_are = tops_are;
         heights_are = same_lengths heights y.places.heights (heights_length ∙ sym is.has_positions.heights_length) (λ k lt. elim (cases_eq k 0) [

@@ -1,5 +1,5 @@
 -- The columns of the code beside the spots that they are of.
-use Rattle.std.proofs.Common.{◌≡◌, suc, ℕ, ◌+◌, false, ◌<◌, ◌≤◌, ℤ, List, [], ◌∷◌, ◌++◌, length, true, arith, sym, ap, ◌∙◌, subst}
+use Rattle.std.proofs.Common.{◌≡◌, ℕ, ◌+◌, false, ◌<◌, ◌≤◌, ℤ, List, [], ◌∷◌, ◌++◌, length, true, arith, sym, ap, ◌∙◌, subst}
 use Rattle.std.proofs.lemmas.Int.{ints}
 use Rattle.std.proofs.lemmas.List.{length_push, map_push, length-map}
 use Rattle.lay_doc.specs.Tree.{IsTree}

@@ -5,8 +5,8 @@
 //! (`specs/Blocks/ContextFlow.antt`). That has a layout of its blocks (`specs/Blocks/BlockLayout.antt`), with runs of adjoining margins
 //! (`specs/Blocks/MarginRuns.antt`), positions and heights (`specs/Blocks/BlockPositions.antt`), floats and boxes that they may not
 //! overlap, with lines beside floats (`specs/Blocks/BlockFloats.antt`), and clearance (`specs/Blocks/Clearance.antt`), each as a column
-//! of a value per box in document order. The laws in `specs/Blocks/Laws.antt` say that a context has one flow, and its blocks one
-//! layout. `flow` computes it.
+//! of a value per box in document order. The laws in `specs/Blocks/Laws.antt` say that a context has a flow, and one alone, and
+//! so its blocks a layout. `flow` computes it.
 
 mod block;
 mod block_height;
@@ -31,7 +31,8 @@ pub use flow_box::{
 pub use flow_places::{BoxPlace, FlowPlaces};
 pub use laws::{
     adjoining_runs, collapsed_through, one_block_layout, one_context_flow, one_flow_of,
-    one_hypothetical, one_test, some_block_layout, some_hypothetical,
+    one_hypothetical, one_test, some_block_layout, some_context_flow, some_flow_by_clearances,
+    some_flow_of, some_hypothetical,
 };
 pub use met_floats::line_corners;
 pub use near::Near;

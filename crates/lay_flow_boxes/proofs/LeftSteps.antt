@@ -21,14 +21,14 @@ pub record LeftsTo (boxes : List BoxNode) (sizes : List BoxSizes) (inner : List 
   pub each : (k : ℕ) → k < n → length_at lefts k ≡ (left_of_box boxes sizes inner lefts k).0
   pub near : AreNearLefts lefts
 
-read_before : (ls : List Length) (l : Length) (k : ℕ) → k < length ls → length_at (ls ++ l ∷ []) k ≡ length_at ls k
+pub read_before : (ls : List Length) (l : Length) (k : ℕ) → k < length ls → length_at (ls ++ l ∷ []) k ≡ length_at ls k
 read_before ls l k lt = grind (arith, elements)
 
-read_last : (ls : List Length) (l : Length) (k : ℕ) → k ≡ length ls → length_at (ls ++ l ∷ []) k ≡ l.0
+pub read_last : (ls : List Length) (l : Length) (k : ℕ) → k ≡ length ls → length_at (ls ++ l ∷ []) k ≡ l.0
 read_last ls l k is = grind (arith, elements)
 
 -- the left border edge of a box rests on those before it alone
-left_before : (boxes : List BoxNode) (sizes : List BoxSizes) (inner : List OwnBox) (ls : List Length) (l : Length) (k : ℕ) → AreContextBoxes boxes → k < length boxes → k ≤ length ls
+pub left_before : (boxes : List BoxNode) (sizes : List BoxSizes) (inner : List OwnBox) (ls : List Length) (l : Length) (k : ℕ) → AreContextBoxes boxes → k < length boxes → k ≤ length ls
     → (left_of_box boxes sizes inner (ls ++ l ∷ []) k).0 ≡ (left_of_box boxes sizes inner ls k).0
 left_before boxes sizes inner ls l zero are within known = refl
 left_before boxes sizes inner ls l (suc k) are within known =

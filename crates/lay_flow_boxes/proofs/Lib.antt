@@ -10,3 +10,4 @@ pub mod LeftSteps
 pub mod LevelsAgree
 pub mod LinesAreItems
 pub mod OneShapes
+pub mod SomeShapes

@@ -1,12 +1,17 @@
 //! The laws of the definitions.
 
-ghost use Rattle.lay_flow_boxes.specs.Laws.{OneFlowShape};
+ghost use Rattle.lay_flow_boxes.specs.Laws.{OneFlowShape, SomeFlowShape};
 ghost use Rattle.lay_flow_boxes.specs.LineItems.{BoxesInLinesAreItems, ItemsAreBoxesInLines};
 ghost use Rattle.lay_flow_boxes.specs.OneLevel.{WidthsAgreeOnLines};
 
 /// What the boxes of a formatting context are to its block flow is one thing.
 pub fn one_flow_shape()
     ensures { OneFlowShape }
+{}
+
+/// And there is such a thing.
+pub fn some_flow_shape()
+    ensures { SomeFlowShape }
 {}
 
 /// Each box that stands in the lines of a block container is an item of these, once.

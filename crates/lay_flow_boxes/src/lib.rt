@@ -2,8 +2,8 @@
 //! the used sizes of its boxes and the own boxes of the formatting contexts inside it.
 //!
 //! `flow_shape` answers by `IsFlowShape` of `specs/FlowShapes.antt`. It stands on `specs/InlineContainers.antt` (which boxes
-//! hold lines alone) and `specs/ContextBlocks.antt` (blocks, lines, solid boxes and floats). There is one such shape
-//! (`specs/Laws.antt`). `specs/LineItems.antt` says that the boxes in lines are the items of these, each once, and
+//! hold lines alone) and `specs/ContextBlocks.antt` (blocks, lines, solid boxes and floats). There is such a shape, and one
+//! alone (`specs/Laws.antt`). `specs/LineItems.antt` says that the boxes in lines are the items of these, each once, and
 //! `specs/OneLevel.antt` that preferred widths agree with the flow on which boxes hold lines.
 //!
 //! - `words`: laws of words, lines and preferred widths.
@@ -24,7 +24,8 @@ pub use asked_contents::{Asked, contents_of, is_any_asked};
 pub use box_columns::own_box_at;
 pub use context_shapes::is_anchor;
 pub use laws::{
-    boxes_in_lines_are_items, items_are_boxes_in_lines, one_flow_shape, widths_agree_on_lines,
+    boxes_in_lines_are_items, items_are_boxes_in_lines, one_flow_shape, some_flow_shape,
+    widths_agree_on_lines,
 };
 pub use place_input::{PlaceInput, height_rule_of, own_sizes};
 pub use shape::{FlowShape, flow_shape};

@@ -1,3 +1,4 @@
 pub mod WidestLines
 pub mod ChildrenBefore
 pub mod ChildLaws
+pub mod FromZero

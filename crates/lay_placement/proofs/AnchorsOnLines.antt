@@ -67,7 +67,7 @@ module _ (i : PlaceInput) (p : ContextPlaces) (has : HasPlaces i p) (c : ℕ) (w
   taken =
       let flow = has.is_flow.flow in
       let there : c < length p.shape.flow_boxes = omega (arith, within, has.is_shape.are_flow_boxes.count) in
-      let are = has.is_flow.is_flow.lines c there (ap (λ k. is_lines (block_of k).inside) kind_is) in
+      let are = has.is_flow.is_flow.by_clearances.lines c there (ap (λ k. is_lines (block_of k).inside) kind_is) in
       let rows : rows_at p.places c ≡ (lines_at flow.places c).rows = ap (λ all. rows_of all c) has.is_flow.places.lines ∙ get_or-map (λ (s : Spot). s.lines.rows) flow.places c no_spot in
       let all = all_taken (line_content_of kind) (content_of kind).left (content_of kind).right _ (floats_before p.shape.flow_boxes flow.places c) (lines_at flow.places c) are in
       ap (λ r. left_over r (length (segments_in i.face i.boxes c))) rows ∙ (sym (ap (left_over (lines_at flow.places c).rows) stretches_are) ∙ all)

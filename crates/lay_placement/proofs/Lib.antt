@@ -20,4 +20,5 @@ pub mod OnePlaces
 pub mod PieceSteps
 pub mod PlaceFacts
 pub mod RowFacts
+pub mod SomePlaces
 pub mod StandingCounts

@@ -77,25 +77,27 @@ module _ (b : BlockBox) where
 
   is_flow : IsContextFlow only flow
   is_flow = record {
-    layout = record { has_runs = has_runs; has_positions = has_positions };
-    extents_length = refl;
-    clear_edges_length = refl;
-    places_length = refl;
+    by_clearances = record {
+      layout = record { has_runs = has_runs; has_positions = has_positions };
+      extents_length = refl;
+      clear_edges_length = refl;
+      places_length = refl;
+      float = λ k side behind lt float. absurd (omega (arith, behind, lt));
+      solid = λ k behind lt solid. absurd (omega (arith, behind, lt));
+      no_place_root = refl;
+      no_place_else = λ k behind lt float solid. absurd (omega (arith, behind, lt));
+      lines = at_first (λ k. is_lines (block_at only k).inside ≡ true → AreLinesAt only layout.places.marks flow.places k) (λ is. absurd cc);
+      no_lines_else = at_first (λ k. is_lines (block_at only k).inside ≡ false → lines_at flow.places k ≡ no_lines) (λ is. refl);
+      solid_extent = λ k behind lt solid. absurd (omega (arith, behind, lt));
+      lines_extent = at_first
+          (λ k. is_lines (block_at only k).inside ≡ true → length_at layout.extents.depths k ≡ (lines_at flow.places k).end.0 -ℤ (length_at layout.places.marks k +ℤ (block_at only k).edge_top.0)) (λ is. absurd cc);
+      no_extent = λ k lt placed. at_first (λ k. length_at layout.extents.depths k ≡ pos 0) refl k lt;
+      bottom = λ i f is clears. absurd cc;
+    };
     root_clear = refl;
     float_clear = λ k side lt float. at_first (λ k. flag_at runs.clears k ≡ false) refl k lt;
     clearance = λ k behind lt float. absurd (omega (arith, behind, lt));
     no_edge = λ k lt clears. at_first (λ k. length_at layout.clear_edges k ≡ pos 0) refl k lt;
-    float = λ k side behind lt float. absurd (omega (arith, behind, lt));
-    solid = λ k behind lt solid. absurd (omega (arith, behind, lt));
-    no_place_root = refl;
-    no_place_else = λ k behind lt float solid. absurd (omega (arith, behind, lt));
-    lines = at_first (λ k. is_lines (block_at only k).inside ≡ true → AreLinesAt only layout.places.marks flow.places k) (λ is. absurd cc);
-    no_lines_else = at_first (λ k. is_lines (block_at only k).inside ≡ false → lines_at flow.places k ≡ no_lines) (λ is. refl);
-    solid_extent = λ k behind lt solid. absurd (omega (arith, behind, lt));
-    lines_extent = at_first
-        (λ k. is_lines (block_at only k).inside ≡ true → length_at layout.extents.depths k ≡ (lines_at flow.places k).end.0 -ℤ (length_at layout.places.marks k +ℤ (block_at only k).edge_top.0)) (λ is. absurd cc);
-    no_extent = λ k lt placed. at_first (λ k. length_at layout.extents.depths k ≡ pos 0) refl k lt;
-    bottom = λ i f is clears. absurd cc;
   }
 
   pub one_block_flow : IsFlowOf only only_places

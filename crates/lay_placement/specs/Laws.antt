@@ -1,5 +1,6 @@
--- A formatting context has one placement, of which relative positioning changes corners alone (CSS 2.2, 9.4.3). An anchor in
--- lines is on one of them (9.6). And what the baseline of its own box is (10.8.1 and 17.5.3), said once more without a search.
+-- A formatting context has a placement, and one alone. Relative positioning changes nothing of it but corners (CSS 2.2, 9.4.3). An
+-- anchor in lines is on one of them (9.6). And what the baseline of its own box is (10.8.1 and 17.5.3), said once more without a
+-- search.
 use Rattle.std.specs.Prelude.{ℕ, ◌≡◌, ◌<◌, Bool, true, false, List, length, map, ◌∷◌, ◌++◌, Some, None}
 use Rattle.std.specs.List.{list_any}
 use Rattle.std.specs.Option.{is_some}
@@ -27,6 +28,10 @@ use Rattle.lay_placement.specs.StaticPositions.{anchor_line}
 -- beside what it is given, a formatting context has one placement
 abbrev pub OnePlacement : Type 0
 OnePlacement = (i : PlaceInput) (p q : Placement) → AreContextBoxes i.boxes → IsPlacement i p → IsPlacement i q → p ≡ q
+
+-- and it has one
+abbrev pub SomePlacement : Type 0
+SomePlacement = (i : PlaceInput) → AreContextBoxes i.boxes → (p : Placement) × IsPlacement i p
 
 -- an anchor in a box that holds lines is on one of them
 abbrev pub AnchorsAreOnLines : Type 0

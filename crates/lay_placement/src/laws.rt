@@ -2,12 +2,22 @@
 
 ghost use Rattle.lay_placement.specs.AnchorLaws.{AnchorsAddNothingToLines};
 ghost use Rattle.lay_placement.specs.Laws.{AnchorsAreOnLines, FirstBoxGivesBaseline, FirstSeenLineGivesBaseline};
-ghost use Rattle.lay_placement.specs.Laws.{LastSeenLineGivesBaseline, OffsetsChangeCornersAlone, OnePlacement, UnseenLinesGiveNone};
+ghost use Rattle.lay_placement.specs.Laws.{LastSeenLineGivesBaseline, OffsetsChangeCornersAlone, OnePlacement};
+ghost use Rattle.lay_placement.specs.Laws.{SomePlacement, UnseenLinesGiveNone};
+
+use lay_flow::blocks::some_flow_of;
 
 /// The placement of a formatting context is the only one beside what it is given.
 pub fn one_placement()
     ensures { OnePlacement }
 {}
+
+/// And it has one.
+pub fn some_placement()
+    ensures { SomePlacement }
+{
+    some_flow_of();
+}
 
 /// The baseline of lines is that of one which is seen, with none behind it that is; without a seen line there is none.
 pub fn last_seen_line_gives_baseline()

@@ -25,6 +25,6 @@ mod standings;
 
 pub use laws::{
     anchors_add_nothing_to_lines, anchors_are_on_lines, first_baseline_is_first,
-    last_seen_line_gives_baseline, offsets_change_corners_alone, one_placement,
+    last_seen_line_gives_baseline, offsets_change_corners_alone, one_placement, some_placement,
 };
 pub use placing::placement;

@@ -2,6 +2,7 @@ pub mod ColumnEntries
 pub mod NeedSteps
 pub mod TrackSteps
 pub mod OneTableRows
+pub mod SomeTable
 pub mod SomeTableRows
 pub mod ColumnSteps
 pub mod GroupSteps

@@ -1,4 +1,4 @@
--- A table has one placement.
+-- A table has a placement, and one alone.
 use Rattle.std.specs.Prelude.{◌≡◌}
 use Rattle.lay_placements.specs.Placements.{Placement}
 use Rattle.lay_table.specs.TableInputs.{TableInput}
@@ -6,3 +6,6 @@ use Rattle.lay_table.specs.TablePlacements.{IsTablePlacement}
 
 abbrev pub OneTablePlacement : Type 0
 OneTablePlacement = (i : TableInput) (p q : Placement) → IsTablePlacement i p → IsTablePlacement i q → p ≡ q
+
+abbrev pub SomeTablePlacement : Type 0
+SomeTablePlacement = (i : TableInput) → (p : Placement) × IsTablePlacement i p

@@ -34,7 +34,7 @@ mod wrapper_flow;
 pub use cell_align::CellAlign;
 pub use cells::{cell_of, own_box_at, sizes_at, table_sizes};
 pub use groups::OuterGroups;
-pub use laws::one_table_placement;
+pub use laws::{one_table_placement, some_table_placement};
 pub use pieces::Extent;
 pub use placing::table_placement;
 pub use row_heights::{TableRows, cell_height, table_content, table_rows};

@@ -159,6 +159,10 @@ module _ (boxes : List FlowBox) (tree : IsTree (parents_of boxes)) (some : 0 < l
         height = λ k lt. all.height k lt ∙ next.height k lt;
       }
 
+-- the positions by these runs, extents and clear edges
+pub positions_in : (boxes : List FlowBox) (y : BlockLayout) → IsTree (parents_of boxes) → 0 < length boxes → (s : Positions) × HasPositions boxes (record y { places = s })
+positions_in boxes y tree some = (place_turn boxes tree some y (suc (place_last boxes tree some y)), positions_there boxes tree some y)
+
 -- the layout with these extents and clear edges
 pub layout_there : (boxes : List FlowBox) (extents : Extents) (clear_edges : List Length) (clears : List Bool) → IsTree (parents_of boxes) → 0 < length boxes → length clears ≡ length boxes
     → (r : Runs) × (s : Positions) × (r.clears ≡ clears) × IsBlockLayout boxes (record { extents = extents; clear_edges = clear_edges; runs = r; places = s })

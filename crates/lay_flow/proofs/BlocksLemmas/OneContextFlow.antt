@@ -33,35 +33,35 @@ module _ (boxes : List FlowBox) (tree : IsTree (parents_of boxes)) (some : 0 < l
     (f g : Flow) (is : IsContextFlow boxes f) (also : IsContextFlow boxes g) where
   record AreAlike (p m : ℕ) : Type 0 where
     pub first : ℕ
-    pub alike : AlikeAt boxes tree f.layout is.layout g.layout also.layout first p m
+    pub alike : AlikeAt boxes tree f.layout is.by_clearances.layout g.layout also.by_clearances.layout first p m
 
   opens : (k : ℕ) → 0 < k → k < length boxes → AreAlike (parent_at boxes k) k → AreAlike k (k + 1)
   opens k positive within was =
-      let next = opens_alike boxes tree f.layout is.layout g.layout also.layout was.first k positive within was.alike
+      let next = opens_alike boxes tree f.layout is.by_clearances.layout g.layout also.by_clearances.layout was.first k positive within was.alike
       (one_clear boxes tree some are f g is also was.first k positive within was.alike) (one_edge boxes tree some are f g is also was.first k positive within was.alike) in
       record { first = next.next; alike = next.alike }
 
   closes : (p m : ℕ) → 0 < p → p < m → m ≤ length boxes → (m < length boxes → parent_at boxes m < p) → IsAround boxes p m → AreAlike p m → AreAlike (parent_at boxes p) m
   closes p m positive lt within ends around was =
       let inner : p < length boxes = omega (arith, lt, within) in
-      let next = closes_alike boxes tree f.layout is.layout g.layout also.layout was.first p m positive was.alike ends
+      let next = closes_alike boxes tree f.layout is.by_clearances.layout g.layout also.by_clearances.layout was.first p m positive was.alike ends
       (λ marks. true_or (is_placed (block_at boxes p).inside) (length_at f.layout.extents.depths p ≡ length_at g.layout.extents.depths p)
-      (λ placed. extent_placed boxes tree are f g is also p inner placed (λ j low. marks j (omega (arith, low, lt))))
-      (λ flows. extent_other boxes tree are f g is also p inner flows))
-      (λ may. extent_other boxes tree are f g is also p inner (joins_flow (block_at boxes p) may)) in
+      (λ placed. extent_placed boxes tree are f g is.by_clearances also.by_clearances p inner placed (λ j low. marks j (omega (arith, low, lt))))
+      (λ flows. extent_other boxes tree are f g is.by_clearances also.by_clearances p inner flows))
+      (λ may. extent_other boxes tree are f g is.by_clearances also.by_clearances p inner (joins_flow (block_at boxes p) may)) in
       record { first = next.next; alike = next.alike }
 
   start_root : (y : BlockLayout) → start_before boxes y 0 1 ≡ length_at y.places.marks 0 +ℤ (block_at boxes 0).edge_top.0
   start_root y = refl
 
   mark_root : length_at f.layout.places.marks 0 ≡ length_at g.layout.places.marks 0
-  mark_root = is.layout.has_positions.mark 0 some ∙ sym (also.layout.has_positions.mark 0 some)
+  mark_root = is.by_clearances.layout.has_positions.mark 0 some ∙ sym (also.by_clearances.layout.has_positions.mark 0 some)
 
   at_first : AreAlike 0 1
   at_first = record {
     first = 1;
     alike = record {
-      gathered = begins boxes tree f.layout.runs is.layout.has_runs some;
+      gathered = begins boxes tree f.layout.runs is.by_clearances.layout.has_runs some;
       clears = λ j lt. let e : j ≡ 0 = omega (arith, lt) in subst (λ (j : ℕ). flag_at f.layout.runs.clears j ≡ flag_at g.layout.runs.clears j) (sym e) (is.root_clear ∙ sym also.root_clear);
       edges = λ j lt c. let e : j ≡ 0 = omega (arith, lt) in absurd (true_false (flag_at f.layout.runs.clears 0) (ap (flag_at f.layout.runs.clears) (sym e) ∙ c) is.root_clear);
       mark = λ j lt. let e : j ≡ 0 = omega (arith, lt) in subst (λ (j : ℕ). length_at f.layout.places.marks j ≡ length_at g.layout.places.marks j) (sym e) mark_root;
@@ -77,36 +77,36 @@ module _ (boxes : List FlowBox) (tree : IsTree (parents_of boxes)) (some : 0 < l
   marks_all : (j : ℕ) → j < length boxes → length_at f.layout.places.marks j ≡ length_at g.layout.places.marks j
   marks_all =
       let at : IsPlace boxes 0 (length boxes) = record { parent = some; within = omega arith; inside = λ i low high. omega arith; next = λ w. absurd (omega (arith, w)) } in
-      marks_same boxes tree f.layout is.layout g.layout also.layout at_last.first 0 (length boxes) at at_last.alike
+      marks_same boxes tree f.layout is.by_clearances.layout g.layout also.by_clearances.layout at_last.first 0 (length boxes) at at_last.alike
       (run_before boxes f.layout.runs 0 (length boxes)) (λ c from above inside. let least = at_last.alike.gathered.least in absurd (omega (arith, from, above, least)))
 
   places_same : f.places ≡ g.places
-  places_same = ext_get_or no_spot f.places g.places (is.places_length ∙ sym also.places_length)
-      (λ k lt. let l = is.places_length in places_to boxes tree are f g is also (length boxes) (omega arith) marks_all k (omega (arith, l, lt)))
+  places_same = ext_get_or no_spot f.places g.places (is.by_clearances.places_length ∙ sym also.by_clearances.places_length)
+      (λ k lt. let l = is.by_clearances.places_length in places_to boxes tree are f g is.by_clearances also.by_clearances (length boxes) (omega arith) marks_all k (omega (arith, l, lt)))
 
   clears_same : f.layout.runs.clears ≡ g.layout.runs.clears
-  clears_same = ext_get_or false f.layout.runs.clears g.layout.runs.clears (is.layout.has_runs.clears_length ∙ sym also.layout.has_runs.clears_length)
-      (λ k lt. let l = is.layout.has_runs.clears_length in at_last.alike.clears k (omega (arith, l, lt)))
+  clears_same = ext_get_or false f.layout.runs.clears g.layout.runs.clears (is.by_clearances.layout.has_runs.clears_length ∙ sym also.by_clearances.layout.has_runs.clears_length)
+      (λ k lt. let l = is.by_clearances.layout.has_runs.clears_length in at_last.alike.clears k (omega (arith, l, lt)))
 
   edges_same : f.layout.clear_edges ≡ g.layout.clear_edges
-  edges_same = same_lengths f.layout.clear_edges g.layout.clear_edges (is.clear_edges_length ∙ sym also.clear_edges_length) (λ k lt.
-      let l = is.clear_edges_length in
+  edges_same = same_lengths f.layout.clear_edges g.layout.clear_edges (is.by_clearances.clear_edges_length ∙ sym also.by_clearances.clear_edges_length) (λ k lt.
+      let l = is.by_clearances.clear_edges_length in
       let there : k < length boxes = omega (arith, l, lt) in
       true_or (flag_at f.layout.runs.clears k) (length_at f.layout.clear_edges k ≡ length_at g.layout.clear_edges k)
       (λ cleared. at_last.alike.edges k there cleared)
       (λ unclear. is.no_edge k there unclear ∙ sym (also.no_edge k there (sym (at_last.alike.clears k there) ∙ unclear))))
 
   floats_same : f.layout.extents.floats ≡ g.layout.extents.floats
-  floats_same = one_clear_edge_lem (floats_before boxes f.places (length boxes)) clear_both f.layout.extents.floats g.layout.extents.floats is.bottom
-      (subst (λ (ps : List Spot). IsClearEdge (floats_before boxes ps (length boxes)) clear_both g.layout.extents.floats) (sym places_same) also.bottom)
+  floats_same = one_clear_edge_lem (floats_before boxes f.places (length boxes)) clear_both f.layout.extents.floats g.layout.extents.floats is.by_clearances.bottom
+      (subst (λ (ps : List Spot). IsClearEdge (floats_before boxes ps (length boxes)) clear_both g.layout.extents.floats) (sym places_same) also.by_clearances.bottom)
 
   depths_same : f.layout.extents.depths ≡ g.layout.extents.depths
-  depths_same = same_lengths f.layout.extents.depths g.layout.extents.depths (is.extents_length ∙ sym also.extents_length) (λ k lt.
-      let l = is.extents_length in
+  depths_same = same_lengths f.layout.extents.depths g.layout.extents.depths (is.by_clearances.extents_length ∙ sym also.by_clearances.extents_length) (λ k lt.
+      let l = is.by_clearances.extents_length in
       let there : k < length boxes = omega (arith, l, lt) in
       true_or (is_placed (block_at boxes k).inside) (length_at f.layout.extents.depths k ≡ length_at g.layout.extents.depths k)
-      (λ placed. extent_placed boxes tree are f g is also k there placed (λ j low. marks_all j (omega (arith, low, there))))
-      (λ flows. extent_other boxes tree are f g is also k there flows))
+      (λ placed. extent_placed boxes tree are f g is.by_clearances also.by_clearances k there placed (λ j low. marks_all j (omega (arith, low, there))))
+      (λ flows. extent_other boxes tree are f g is.by_clearances also.by_clearances k there flows))
 
   extents_same : f.layout.extents ≡ g.layout.extents
   extents_same = let s = depths_same in let b = floats_same in λ i. record { depths = s i; floats = b i }
@@ -114,7 +114,7 @@ module _ (boxes : List FlowBox) (tree : IsTree (parents_of boxes)) (some : 0 < l
   flows_same : f ≡ g
   flows_same =
       let p = places_same in
-      let y = one_block_layout_lem boxes f.layout g.layout tree some extents_same edges_same clears_same is.layout also.layout in
+      let y = one_block_layout_lem boxes f.layout g.layout tree some extents_same edges_same clears_same is.by_clearances.layout also.by_clearances.layout in
       λ i. record { layout = y i; places = p i }
 
 pub one_context_flow_lem : OneContextFlow

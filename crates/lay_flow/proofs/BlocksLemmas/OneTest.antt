@@ -1,6 +1,6 @@
 -- The floats of the hypothetical assignment and those of the flow decide alike whether a box has clearance: a float to clear
 -- has its mark in the run of the box, and then both do, or it stands by marks that both have.
-use Rattle.std.proofs.Common.{◌≡◌, true, false, ◌↔◌, ℕ, zero, suc, ◌+◌, ◌<◌, ◌≤◌, ℤ, ◌+ℤ◌, List, ◌++◌, length, refl, sym, ap, ◌∙◌, arith, inl, inr, Option, Some, None, subst}
+use Rattle.std.proofs.Common.{◌≡◌, true, false, ◌↔◌, ℕ, zero, suc, ◌<◌, ◌≤◌, ℤ, ◌+ℤ◌, List, ◌++◌, length, refl, sym, ap, ◌∙◌, arith, inl, inr, Option, Some, None, subst}
 use Rattle.std.proofs.lemmas.Bool.{cases_lt}
 use Rattle.std.proofs.lemmas.Option.{none-some}
 use Rattle.lay_units.specs.declared.length.Unit.{Unit as Length}
@@ -27,74 +27,39 @@ use Rattle.lay_flow.specs.Blocks.Clearance.{AreFloatPlaces, IsHypothetical, Need
 use Rattle.lay_flow.specs.Blocks.ContextFlow.{Flow, IsContextFlow}
 use Rattle.lay_flow.specs.Blocks.FlowBoxes.{IsFlowTree, is_in_lines}
 use Rattle.lay_flow.specs.Blocks.Laws.{OneTest}
-use Rattle.lay_flow.proofs.BlocksLemmas.AlikeSteps.{AlikeAt, opens_alike}
-use Rattle.lay_flow.proofs.BlocksLemmas.AlikeClosings.{closes_alike}
+use Rattle.lay_flow.proofs.BlocksLemmas.AlikeWalks.{AreAlike, SameClearances, SameDepths, alike_to}
 use Rattle.lay_flow.proofs.BlocksLemmas.BoxTrees.{parent_before}
 use Rattle.lay_flow.proofs.BlocksLemmas.FloatLists.{SameCleared, one_edge_to_clear}
 use Rattle.lay_flow.proofs.BlocksLemmas.FlowBoxFacts.{root_flows}
-use Rattle.lay_flow.proofs.BlocksLemmas.GatheredRuns.{begins}
 use Rattle.lay_flow.proofs.BlocksLemmas.MarginWalk.{place_before}
-use Rattle.lay_flow.proofs.BlocksLemmas.MarginWalk.{walk_to}
-use Rattle.lay_flow.proofs.BlocksLemmas.OneClearance.{NoneWaits, no_need, some_waits}
+use Rattle.lay_flow.proofs.BlocksLemmas.WaitingFloats.{NoneWaits, no_need, some_waits}
 use Rattle.lay_flow.proofs.BlocksLemmas.PlacesAgree.{same_place}
 use Rattle.lay_flow.proofs.BlocksLemmas.RunFacts.{lead_goes_on}
 use Rattle.lay_flow.proofs.BlocksLemmas.RunsUpTo.{run_up_to}
 use Rattle.lay_flow.proofs.BlocksLemmas.Truths.{true_false, true_or}
-use Rattle.lay_flow.specs.Blocks.MarginPlace.{IsAround}
 
 module _ (boxes : List FlowBox) (are : IsFlowTree boxes) (f : Flow) (is : IsContextFlow boxes f) (k : ℕ) (positive : 0 < k) (within : k < length boxes)
     (without : BlockLayout) (h : IsHypothetical boxes f.layout k without) where
-  tree : IsTree (parents_of boxes)
+  abbrev tree : IsTree (parents_of boxes)
   tree = are.tree
 
   depth : (j : ℕ) → length_at f.layout.extents.depths j ≡ length_at without.extents.depths j
   depth j = sym (ap (λ (e : Extents). length_at e.depths j) h.extents_are)
 
-  record AreAlike (p m : ℕ) : Type 0 where
-    pub first : ℕ
-    pub alike : AlikeAt boxes tree f.layout is.layout without h.is_layout first p m
+  same : SameClearances f.layout without k
+  same = record { clears = λ j lt. sym (h.earlier j lt); edges = λ j lt c. sym (ap (λ (es : List Length). length_at es j) h.edges_are) }
 
-  abbrev UpTo : ℕ → ℕ → Type 0
-  UpTo p m = m ≤ k → AreAlike p m
+  depths : SameDepths boxes f.layout without
+  depths = record { placed = λ p inner placed marks. depth p; other = λ p inner flows. depth p }
 
-  opened : (j : ℕ) → 0 < j → j < length boxes → UpTo (parent_at boxes j) j → UpTo j (j + 1)
-  opened j low inner before le =
-      let was = before (omega (arith, le)) in
-      let next = opens_alike boxes tree f.layout is.layout without h.is_layout was.first j low inner was.alike
-      (sym (h.earlier j (omega (arith, le)))) (λ c. sym (ap (λ (es : List Length). length_at es j) h.edges_are)) in
-      record { first = next.next; alike = next.alike }
-
-  closed : (p m : ℕ) → 0 < p → p < m → m ≤ length boxes → (m < length boxes → parent_at boxes m < p) → IsAround boxes p m → UpTo p m → UpTo (parent_at boxes p) m
-  closed p m low lt inner ends around before le =
-      let was = before le in
-      let next = closes_alike boxes tree f.layout is.layout without h.is_layout was.first p m low was.alike ends (λ marks. depth p) (λ may. depth p) in
-      record { first = next.next; alike = next.alike }
-
-  begun : UpTo 0 1
-  begun le = record {
-    first = 1;
-    alike = record {
-      gathered = begins boxes tree f.layout.runs is.layout.has_runs are.some;
-      clears = λ j lt. sym (h.earlier j (omega (arith, lt, le)));
-      edges = λ j lt c. sym (ap (λ (es : List Length). length_at es j) h.edges_are);
-      mark = λ j lt. let e : j ≡ 0 = omega (arith, lt) in subst (λ (j : ℕ). length_at f.layout.places.marks j ≡ length_at without.places.marks j) (sym e) mark_root;
-      closed = λ j low high. absurd (omega (arith, low, high));
-      gone = λ j i low high lower. absurd (omega (arith, low, high));
-      start = inl (ap (λ (v : ℤ). v +ℤ (block_at boxes 0).edge_top.0) mark_root);
-    };
-  }
-    where
-      mark_root : length_at f.layout.places.marks 0 ≡ length_at without.places.marks 0
-      mark_root = is.layout.has_positions.mark 0 are.some ∙ sym (h.is_layout.has_positions.mark 0 are.some)
-
-  here : AreAlike (parent_at boxes k) k
-  here = walk_to boxes tree UpTo closed opened begun (parent_at boxes k) k (place_before boxes tree k positive within) (omega arith)
+  here : AreAlike boxes tree are.some f.layout is.by_clearances.layout without h.is_layout k same depths (parent_at boxes k) k
+  here = alike_to boxes tree are.some f.layout is.by_clearances.layout without h.is_layout k same depths (parent_at boxes k) k (place_before boxes tree k positive within) (omega arith)
 
   -- the run before the box is that of the flow
   run_without : run_at without.runs.before_tops k ≡ run_before boxes f.layout.runs (parent_at boxes k) k
   run_without =
       lead_goes_on boxes without.runs h.is_layout.has_runs k positive within (h.later k (omega arith))
-      ∙ run_up_to boxes tree without.runs f.layout.runs h.is_layout.has_runs is.layout.has_runs k h.earlier (parent_at boxes k) k (place_before boxes tree k positive within) (omega arith)
+      ∙ run_up_to boxes tree without.runs f.layout.runs h.is_layout.has_runs is.by_clearances.layout.has_runs k h.earlier (parent_at boxes k) k (place_before boxes tree k positive within) (omega arith)
 
   module _ (places : List Spot) (by : AreFloatPlaces boxes without.places.marks places k) where
     -- floats have the same places, and lines are the same
@@ -136,7 +101,7 @@ module _ (boxes : List FlowBox) (are : IsFlowTree boxes) (f : Flow) (is : IsCont
         let mark = here.alike.mark n few in
         let over = here.alike.mark (parent_at boxes n) (omega (arith, up, few)) in
         let top : ceiling boxes f.layout.places.marks n ≡ ceiling boxes without.places.marks n = rw (mark, over) refl in
-        let a = is.float n side low inner e in
+        let a = is.by_clearances.float n side low inner e in
         let c = subst (λ (fs : List Placed). IsFloatPlace fs (float_request (shape_at boxes n) side (ceiling boxes without.places.marks n)) (place_at places n).x.0 (place_at places n).y.0) (sym (floats_to n before)) (by.float n side low lt e) in
         let d = subst (λ (v : ℤ). IsFloatPlace (floats_before boxes f.places n) (float_request (shape_at boxes n) side v) (place_at places n).x.0 (place_at places n).y.0) (sym top) c in
         let both = one_float_place_lem (floats_before boxes f.places n) (float_request (shape_at boxes n) side (ceiling boxes f.layout.places.marks n)) _ _ _ _ a d in
@@ -150,7 +115,7 @@ module _ (boxes : List FlowBox) (are : IsFlowTree boxes) (f : Flow) (is : IsCont
         let mark = here.alike.mark n few in
         let c = subst (λ (v : ℤ). AreLines (line_content_of kind) (content_of kind).left (content_of kind).right (v +ℤ (block_at boxes n).edge_top.0) (floats_before boxes places n) (lines_at places n)) (sym mark) (by.lines n lt lines) in
         let d = subst (λ (fs : List Placed). AreLines (line_content_of kind) (content_of kind).left (content_of kind).right (length_at f.layout.places.marks n +ℤ (block_at boxes n).edge_top.0) fs (lines_at places n)) (sym (floats_to n before)) c in
-        one_line_list (line_content_of kind) (content_of kind).left (content_of kind).right _ _ _ _ (is.lines n inner lines) d
+        one_line_list (line_content_of kind) (content_of kind).left (content_of kind).right _ _ _ _ (is.by_clearances.lines n inner lines) d
 
     same_to : (n : ℕ) → n ≤ k → n ≤ here.first → SameFloats n
     same_to zero le few = record { float = λ j side lt e. absurd (omega (arith, lt)); lines = λ j lt e. absurd (omega (arith, lt)) }
@@ -181,7 +146,7 @@ module _ (boxes : List FlowBox) (are : IsFlowTree boxes) (f : Flow) (is : IsCont
       lines = λ j lt e. elim (cases_lt j here.first) [
         | inl low ↦ (let most = here.alike.gathered.most in sym ((same_to here.first most (omega arith)).lines j low e))
         | inr from ↦ absurd (true_false (is_placed (block_at boxes j).inside) (lines_placed (block_at boxes j).inside e)
-            (placed_in_run boxes are f.layout.runs is.layout.has_runs here.first k positive within out here.alike.gathered j from lt))
+            (placed_in_run boxes are f.layout.runs is.by_clearances.layout.has_runs here.first k positive within out here.alike.gathered j from lt))
       ];
     }
 

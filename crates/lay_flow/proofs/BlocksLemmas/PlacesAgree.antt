@@ -21,14 +21,14 @@ use Rattle.lay_flow.specs.Blocks.Lengths.{length_at}
 use Rattle.lay_flow.specs.Blocks.MarginRuns.{block_at}
 use Rattle.lay_flow.specs.Blocks.BlockPositions.{is_lines, is_placed, is_solid}
 use Rattle.lay_flow.specs.Blocks.BlockFloats.{content_of, line_content_of, lines_at, spot_at, shape_at, place_at, floats_before, float_request, solid_request, ceiling}
-use Rattle.lay_flow.specs.Blocks.ContextFlow.{Flow, IsContextFlow}
+use Rattle.lay_flow.specs.Blocks.ContextFlow.{Flow, IsFlowByClearances}
 use Rattle.lay_flow.proofs.BlocksLemmas.Lengths.{same_length}
 use Rattle.lay_flow.proofs.BlocksLemmas.FloatLists.{floats_same}
 
 pub same_place : (a b : Place) → a.x.0 ≡ b.x.0 → a.y.0 ≡ b.y.0 → a ≡ b
 same_place a b e f = let g = same_length a.x b.x e in let h = same_length a.y b.y f in λ i. record { x = g i; y = h i }
 
-module _ (boxes : List FlowBox) (tree : IsTree (parents_of boxes)) (are : IsFlowTree boxes) (f g : Flow) (is : IsContextFlow boxes f) (also : IsContextFlow boxes g) where
+module _ (boxes : List FlowBox) (tree : IsTree (parents_of boxes)) (are : IsFlowTree boxes) (f g : Flow) (is : IsFlowByClearances boxes f) (also : IsFlowByClearances boxes g) where
   -- floats and solid boxes stand by their marks
   abbrev pub SameMarks : ℕ → Type 0
   SameMarks n = (j : ℕ) → j < n → length_at f.layout.places.marks j ≡ length_at g.layout.places.marks j

@@ -22,16 +22,12 @@ pub record Flow : Type 0 where
   pub layout : BlockLayout
   pub places : List Spot
 
-pub record IsContextFlow (boxes : List FlowBox) (f : Flow) : Type 0 where
+-- the flow of the boxes where these have clearance and stand at these clear edges
+pub record IsFlowByClearances (boxes : List FlowBox) (f : Flow) : Type 0 where
   pub layout : IsBlockLayout boxes f.layout
   pub extents_length : length f.layout.extents.depths ≡ length boxes
   pub clear_edges_length : length f.layout.clear_edges ≡ length boxes
   pub places_length : length f.places ≡ length boxes
-  -- the context's own box has no clearance, and a float has none that parts margins
-  pub root_clear : flag_at f.layout.runs.clears 0 ≡ false
-  pub float_clear : (k : ℕ) (side : Side) → k < length boxes → (shape_at boxes k).float ≡ Some side → flag_at f.layout.runs.clears k ≡ false
-  pub clearance : (k : ℕ) → 0 < k → k < length boxes → (shape_at boxes k).float ≡ None → HasClearance boxes f.layout f.places k
-  pub no_edge : (k : ℕ) → k < length boxes → flag_at f.layout.runs.clears k ≡ false → length_at f.layout.clear_edges k ≡ pos 0
   -- the places of floats and of solid boxes
   pub float : (k : ℕ) (side : Side) → 0 < k → k < length boxes → (shape_at boxes k).float ≡ Some side
       → IsFloatPlace (floats_before boxes f.places k) (float_request (shape_at boxes k) side (ceiling boxes f.layout.places.marks k))
@@ -55,6 +51,14 @@ pub record IsContextFlow (boxes : List FlowBox) (f : Flow) : Type 0 where
   pub no_extent : (k : ℕ) → k < length boxes → is_placed (block_at boxes k).inside ≡ false → length_at f.layout.extents.depths k ≡ pos 0
   -- the context's own box reaches round all floats
   pub bottom : IsClearEdge (floats_before boxes f.places (length boxes)) clear_both f.layout.extents.floats
+
+pub record IsContextFlow (boxes : List FlowBox) (f : Flow) : Type 0 where
+  pub by_clearances : IsFlowByClearances boxes f
+  -- the context's own box has no clearance, and a float has none that parts margins
+  pub root_clear : flag_at f.layout.runs.clears 0 ≡ false
+  pub float_clear : (k : ℕ) (side : Side) → k < length boxes → (shape_at boxes k).float ≡ Some side → flag_at f.layout.runs.clears k ≡ false
+  pub clearance : (k : ℕ) → 0 < k → k < length boxes → (shape_at boxes k).float ≡ None → HasClearance boxes f.layout f.places k
+  pub no_edge : (k : ℕ) → k < length boxes → flag_at f.layout.runs.clears k ≡ false → length_at f.layout.clear_edges k ≡ pos 0
 
 -- these are the top border edges and the heights of the border boxes, and the spots
 pub record ArePlacesInContext (boxes : List FlowBox) (tops heights : List Length) (places : List Spot) : Type 0 where

@@ -1,4 +1,4 @@
--- The blocks of a context have one layout, and it has one flow.
+-- The blocks of a context have a layout, and it has a flow, each one alone.
 use Rattle.std.specs.Prelude.{ℕ, ◌≡◌, ◌<◌, ◌↔◌, Bool, true, false, List, length, Option}
 use Rattle.lay_flow.specs.Blocks.Adjoining.{RunsAdjoin}
 use Rattle.lay_flow.specs.Blocks.MarginRuns.{Runs, HasRuns, block_at, may_collapse_through}
@@ -11,7 +11,7 @@ use Rattle.lay_floats.specs.ClearEdge.{IsClearEdge}
 use Rattle.lay_flow.specs.Blocks.FlowBoxes.{IsFlowTree}
 use Rattle.lay_flow.specs.Blocks.Clearance.{AreFloatPlaces, IsHypothetical, NeedsClearance}
 use Rattle.lay_flow.specs.Blocks.BlockFloats.{Spot, floats_before, shape_at}
-use Rattle.lay_flow.specs.Blocks.ContextFlow.{Flow, IsContextFlow}
+use Rattle.lay_flow.specs.Blocks.ContextFlow.{Flow, IsContextFlow, IsFlowByClearances}
 use Rattle.lay_flow.specs.Blocks.FlowPlaces.{FlowPlacesValue, IsFlowOf}
 use Rattle.lay_flow.specs.Blocks.BlockLayout.{BlockLayout, Extents}
 use Rattle.lay_flow.specs.Blocks.BlockPositions.{IsBlockLayout}
@@ -27,14 +27,26 @@ SomeBlockLayout = (boxes : List FlowBox) (extents : Extents) (clear_edges : List
     → IsTree (parents_of boxes) → 0 < length boxes → length clears ≡ length boxes
     → (y : BlockLayout) × (y.extents ≡ extents) × (y.clear_edges ≡ clear_edges) × (y.runs.clears ≡ clears) × IsBlockLayout boxes y
 
+-- a context has a flow by its clearances, whichever boxes have clearance and wherever their clear edges are
+abbrev pub SomeFlowByClearances : Type 0
+SomeFlowByClearances = (boxes : List FlowBox) (clears : List Bool) (clear_edges : List Length) → IsFlowTree boxes
+    → length clears ≡ length boxes → length clear_edges ≡ length boxes
+    → (f : Flow) × (f.layout.runs.clears ≡ clears) × (f.layout.clear_edges ≡ clear_edges) × IsFlowByClearances boxes f
+
 -- a context has one flow
 abbrev pub OneContextFlow : Type 0
 OneContextFlow = (boxes : List FlowBox) (f g : Flow) → IsFlowTree boxes → IsContextFlow boxes f → IsContextFlow boxes g → f ≡ g
+
+abbrev pub SomeContextFlow : Type 0
+SomeContextFlow = (boxes : List FlowBox) → IsFlowTree boxes → (f : Flow) × IsContextFlow boxes f
 
 -- and its boxes have one place each
 abbrev pub OneFlowOf : Type 0
 OneFlowOf = (boxes : List FlowBox) (out other : FlowPlacesValue) → IsFlowTree boxes → IsFlowOf boxes out
     → IsFlowOf boxes other → out ≡ other
+
+abbrev pub SomeFlowOf : Type 0
+SomeFlowOf = (boxes : List FlowBox) → IsFlowTree boxes → (out : FlowPlacesValue) × IsFlowOf boxes out
 
 -- a box has one hypothetical layout and no other
 abbrev pub OneHypothetical : Type 0

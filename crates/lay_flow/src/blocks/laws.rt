@@ -2,6 +2,9 @@
 
 ghost use Rattle.lay_flow.specs.Blocks.Laws.{AdjoiningRuns, CollapsedThrough, OneBlockLayout, OneContextFlow};
 ghost use Rattle.lay_flow.specs.Blocks.Laws.{OneFlowOf, OneHypothetical, SomeBlockLayout, SomeHypothetical, OneTest};
+ghost use Rattle.lay_flow.specs.Blocks.Laws.{SomeContextFlow, SomeFlowByClearances, SomeFlowOf};
+
+use lay_lines::some_lines;
 
 /// The layout of a context's blocks is the only one, where the boxes with clearance and their clear edges are given.
 pub fn one_block_layout()
@@ -12,6 +15,27 @@ pub fn one_block_layout()
 pub fn some_block_layout()
     ensures { SomeBlockLayout }
 {}
+
+/// A context has a flow, whichever boxes have clearance and wherever their clear edges are.
+pub fn some_flow_by_clearances()
+    ensures { SomeFlowByClearances }
+{
+    some_lines();
+}
+
+/// The boxes of a context have a flow.
+pub fn some_context_flow()
+    ensures { SomeContextFlow }
+{
+    some_flow_by_clearances();
+}
+
+/// The boxes of a context have places.
+pub fn some_flow_of()
+    ensures { SomeFlowOf }
+{
+    some_context_flow();
+}
 
 /// The flow of a context is the only one.
 pub fn one_context_flow()

@@ -111,9 +111,9 @@ beyond_exist bounds space =
     (listed f 0 (length bounds), record { as_many = listed_length f 0 (length bounds); each = λ i less. listed_at f (length bounds) i less })
 
 pub columns_have_widths_lem : ColumnsHaveWidths
-columns_have_widths_lem bounds space fits least = by_lt_z (sum_max bounds) space
+columns_have_widths_lem bounds space least = by_lt_z (sum_max bounds) space
     (λ more. let h = beyond_exist bounds space in
     (h.0, record { within = λ within. absurd (omega (arith, ints, more, within)); beyond = λ again. h.1 }))
     (λ within. let h = go_on bounds space (beyond_minimums bounds space - shares_from bounds space 0) 0 (length bounds) [] (omega arith)
-    (shared_begin bounds space fits least within) in
+    (shared_begin bounds space least within) in
     (h.0, record { within = λ again. h.1; beyond = λ more. absurd (omega (arith, ints, more, within)) }))

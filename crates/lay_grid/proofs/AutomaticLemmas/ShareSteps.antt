@@ -47,6 +47,18 @@ room_below [] i d less = absurd (omega (arith, less))
 room_below (bound ∷ bounds) zero d less = omega arith
 room_below (bound ∷ bounds) (suc i) d less = let h = room_below bounds i d (omega (arith, less)) in omega (arith, h)
 
+-- and where a maximum is below its minimum there is no less
+pub at_least : (z : ℤ) → z ≤ℤ pos (from_zero z)
+at_least (pos n) = omega (arith, ints)
+at_least (negsuc n) = omega (arith, ints)
+
+pub rooms_hold : (bounds : List Bound) → (sum_max bounds -ℤ sum_min bounds) ≤ℤ pos (sum_room bounds)
+rooms_hold [] = omega (arith, ints)
+rooms_hold (bound ∷ bounds) =
+    let a = at_least (bound.max.0 -ℤ bound.min.0) in
+    let h = rooms_hold bounds in
+    omega (arith, ints, a, h)
+
 pub minimums_up : (bounds : List Bound) → All BoundFits bounds → pos 0 ≤ℤ sum_min bounds
 minimums_up [] fits = omega (arith, ints)
 minimums_up (bound ∷ bounds) fits =
@@ -116,12 +128,12 @@ shares_enough rest rooms bounds e within = from (cases_lt 0 rooms)
     from (inr none) = omega (arith, none, within)
 
 -- before the first column
-pub shared_begin : (bounds : List Bound) (space : ℤ) → All BoundFits bounds → sum_min bounds ≤ℤ space → space ≤ℤ sum_max bounds
+pub shared_begin : (bounds : List Bound) (space : ℤ) → sum_min bounds ≤ℤ space → space ≤ℤ sum_max bounds
     → SharedTo bounds space (beyond_minimums bounds space - shares_from bounds space 0) 0 []
-shared_begin bounds space fits least within =
+shared_begin bounds space least within =
     let rest = beyond_minimums bounds space in
     let r : pos rest ≡ (space -ℤ sum_min bounds) = from_zero_is (space -ℤ sum_min bounds) (omega (arith, ints, least)) in
-    let q = rooms_are bounds fits in
+    let q = rooms_hold bounds in
     let s : shares_from bounds space 0 ≤ rest = shares_most rest (sum_room bounds) bounds refl in
     let m : rest ≤ shares_from bounds space 0 + sum_most bounds = shares_enough rest (sum_room bounds) bounds refl (omega (arith, ints, r, q, within)) in
     record {
@@ -181,15 +193,15 @@ shared_more bounds space more unit n widths w less is width to = record {
 
 -- the same with what a loop has worked out
 pub shared_begins : (bounds : List Bound) (space : ℤ) (rest rooms taken : ℕ) (widths : List Unit) → rest ≡ beyond_minimums bounds space
-    → rooms ≡ sum_room bounds → taken ≡ sum_shares rest rooms bounds → widths ≡ [] → All BoundFits bounds → sum_min bounds ≤ℤ space
+    → rooms ≡ sum_room bounds → taken ≡ sum_shares rest rooms bounds → widths ≡ [] → sum_min bounds ≤ℤ space
     → space ≤ℤ sum_max bounds → SharedTo bounds space (rest - taken) 0 widths
-shared_begins bounds space rest rooms taken widths e f g none fits least within =
+shared_begins bounds space rest rooms taken widths e f g none least within =
     let h : taken ≡ shares_from bounds space 0 = g ∙ ap (λ (r : ℕ). sum_shares r rooms bounds) e ∙
     ap (λ (r : ℕ). sum_shares (beyond_minimums bounds space) r bounds) f in
     let m : beyond_minimums bounds space - shares_from bounds space 0 ≡ rest - taken =
     ap (λ (r : ℕ). r - shares_from bounds space 0) (sym e) ∙ ap (λ (t : ℕ). rest - t) (sym h) in
     subst (λ (ws : List Unit). SharedTo bounds space (rest - taken) 0 ws) (sym none)
-    (subst (λ (more : ℕ). SharedTo bounds space more 0 []) m (shared_begin bounds space fits least within))
+    (subst (λ (more : ℕ). SharedTo bounds space more 0 []) m (shared_begin bounds space least within))
 
 pub shared_pushed : (bounds : List Bound) (space : ℤ) (rest rooms share more unit n : ℕ) (widths pushed : List Unit) (w : Unit)
     → rest ≡ beyond_minimums bounds space → rooms ≡ sum_room bounds → share ≡ share_of rest rooms (bound_at bounds n)

@@ -23,13 +23,14 @@ abbrev pub OneListOfColumns : Type 0
 OneListOfColumns = (bounds : List Bound) (space : ℤ) (v w : List Unit)
     → AreAutoColumns bounds space v → AreAutoColumns bounds space w → v ≡ w
 
--- and there is one
+-- and there is one: of bounds whatever is asked, and of columns in each space that is no less than their minimums together,
+-- also where a minimum is greater than its maximum
 abbrev pub ColumnsHaveBounds : Type 0
 ColumnsHaveBounds = (i : BoundsIn) → (bounds : List Bound) × AreBounds i bounds
 
 abbrev pub ColumnsHaveWidths : Type 0
-ColumnsHaveWidths = (bounds : List Bound) (space : ℤ) → All BoundFits bounds
-    → sum_min bounds ≤ℤ space → (widths : List Unit) × AreAutoColumns bounds space widths
+ColumnsHaveWidths = (bounds : List Bound) (space : ℤ) → sum_min bounds ≤ℤ space
+    → (widths : List Unit) × AreAutoColumns bounds space widths
 
 -- each of these is no wider than the columns that it spans with the spacings between them
 abbrev pub HaveRoom : ℤ → List GroupSpan → List Unit → Type 0

@@ -1,4 +1,4 @@
-use Rattle.std.proofs.Common.{slice_index_or, ◌≡◌, ◌+◌, ◌+ℤ◌, ◌-ℤ◌, ℤ, List, arith, refl, ap, sym, ◌∙◌, subst}
+use Rattle.std.proofs.Common.{slice_index_or, ◌≡◌, ◌+ℤ◌, ◌-ℤ◌, ℤ, List, arith, refl, ap, sym, ◌∙◌, subst}
 use Rattle.lay_units.specs.Units.{IsPosition}
 use Rattle.lay_units.specs.declared.length.Unit.{Unit as Length}
 use Rattle.lay_lines.specs.Lines.{lines_with_floats}

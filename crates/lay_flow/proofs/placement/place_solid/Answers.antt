@@ -1,4 +1,4 @@
-use Rattle.std.proofs.Common.{ap, ◌≡◌, ◌+◌, ◌+ℤ◌, ◌-ℤ◌, arith, refl, sym, ◌∙◌, subst, List, ℤ}
+use Rattle.std.proofs.Common.{ap, ◌≡◌, ◌+ℤ◌, ◌-ℤ◌, arith, refl, sym, ◌∙◌, subst, List, ℤ}
 use Rattle.lay_floats.specs.declared.requests.SolidReq.{SolidReq}
 use Rattle.lay_floats.specs.Fits.{SolidFits}
 use Rattle.lay_floats.specs.SolidPlace.{IsSolidPlace}

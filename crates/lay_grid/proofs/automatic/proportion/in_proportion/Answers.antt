@@ -13,7 +13,7 @@ none = record { min = record { 0 = pos 0 }; max = record { 0 = pos 0 } }
 pub loop-bound-init : goal.loop-bound-init
 loop-bound-init c = shared_begins c.args.bounds.now c.args.space.0 c.rest_of-rest.result c.rooms_of-rooms.result c.shares.result
     c.new-widths.result.items c.rest_of-rest.ensures.value c.rooms_of-rooms.ensures.value c.shares.ensures.value c.new-widths.ensures.items
-    c.requires.space.order c.requires.space.least c.requires.within
+    c.requires.space.least c.requires.within
 
 pub share-requires-clause-room : goal.share-requires-clause-room
 share-requires-clause-room c =
