@@ -17,4 +17,4 @@ mod style;
 mod styles;
 
 pub use laws::styles_fit;
-pub use styles::{computed, push_style};
+pub use styles::{computed, push_style, style_of};

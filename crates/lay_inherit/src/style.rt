@@ -269,5 +269,5 @@ pub(crate) fn computed_style(parent: &Style, decls: &Decls) -> Style
     ensures { result ≡ computed_style parent.now decls.now }
 {
     let font = font_size(parent.text.font_size, decls);
-    styled(&Own { decls, font }, parent, &initial_style())
+    styled(&Own { decls, font }, parent, initial_style())
 }

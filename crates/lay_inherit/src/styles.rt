@@ -1,6 +1,6 @@
 //! The styles of a document's nodes, from outer to inner ones.
 
-ghost use Rattle.std.specs.Prelude.{◌≡◌, ◌+◌, ◌<◌, ◌∷◌, [], ◌++◌, length, IfOk, OnOk};
+ghost use Rattle.std.specs.Prelude.{◌≡◌, ◌+◌, ◌<◌, ◌≤◌, ◌∷◌, [], ◌++◌, length, IfOk, OnOk};
 ghost use Rattle.lay_style.specs.ComputedStyle.{HasStyles, computed_style, parent_style, declarations_at};
 ghost use Rattle.lay_doc.specs.Tree.{IsTree};
 ghost use Rattle.lay_doc.specs.Document.{parents_of, declarations_of};
@@ -38,15 +38,15 @@ pub fn push_style(nodes: &[Node], styles: &mut Vec<Style>, k: usize) -> Result<(
     Ok(())
 }
 
-/// The style of the node at k.
-fn style_of(nodes: &[Node], styles: &[Style], k: usize) -> Style
+/// The style of the node at k, where these are the styles of the nodes before it, and of more.
+pub fn style_of(nodes: &[Node], styles: &[Style], k: usize) -> Style
     requires tree { IsTree (parents_of nodes.now) }
     requires place { k < length nodes.now }
-    requires known { StylesTo (parents_of nodes.now) (declarations_of nodes.now) styles.now k }
+    requires there { k ≤ length styles.now }
     ensures { result ≡ computed_style (parent_style (parents_of nodes.now) styles.now k) (declarations_at (declarations_of nodes.now) k) }
 {
     if k == 0 {
-        return computed_style(&initial_style(), decls_at(nodes, k));
+        return computed_style(initial_style(), decls_at(nodes, k));
     }
     let parent = parent_at(nodes, k);
     computed_style(style_at(styles, parent), decls_at(nodes, k))

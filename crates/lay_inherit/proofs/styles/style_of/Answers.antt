@@ -7,7 +7,7 @@ use Rattle.lay_inherit.proofs.styles.style_of.Goals as goal
 pub returns-then-k-eq0 : goal.returns-then-k-eq0
 returns-then-k-eq0 c =
     let parents = parents_of c.args.nodes.now in
-    same_style c.initial_style.result (parent_style parents c.args.styles.now c.args.k) c.decls_at.result.now (declarations_at (declarations_of c.args.nodes.now) c.args.k) c.computed_style.result
+    same_style c.initial_style.result.now (parent_style parents c.args.styles.now c.args.k) c.decls_at.result.now (declarations_at (declarations_of c.args.nodes.now) c.args.k) c.computed_style.result
     c.computed_style.ensures (c.initial_style.ensures ∙ sym (outer parents c.args.styles.now c.args.k (omega arith))) c.decls_at.ensures
 
 pub returns : goal.returns
