@@ -10,6 +10,7 @@ pub mod UnstyledLists
 pub mod BuiltSteps
 pub mod Flags
 pub mod StayingNodes
+pub mod KeptLinks
 pub mod KeptStyles
 pub mod NearSteps
 pub mod RebuiltContexts

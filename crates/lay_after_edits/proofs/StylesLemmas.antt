@@ -1,5 +1,6 @@
 pub mod InsertedPlace
 pub mod StyleLists
+pub mod WrittenStyles
 pub mod MovedStyles
 pub mod ChangedNodes
 pub mod InsertedNodes

@@ -5,5 +5,7 @@
 
 mod kept_styles;
 mod stretch;
+mod written_over;
 
 pub use kept_styles::restyled;
+pub use written_over::{Part, follow_part, write_over};

@@ -1,6 +1,6 @@
 //! The cells.
 
-ghost use Rattle.std.specs.Prelude.{◌≡◌, ◌↔◌, ◌<◌, ◌≤◌, ◌-◌, ◌^◌, [], IfNone, IfSome, IsOk};
+ghost use Rattle.std.specs.Prelude.{ℕ, ◌≡◌, ◌↔◌, ◌<◌, ◌≤◌, ◌-◌, ◌^◌, [], IfNone, IfSome, IsOk};
 ghost use Rattle.std.specs.Prelude.{IsTrue, OnErr, OnOk, false, length, map, option_map};
 ghost use Rattle.std.specs.Arc.{arc_value};
 ghost use Rattle.lay_cells.specs.Looks.{IsAt, IsGone, Looks};
@@ -11,12 +11,12 @@ ghost use Rattle.lay_cells.specs.Reshapes.{Reshapes};
 ghost use Rattle.lay_cells.specs.Reuses.{AreNeedsAt, CanReuse, ReusesIn};
 ghost use Rattle.lay_cells.specs.Rows.{Row, entry_of};
 ghost use Rattle.lay_cells.specs.Sound.{IsSound};
-ghost use Rattle.lay_cells.specs.Steps.{ClaimsIn, FinishesIn, GivesBackIn, IsStale};
+ghost use Rattle.lay_cells.specs.Steps.{ClaimsIn, FinishesIn, GivesBackIn, IsStale, KnowsInput};
 
 use crate::answers::{Claimed, Finished, Look, Released};
 use crate::blanks::blank_cells;
 use crate::cell::CellOf;
-use crate::change::{claim_at, drawn, finish_at, give_back_at};
+use crate::change::{claim_at, drawn, finish_at, finish_known_at, give_back_at};
 use crate::done::Done;
 use crate::entries::same_entries;
 use crate::fresh::key_set;
@@ -155,6 +155,19 @@ impl<W: Work> Cells<W> {
             return Finished::Gone;
         };
         let answer = finish_at::<W>(&mut self.cells, place, done);
+        self.lowest = next_dirty::<W>(self.cells.as_slice(), self.lowest);
+        answer
+    }
+
+    /// Finished work whose input is known to be that of the open claim of its number, as `finish`. Nothing is compared.
+    pub fn finish_known(&mut self, done: Done<W>) -> Finished
+        requires known { (i : ℕ) (r : Row W.Key W.Input W.Value) → IsAt self.old.rows done.key i r → KnowsInput r done }
+        ensures { FinishesIn self.old done result self.new }
+    {
+        let Some(place) = find::<W>(self.cells.as_slice(), &self.index, done.key()) else {
+            return Finished::Gone;
+        };
+        let answer = finish_known_at::<W>(&mut self.cells, place, done);
         self.lowest = next_dirty::<W>(self.cells.as_slice(), self.lowest);
         answer
     }

@@ -8,6 +8,7 @@ pub mod ContextFacts
 pub mod ContextNumbers
 pub mod Counted
 pub mod FewContexts
+pub mod FollowedLinks
 pub mod FlowAround
 pub mod GrowingColumns
 pub mod GrowingList
@@ -36,6 +37,7 @@ pub mod RelabeledLists
 pub mod RisingLists
 pub mod RootBoxes
 pub mod RootNumbers
+pub mod SharedContexts
 pub mod SpotOrder
 pub mod StandingAnchors
 pub mod WhiteChildren

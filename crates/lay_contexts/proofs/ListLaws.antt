@@ -19,7 +19,7 @@ use Rattle.lay_contexts.proofs.RootNumbers.{number_lt, numbered, roots_no, roots
 use Rattle.lay_contexts.proofs.WholeBoxes.{own_same, whole_boxes}
 
 -- the homes of the boxes of a context are those
-one_column : (boxes : List BoxNode) (g h : List ℕ) → AreHomes boxes g → AreHomes boxes h → g ≡ h
+pub one_column : (boxes : List BoxNode) (g h : List ℕ) → AreHomes boxes g → AreHomes boxes h → g ≡ h
 one_column boxes g h a b =
     ext_get_or 0 g h (a.count ∙ sym b.count) (λ k lt. one_home_lem boxes k (slice_index g k) (slice_index h k) (a.each k (omega (arith, lt, a.count))) (b.each k (omega (arith, lt, a.count))))
 

@@ -10,6 +10,7 @@ pub mod FormattingContextList
 pub mod FormattingContexts
 pub mod FormattingLaws
 pub mod Homes
+pub mod KeptLinks
 pub mod Laws
 pub mod LevelLaws
 pub mod Listed

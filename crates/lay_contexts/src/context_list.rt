@@ -1,6 +1,7 @@
 //! The contexts of a document with their boxes, in document order.
 
-ghost use Rattle.std.specs.Prelude.{◌≡◌, ◌<◌, IfOk, length, replicate};
+ghost use Rattle.std.specs.Prelude.{◌≡◌, ◌<◌, IfOk, length, map, replicate};
+ghost use Rattle.std.specs.Arc.{arc_value};
 ghost use Rattle.lay_contexts.specs.DocumentContexts.{AreDocumentContexts, root_spot, spot_at};
 ghost use Rattle.lay_contexts.specs.ContextList.{AreContextsOf, AreNumberedTo, boxes_at, boxes_of_spots, spot_of};
 ghost use Rattle.lay_contexts.specs.ContextOrder.{AreInOrder};
@@ -16,6 +17,7 @@ use lay_doc::Doc;
 use lay_style::Computed;
 use lay_units::NoMemory;
 use std::alloc::Global;
+use std::sync::Arc;
 
 /// Where the boxes of contexts stand, and the boxes of each.
 #[derive(Drop)]
@@ -34,7 +36,8 @@ pub fn contexts_of(alloc: Global, doc: &Doc, computed: &Computed) -> Result<Cont
     let list = context_list(alloc, doc, computed)?;
     let mut items = without_inner(alloc, &list)?;
     number_inner(&list, &mut items);
-    Ok(Contexts::new(items))
+    let all = shared(alloc, items)?;
+    Ok(Contexts::new(all))
 }
 
 /// Where the boxes of a document's contexts stand, and their boxes.
@@ -188,4 +191,16 @@ fn number_inner(list: &ContextList, items: &mut Vec<Context>)
         let spot = list.spots[j];
         items[spot.around].set_inner(spot.at, j);
     }
+}
+
+/// The same contexts, each to be shared.
+fn shared(alloc: Global, items: Vec<Context>) -> Result<Vec<Arc<Context>>, NoMemory>
+    ensures { IfOk result (λ v. map arc_value v.items ≡ items.items) }
+{
+    let mut all = Vec::with_capacity(alloc, items.len())?;
+    for context in items {
+        let one = Arc::new(alloc, context)?;
+        all.push(one)?;
+    }
+    Ok(all)
 }

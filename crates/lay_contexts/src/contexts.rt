@@ -1,12 +1,15 @@
 //! The contexts of a document.
 
-ghost use Rattle.std.specs.Prelude.{◌≡◌, ◌<◌, ◌≤◌, length, slice_set};
+ghost use Rattle.std.specs.Prelude.{◌≡◌, ◌<◌, ◌≤◌, IfOk, length, map, slice_set};
+ghost use Rattle.std.specs.Arc.{arc_value};
 ghost use Rattle.lay_units.specs.Limits.{most_nodes};
 ghost use Rattle.lay_contexts.specs.Contexts.{AreContexts, context_at};
 
 use crate::ContextSpot;
 use lay_box_tree::ContextBoxes;
+use lay_units::NoMemory;
 use std::marker::Model;
+use std::sync::Arc;
 
 /// A context: the place of its node in the document, the number of the context around it, the place of its box
 /// among the boxes of that, its own boxes, and for each of those the number of the inner context whose box it is,
@@ -33,6 +36,13 @@ impl Context {
         ensures { result ≡ record { place = spot.place; outer = spot.around; outer_box = spot.at; boxes = boxes; inner = inner.items } }
     {
         Context { spot, boxes, inner }
+    }
+
+    /// The place of its node in the document.
+    pub fn place(&self) -> usize
+        ensures { result ≡ self.now.place }
+    {
+        self.spot.place
     }
 
     /// The number of the context around it.
@@ -72,30 +82,31 @@ impl Context {
     }
 }
 
-/// The contexts of a document, each behind the one around it.
+/// The contexts of a document, each behind the one around it. A later list shares those that it keeps.
 #[derive(Drop)]
 pub struct Contexts {
-    items: Vec<Context>,
+    items: Vec<Arc<Context>>,
 }
 
 impl Model for Contexts {
-    ghost use Rattle.std.specs.Prelude.{List, length, ◌≤◌};
+    ghost use Rattle.std.specs.Prelude.{List, length, map, ◌≤◌};
+    ghost use Rattle.std.specs.Arc.{arc_value};
     ghost use Rattle.lay_units.specs.Limits.{most_nodes};
     ghost use Rattle.lay_contexts.specs.Contexts.{Context as Plain, AreContexts};
 
     ghost Value = { List Plain };
 
-    ghost view = { λ c. c.items.items };
+    ghost view = { λ c. map arc_value c.items.items };
 
-    ghost invariant = { λ c. (length c.items.items ≤ most_nodes) × AreContexts c.items.items };
+    ghost invariant = { λ c. (length c.items.items ≤ most_nodes) × AreContexts (map arc_value c.items.items) };
 }
 
 impl Contexts {
     /// These contexts.
-    pub fn new(items: Vec<Context>) -> Contexts
+    pub fn new(items: Vec<Arc<Context>>) -> Contexts
         requires few { length items.items ≤ most_nodes }
-        requires are { AreContexts items.items }
-        ensures { result ≡ items.items }
+        requires are { AreContexts (map arc_value items.items) }
+        ensures { result ≡ map arc_value items.items }
     {
         Contexts { items }
     }
@@ -115,6 +126,23 @@ impl Contexts {
         ensures context { result.now ≡ context_at self.now i }
         ensures are { AreContexts self.now }
     {
-        &self.items[i]
+        arc_at(&self.items, i)
     }
+
+    /// The same, shared.
+    pub fn share(&self, i: usize) -> Result<Arc<Context>, NoMemory>
+        requires { i < length self.now }
+        ensures { IfOk result (λ c. c.value ≡ context_at self.now i) }
+    {
+        let shared = arc_at(&self.items, i).clone()?;
+        Ok(shared)
+    }
+}
+
+/// The context at a place of a list.
+fn arc_at(items: &[Arc<Context>], i: usize) -> &Arc<Context>
+    requires { i < length items.now }
+    ensures { result.now.value ≡ context_at (map arc_value items.now) i }
+{
+    &items[i]
 }

@@ -1,11 +1,13 @@
 //! The formatting contexts of a document.
 
-ghost use Rattle.std.specs.Prelude.{◌≡◌, ◌<◌, ◌≤◌, length};
+ghost use Rattle.std.specs.Prelude.{◌≡◌, ◌<◌, ◌≤◌, IfOk, length};
 ghost use Rattle.lay_contexts.specs.FormattingContexts.{AreFormattingContexts, formatting_context_at};
 ghost use Rattle.lay_contexts.specs.Partings.{most_formatting_contexts};
 
 use lay_box_tree::ContextBoxes;
+use lay_units::NoMemory;
 use std::marker::Model;
+use std::sync::Arc;
 
 /// A formatting context: whether it is that of an anonymous table or cell, the number of the one around it, the place of
 /// its box among the boxes of that, its own boxes, and for each of those the number of the inner formatting context whose
@@ -16,7 +18,7 @@ pub struct FormattingContext {
     pub(crate) outer: usize,
     pub(crate) outer_box: usize,
     pub(crate) boxes: ContextBoxes,
-    pub(crate) inner: Vec<usize>,
+    pub(crate) inner: Arc<Vec<usize>>,
 }
 
 impl Model for FormattingContext {
@@ -25,7 +27,7 @@ impl Model for FormattingContext {
     ghost Value = { Plain };
 
     ghost view = { λ c.
-        record { anonymous = c.anonymous; outer = c.outer; outer_box = c.outer_box; boxes = c.boxes; inner = c.inner.items } };
+        record { anonymous = c.anonymous; outer = c.outer; outer_box = c.outer_box; boxes = c.boxes; inner = c.inner.value.items } };
 }
 
 impl FormattingContext {
@@ -62,6 +64,20 @@ impl FormattingContext {
         ensures { result.now ≡ self.now.inner }
     {
         self.inner.as_slice()
+    }
+
+    /// The same with other boxes. The numbers of inner ones are shared.
+    pub(crate) fn with_boxes(&self, boxes: ContextBoxes) -> Result<FormattingContext, NoMemory>
+        ensures { IfOk result (λ c. c ≡ record self.now { boxes = boxes }) }
+    {
+        let inner = self.inner.clone()?;
+        Ok(FormattingContext {
+            anonymous: self.anonymous,
+            outer: self.outer,
+            outer_box: self.outer_box,
+            boxes,
+            inner,
+        })
     }
 }
 

@@ -17,6 +17,7 @@ use crate::roots::is_root;
 use crate::spot::Spot;
 use lay_units::NoMemory;
 use std::alloc::Global;
+use std::sync::Arc;
 
 /// The formatting contexts of a document that has these contexts. NoMemory is also the answer for more than 16,777,216,
 /// which no document has.
@@ -74,7 +75,7 @@ fn formatting_context(
     let parting = parting_at(partings, i);
     let spot = spot(contexts, i, r);
     let boxes = boxes_of_root(alloc, contexts.at(i).boxes(), parting, parting.number(0), r)?;
-    let inner = inner_numbers(alloc, contexts, partings, i, r)?;
+    let inner = Arc::new(alloc, inner_numbers(alloc, contexts, partings, i, r)?)?;
     Ok(FormattingContext {
         anonymous: r > 0,
         outer: number_at(contexts, partings, spot),

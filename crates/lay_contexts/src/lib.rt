@@ -23,6 +23,7 @@ mod formatting_context;
 mod formatting_context_list;
 mod formatting_laws;
 mod homes;
+mod later_boxes;
 mod laws;
 mod numbers;
 mod parting;
@@ -47,6 +48,7 @@ pub use formatting_laws::{
     formatting_contexts_stand_in_order, inner_numbers_lead_back, one_formatting_context_list,
     one_home, roots_stand_first, whole_contexts_keep_boxes,
 };
+pub use later_boxes::{LaterBoxes, later_formatting_contexts};
 pub use laws::{
     anonymous_boxes_are_in_flow, contexts_are_noted_around, contexts_keep_flow_around,
     one_context_list,

@@ -53,7 +53,7 @@ impl Model for Parting {
 
 impl Parting {
     /// That of these boxes, where `first` is the number of the own box.
-    fn new(alloc: Global, boxes: &[BoxNode], first: usize) -> Result<Parting, NoMemory>
+    pub(crate) fn new(alloc: Global, boxes: &[BoxNode], first: usize) -> Result<Parting, NoMemory>
         requires are { AreContextBoxes boxes.now }
         requires few { first ≤ most_formatting_contexts }
         ensures { IfOk result (IsParting boxes.now first) }

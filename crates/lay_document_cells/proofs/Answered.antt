@@ -33,7 +33,7 @@ use Rattle.lay_shape.specs.Touched.ContextFlags.{ContextLists}
 use Rattle.lay_kept_cells.specs.Table.TableCells.{AreCellsOn, IsGivenBy as IsGivenThere, workings_in}
 use Rattle.lay_document_cells.specs.Kept.{IsKept, TableValue}
 use Rattle.lay_document_cells.specs.Laws.{CleanCellsAreCounted}
-use Rattle.lay_document_cells.specs.Settling.{FinishesWork, GivesBackWork}
+use Rattle.lay_document_cells.specs.Settling.{FinishesWork, GivesBackWork, IsClaimedFor}
 use Rattle.lay_document_cells.specs.State.{AreStyledLists, IsOfDocument, State}
 use Rattle.lay_document_cells.specs.Steps.{IsGivenNow}
 use Rattle.lay_document_cells.specs.TreeLengths.{TreesListContexts}
@@ -77,6 +77,11 @@ pub work_as : (mid t : State) (key other : CellKey) (number : ℕ) (input same :
     → FinishesWork mid key number input t → FinishesWork mid other number same t
 work_as mid t key other number input same e f h =
     subst (λ i. FinishesWork mid other number i t) (sym f) (subst (λ k. FinishesWork mid k number input t) e h)
+
+pub claim_as : (t : State) (key other : CellKey) (number : ℕ) (input same : CellInput) → key ≡ other → same ≡ input
+    → IsClaimedFor t other number same → IsClaimedFor t key number input
+claim_as t key other number input same e f h =
+    subst (λ i. IsClaimedFor t key number i) f (subst (λ k. IsClaimedFor t k number same) (sym e) h)
 
 pub back_as : (mid t : State) (key other : CellKey) (number : ℕ) → key ≡ other → GivesBackWork mid key number t → GivesBackWork mid other number t
 back_as mid t key other number e h = subst (λ k. GivesBackWork mid k number t) e h

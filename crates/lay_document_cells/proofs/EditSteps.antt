@@ -1,5 +1,5 @@
 -- What an edit leaves of a document with its cells.
-use Rattle.std.proofs.Common.{◌≡◌, inl, ℕ, ◌≤◌, List, All, arith, ap, sym, subst, ◌∙◌, None}
+use Rattle.std.proofs.Common.{◌≡◌, inl, ℕ, ◌≤◌, List, All, arith, ap, sym, subst, None, Option}
 use Rattle.lay_doc.specs.Document.{Document}
 use Rattle.lay_doc.specs.declared.edit.Edit.{Edit}
 use Rattle.lay_history.specs.Edits.EditLists.{after_all, first}
@@ -15,7 +15,8 @@ use Rattle.lay_cell_work.specs.CellLaws.SoundCells.{CellState}
 use Rattle.lay_kept_cells.specs.ListSteps.EditedLists.{ListsKeepCells}
 use Rattle.lay_shape.specs.Touched.Laws.{TouchedContextsAreListed}
 use Rattle.lay_document_cells.specs.Edits.{CellsEditTo, FollowsLists}
-use Rattle.lay_document_cells.specs.Kept.{IsKept, TableValue}
+use Rattle.lay_kept_cells.specs.Settled.Since.{Since}
+use Rattle.lay_document_cells.specs.Kept.{IsKept, IsKeptWith, TableValue}
 use Rattle.lay_document_cells.specs.State.{AreStyledLists, State}
 use Rattle.lay_document_cells.proofs.KeptSteps.{state_of}
 
@@ -64,3 +65,7 @@ module _ (d : Document) (face : FaceValue) (cells : CellState) (laid : ℕ) (med
         follows = follows;
         state = ap (λ x. state_of x face t laid) is;
       }
+
+-- what is kept with a table is kept with an equal one
+pub still_kept : (s : State) (medium : Medium) (table now : TableValue) (since : Option Since) → now ≡ table → IsKeptWith s medium table since → IsKeptWith s medium now since
+still_kept s medium table now since same kept = subst (λ (t : TableValue). IsKeptWith s medium t since) (sym same) kept

@@ -1,5 +1,5 @@
 -- The first dirty cell becomes clean, or memory runs out.
-use Rattle.std.proofs.Common.{◌≡◌, ◌⊎◌, inl, inr, ⊎_elim, ℕ, ◌+◌, ◌≤◌, ◌<◌, ◌^◌, [], ◌∷◌, suc, List, map, length, slice_get, Some, false, refl, arith, ap, sym, subst, ◌∙◌}
+use Rattle.std.proofs.Common.{◌≡◌, ◌⊎◌, inl, inr, ⊎_elim, ℕ, ◌+◌, ◌≤◌, ◌<◌, ◌^◌, [], ◌∷◌, suc, List, map, length, slice_get, slice_set, Some, false, refl, rules, arith, ap, sym, subst, ◌∙◌}
 use Rattle.std.proofs.lemmas.Bool.{cases_lt, false≢true}
 use Rattle.std.proofs.lemmas.Option.{slice_get_within}
 use Rattle.lay_cells.specs.Looks.{IsDirty, Looks}
@@ -8,12 +8,12 @@ use Rattle.lay_cells.specs.Reads.{AllClean, IsFirstDirtyKey}
 use Rattle.lay_cells.specs.Rows.{entry_of}
 use Rattle.lay_cells.specs.Shapes.{IsIn, IsShape}
 use Rattle.lay_cells.specs.Sound.{IsSound}
-use Rattle.lay_cells.specs.Steps.{FinishesIn, GivesBackIn}
+use Rattle.lay_cells.specs.Steps.{Claims, FinishesIn, GivesBackIn}
 use Rattle.lay_cells.specs.declared.answers.Claimed.{Claimed}
 use Rattle.lay_cells.specs.declared.answers.Claimed.TheVariants.{Granted, Reused, Taken}
 use Rattle.lay_cells.specs.declared.answers.Look.{Look}
 use Rattle.lay_cells.specs.declared.answers.Look.TheVariants as look
-use Rattle.lay_document_cells.proofs.Cited.{map_at, one_at, one_row}
+use Rattle.lay_document_cells.proofs.Cited.{map_at, one_at, one_row, set_cases}
 use Rattle.lay_cells.specs.Progress.Progress.{ClaimsKeepRows, FinishesKeepRows, GiveBacksKeepRows}
 use Rattle.lay_cells.specs.Progress.Settled.{CleansAt, FinishedCellsAreClean, GrantedClaimsAreReleased, ReusedCellsAreClean, claim_number}
 use Rattle.lay_shape.specs.declared.cell_key.CellKey.{CellKey}
@@ -21,7 +21,7 @@ use Rattle.lay_cell_work.specs.CellInputs.{CellInput}
 use Rattle.lay_cell_work.specs.CellLocal.{IsCellLocal}
 use Rattle.lay_cell_work.specs.CellValues.{CellValue}
 use Rattle.lay_cell_work.specs.CellLaws.SoundCells.{CellRow, CellState}
-use Rattle.lay_document_cells.specs.Settling.{AreCleanBefore, FinishesWork, GivesBackWork, GivesUpAt, Settles, SettlesAt, SettlesFirst, CellsSettleTo, CellsStopAt, computed, granted, next, none, reused, taken, unclaimed}
+use Rattle.lay_document_cells.specs.Settling.{AreCleanBefore, FinishesWork, GivesBackWork, GivesUpAt, IsClaimedFor, Settles, SettlesAt, SettlesFirst, CellsSettleTo, CellsStopAt, computed, granted, next, none, reused, taken, unclaimed}
 use Rattle.lay_document_cells.specs.State.{State}
 use Rattle.lay_document_cells.specs.Steps.{ClaimsTo, CellsFinishTo, CellsGiveBackTo}
 use Rattle.lay_cell_work.specs.ClaimLists.Outcomes.{Work}
@@ -81,6 +81,29 @@ module _ (s : State) (sound : IsSound IsCellLocal s.cells) (place : ℕ) (r : Ce
       (λ low. before j q low (sym (h.others j (λ e. omega (arith, e, low))) ∙ there))
       (λ high. (let e : j ≡ place = omega (arith, lt, high) in h.clean q (ap (slice_get new) (sym e) ∙ there)))
       (cases_lt j place)
+
+  -- the claim that is open after this one was claimed has this input
+  given_after : (input : CellInput) (a : Claimed) (number drawn : ℕ) (q : CellRow) → claim_number a ≡ Some number → Claims r drawn input a q
+      → q.given ≡ Some input
+  given_after input (Granted n) number drawn q is h = ap (λ (z : CellRow). z.given) h.4
+  given_after input Reused number drawn q is h = grind (rules, is)
+  given_after input (Taken n) number drawn q is h = ap (λ (z : CellRow). z.given) h.2 ∙ h.0.1
+
+  pub claimed_for : (t : State) (input : CellInput) (a : Claimed) (number : ℕ) → ClaimsTo s r.key input a t → claim_number a ≡ Some number
+      → IsClaimedFor t r.key number input
+  claimed_for t input a number c is j other there opened =
+      ⊎_elim
+      (λ here. ap (λ (z : CellRow). z.given) here.1
+      ∙ given_after input a number (s.cells.draws + 1) c.claims.2 is (subst (λ z. Claims z (s.cells.draws + 1) input a c.claims.2) same c.claims.4))
+      (λ apart. absurd (apart.0 (sound.shaped.apart j c.claims.0 (entry_of other) (entry_of c.claims.1) (map_at entry_of s.cells.rows j other apart.1)
+      (map_at entry_of s.cells.rows c.claims.0 c.claims.1 c.claims.3.0) (there.1 ∙ sym c.claims.3.1))))
+      (set_cases s.cells.rows c.claims.0 c.claims.2 j other (ap (λ xs. slice_get xs j) written ∙ there.0))
+    where
+      written : slice_set s.cells.rows c.claims.0 c.claims.2 ≡ t.cells.rows
+      written = sym (ap (λ (x : State). x.cells.rows) c.state ∙ ap (λ (x : CellState). x.rows) c.claims.5)
+
+      same : c.claims.1 ≡ r
+      same = one_row s.cells.rows sound.shaped r.key c.claims.1 r (c.claims.0, c.claims.3.0) c.claims.3.1 (place, at) refl
 
   module _ (claims : ClaimsKeepRows CellKey CellInput CellValue) where
     claimed_draws : (t : State) (input : CellInput) (a : Claimed) → ClaimsTo s r.key input a t → t.cells.draws ≤ s.cells.draws + 1

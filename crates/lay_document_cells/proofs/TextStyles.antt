@@ -1,8 +1,8 @@
 -- A text has no declarations, so styles stay where one changes.
-use Rattle.std.proofs.Common.{◌≡◌, ℕ, All, zero, suc, List, [], ◌∷◌, map, refl, ap, sym, subst, Option, None, Some}
+use Rattle.std.proofs.Common.{◌≡◌, ℕ, All, zero, suc, List, [], ◌∷◌, map, length, arith, refl, ap, sym, subst, Option, None, Some}
 use Rattle.std.proofs.lemmas.List.Elements.{All-head, All-tail}
 use Rattle.lay_style.specs.declared.style.Style.{Style}
-use Rattle.lay_style.specs.ComputedStyle.{HasStyles}
+use Rattle.lay_style.specs.ComputedStyle.{HasStyles, style_at}
 use Rattle.lay_style.specs.Places.{place_of}
 use Rattle.lay_doc.specs.declared.edit.Edit.{Edit}
 use Rattle.lay_doc.specs.declared.edit.Edit.TheVariants.{SetStyle, ClearStyle, SetText, Insert, Remove, Bad}
@@ -12,6 +12,7 @@ use Rattle.lay_doc.specs.Changes.{changed_at, with_text}
 use Rattle.lay_doc.specs.Document.{Document, declarations_of, ids_of, parents_of}
 use Rattle.lay_doc.specs.Edits.{after}
 use Rattle.lay_history.specs.Edits.EditLists.{after_all}
+use Rattle.lay_after_edits.specs.Styles.WrittenOver.{AreSameOutside}
 use Rattle.lay_document_cells.specs.TextEdits.{IsTextEdit}
 
 column-stays : {X : Type 0} (g : Node → X) (text : List ℕ) → ((n : Node) → g (with_text text n) ≡ g n) → (p : ℕ) (ns : List Node) → map g (changed_at p (with_text text) ns) ≡ map g ns
@@ -47,3 +48,11 @@ pub texts-keep-styles : (d : Document) (edits : List Edit) (styles : List Style)
 texts-keep-styles d [] styles all are = are
 texts-keep-styles d (e ∷ es) styles all are =
     texts-keep-styles (after d e) es styles (All-tail IsTextEdit e es all) (one-text d e styles (All-head IsTextEdit e es all) are)
+
+-- styles that stay are the same outside a part without nodes
+pub none_written_over : (styles later : List Style) → later ≡ styles → AreSameOutside styles later (record { from = 0; until = 0 })
+none_written_over styles later same = record {
+  count = ap length same;
+  within = omega arith;
+  same = λ k outside. ap (λ (xs : List Style). style_at xs k) same;
+}

@@ -1,7 +1,9 @@
 -- Settling: the first dirty cell is claimed for what it is given now, and unless its value is kept, that is computed and finished; and so
 -- on, until each cell is clean or memory runs out.
 use Rattle.std.specs.Prelude.{ℕ, ◌≡◌, ◌⊎◌, ◌+◌, ◌≤◌, ◌<◌, false, List, length, slice_get, Some}
+use Rattle.lay_cells.specs.Looks.{IsAt}
 use Rattle.lay_cells.specs.Reads.{AllClean, IsFirstDirtyKey}
+use Rattle.lay_cells.specs.Steps.{IsOpen}
 use Rattle.lay_cells.specs.declared.answers.Claimed.{Claimed}
 use Rattle.lay_cells.specs.declared.answers.Claimed.TheVariants.{Granted, Reused, Taken}
 use Rattle.lay_cells.specs.declared.answers.Finished.{Finished}
@@ -68,6 +70,10 @@ pub record SettlesAt (s : State) (place : ℕ) (t : State) : Type 0 where
 pub record GivesUpAt (s t : State) : Type 0 where
   pub gives_up : GivesUp s t
   pub draws : t.cells.draws ≤ s.cells.draws + 1
+
+-- if the open claim of the key has this number, it is of this input
+abbrev pub IsClaimedFor : State → CellKey → ℕ → CellInput → Type 0
+IsClaimedFor s key number input = (i : ℕ) (r : CellRow) → IsAt s.cells.rows key i r → IsOpen r number → r.given ≡ Some input
 
 -- work on this input is finished under the number of a claim, whatever comes of it
 pub record FinishesWork (s : State) (key : CellKey) (number : ℕ) (input : CellInput) (t : State) : Type 0 where

@@ -121,7 +121,7 @@ impl DocumentCells {
         self.cells.sound();
         self.doc.become_edited(self.alloc, edits, doc);
         self.since = since_after(self.since.take(), clean, draws, changed);
-        self.table = later.table;
+        self.table.become_edited(later.table, later.part);
         self.medium = medium;
         Ok(())
     }

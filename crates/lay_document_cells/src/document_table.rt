@@ -10,7 +10,9 @@ ghost use Rattle.lay_history.specs.Edits.EditLists.{after_all, first};
 ghost use Rattle.lay_shape.specs.Touched.ContextFlags.{AreContextFlags};
 ghost use Rattle.lay_contexts.specs.FormattingContextList.{AreFormattingContextsOf};
 ghost use Rattle.lay_after_edits.specs.Contexts.Changed.{AreMadeAnew, AreStaying};
+ghost use Rattle.lay_after_edits.specs.Contexts.Anchored.{IsStyleEdit};
 ghost use Rattle.lay_after_edits.specs.Contexts.Links.{AreRestyled};
+ghost use Rattle.lay_after_edits.specs.Styles.WrittenOver.{AreSameOutside};
 ghost use Rattle.lay_document_cells.specs.TextEdits.{IsTextEdit};
 ghost use Rattle.lay_document_cells.specs.State.{AreStyledLists};
 
@@ -18,7 +20,7 @@ use lay_after_edits::contexts::{
     DocPair, EditedDoc, LaterContexts, RestyledNodes, changed_nodes, contexts_after,
     contexts_after_all, restyled_nodes,
 };
-use lay_after_edits::styles::restyled;
+use lay_after_edits::styles::{Part, follow_part, restyled, write_over};
 use lay_contexts::{Contexts, contexts_of};
 use lay_doc::{Doc, Edit};
 use lay_history::edits::Edits;
@@ -26,21 +28,25 @@ use lay_inherit::computed;
 use lay_kept_cells::table::CellTable;
 use lay_shape::kept_shapes::MeasuredList;
 use lay_shape::touched::MeasuredContexts;
-use lay_style::Computed;
+use lay_style::{Computed, Style};
 use lay_units::NoMemory;
 use std::alloc::Global;
 use std::marker::Model;
+use std::mem;
 use std::sync::Arc;
 
 /// The computed styles of a document, its contexts with the places of their cells, and of each context whether its preferred widths count.
+/// Beside the styles there may be equal ones, which the next edit of declarations writes over.
 #[derive(Drop)]
 pub(crate) struct DocumentTable {
     styles: Arc<Computed>,
+    spare: Option<Vec<Style>>,
     cells: CellTable,
     measured: Vec<bool>,
 }
 
 impl Model for DocumentTable {
+    ghost use Rattle.std.specs.Prelude.{◌≡◌, IfSome};
     ghost use Rattle.lay_shape.specs.Touched.ContextFlags.{AreContextFlags};
     ghost use Rattle.lay_document_cells.specs.Kept.{TableValue};
 
@@ -48,7 +54,8 @@ impl Model for DocumentTable {
 
     ghost view = { λ t. record { styles = t.styles.value; lists = t.cells } };
 
-    ghost invariant = { λ t. AreContextFlags t.cells.contexts t.cells.formatting_contexts t.measured.items };
+    ghost invariant = { λ t.
+        (AreContextFlags t.cells.contexts t.cells.formatting_contexts t.measured.items) × (IfSome t.spare (λ s. s.items ≡ t.styles.value)) };
 }
 
 impl DocumentTable {
@@ -60,19 +67,21 @@ impl DocumentTable {
         DocumentTable::of_styles(alloc, doc, styles)
     }
 
-    /// That of a document after a list of edits, where this is the one before it.
+    /// That of a document after a list of edits, where this is the one before it, and stays so.
     pub(crate) fn edited(
-        &self,
+        &mut self,
         alloc: Global,
         doc: &Doc,
         edits: &Edits,
         later: &Doc,
     ) -> Result<EditedTable, NoMemory>
-        requires are { AreStyledLists doc.now self.now.styles self.now.lists }
+        requires are { AreStyledLists doc.now self.old.styles self.old.lists }
         requires accepted { first doc.now edits.now ≡ None }
         requires later { later.now ≡ after_all doc.now edits.now }
         ensures lists { IfOk result (λ t. AreStyledLists later.now t.table.styles t.table.lists) }
-        ensures made { IfOk result (λ t. IfSome t.made (λ v. AreRestyled self.now.lists.contexts t.table.lists.contexts v.items)) }
+        ensures made { IfOk result (λ t. IfSome t.made (λ v. AreRestyled self.old.lists.contexts t.table.lists.contexts v.items)) }
+        ensures part { IfOk result (λ t. IfSome t.part (AreSameOutside self.old.styles t.table.styles)) }
+        ensures same { self.new ≡ self.old }
     {
         let list = edits.as_slice();
         if list.len() == 1 {
@@ -82,7 +91,11 @@ impl DocumentTable {
             return self.edited_nodes(alloc, doc, later, styled);
         }
         let table = DocumentTable::of(alloc, later)?;
-        Ok(EditedTable { table, made: None })
+        Ok(EditedTable {
+            table,
+            made: None,
+            part: None,
+        })
     }
 
     /// The computed styles after edits of declarations and texts, and for each node whether the node or its style changed. They are shared
@@ -135,6 +148,7 @@ impl DocumentTable {
         requires made { AreMadeAnew doc.now.nodes later.now.nodes self.now.styles (arc_value styled.styles) styled.made.items }
         ensures lists { IfOk result (λ t. AreStyledLists later.now t.table.styles t.table.lists) }
         ensures made { IfOk result (λ t. IfSome t.made (λ v. AreRestyled self.now.lists.contexts t.table.lists.contexts v.items)) }
+        ensures part { IfOk result (λ t. t.part ≡ None) }
     {
         let StyledNodes { styles, made } = styled;
         let of = DocPair {
@@ -143,62 +157,154 @@ impl DocumentTable {
             later,
             styles: &styles,
         };
-        let LaterContexts {
-            contexts,
-            made: anew,
-        } = contexts_after_all(alloc, &of, &made, self.cells.contexts())?;
-        let table = DocumentTable::of_contexts(alloc, styles, contexts)?;
-        Ok(EditedTable { table, made: anew })
+        let later = contexts_after_all(alloc, &of, &made, self.cells.contexts())?;
+        self.with_contexts(alloc, LaterStyles { styles, part: None }, later)
     }
 
     /// The same for one edit.
     fn edited_once(
-        &self,
+        &mut self,
         alloc: Global,
         doc: &Doc,
         edit: &Edit,
         later: &Doc,
     ) -> Result<EditedTable, NoMemory>
-        requires are { AreStyledLists doc.now self.now.styles self.now.lists }
+        requires are { AreStyledLists doc.now self.old.styles self.old.lists }
         requires accepted { fault doc.now edit.now ≡ None }
         requires later { later.now ≡ after doc.now edit.now }
         ensures lists { IfOk result (λ t. AreStyledLists later.now t.table.styles t.table.lists) }
-        ensures made { IfOk result (λ t. IfSome t.made (λ v. AreRestyled self.now.lists.contexts t.table.lists.contexts v.items)) }
+        ensures made { IfOk result (λ t. IfSome t.made (λ v. AreRestyled self.old.lists.contexts t.table.lists.contexts v.items)) }
+        ensures part { IfOk result (λ t. IfSome t.part (AreSameOutside self.old.styles t.table.styles)) }
+        ensures same { self.new ≡ self.old }
     {
-        let styles = self.styles_after(alloc, doc, edit, later)?;
+        let styled = self.styles_after(alloc, doc, edit, later)?;
         let of = EditedDoc {
             doc,
             was: &self.styles,
             edit,
             later,
-            styles: &styles,
+            styles: &styled.styles,
         };
-        let LaterContexts { contexts, made } = contexts_after(alloc, &of, self.cells.contexts())?;
-        let table = DocumentTable::of_contexts(alloc, styles, contexts)?;
-        Ok(EditedTable { table, made })
+        let contexts = contexts_after(alloc, &of, self.cells.contexts())?;
+        self.with_contexts(alloc, styled, contexts)
     }
 
     /// The computed styles of a document after an edit, where this is the one before it. They are shared where a text changes, which has
     /// no declarations.
     fn styles_after(
-        &self,
+        &mut self,
         alloc: Global,
         doc: &Doc,
         edit: &Edit,
         later: &Doc,
-    ) -> Result<Arc<Computed>, NoMemory>
-        requires styles { HasStyles (parents_of doc.now.nodes) (declarations_of doc.now.nodes) self.now.styles }
+    ) -> Result<LaterStyles, NoMemory>
+        requires styles { HasStyles (parents_of doc.now.nodes) (declarations_of doc.now.nodes) self.old.styles }
         requires accepted { fault doc.now edit.now ≡ None }
         requires later { later.now ≡ after doc.now edit.now }
-        ensures { IfOk result (λ s. HasStyles (parents_of later.now.nodes) (declarations_of later.now.nodes) (arc_value s)) }
+        ensures styles { IfOk result (λ s. HasStyles (parents_of later.now.nodes) (declarations_of later.now.nodes) (arc_value s.styles)) }
+        ensures part { IfOk result (λ s. IfSome s.part (AreSameOutside self.old.styles (arc_value s.styles))) }
+        ensures same { self.new ≡ self.old }
     {
-        if let Edit::SetText { .. } = edit {
-            let shared = self.styles.clone()?;
-            return Ok(shared);
+        match edit {
+            Edit::SetText { .. } => {
+                let styles = self.styles.clone()?;
+                let part = Some(Part { from: 0, until: 0 });
+                Ok(LaterStyles { styles, part })
+            }
+            Edit::SetStyle { .. } | Edit::ClearStyle { .. } => {
+                self.written_over(alloc, doc, edit, later)
+            }
+            _ => {
+                let styles = restyled(alloc, doc, &self.styles, edit, later)?;
+                let styles = Arc::new(alloc, styles)?;
+                Ok(LaterStyles { styles, part: None })
+            }
         }
-        let styles = restyled(alloc, doc, &self.styles, edit, later)?;
-        let shared = Arc::new(alloc, styles)?;
-        Ok(shared)
+    }
+
+    /// The same for an edit of declarations: the spare styles are written over, or a copy.
+    fn written_over(
+        &mut self,
+        alloc: Global,
+        doc: &Doc,
+        edit: &Edit,
+        later: &Doc,
+    ) -> Result<LaterStyles, NoMemory>
+        requires declares { IsStyleEdit edit.now }
+        requires styles { HasStyles (parents_of doc.now.nodes) (declarations_of doc.now.nodes) self.old.styles }
+        requires accepted { fault doc.now edit.now ≡ None }
+        requires later { later.now ≡ after doc.now edit.now }
+        ensures styles { IfOk result (λ s. HasStyles (parents_of later.now.nodes) (declarations_of later.now.nodes) (arc_value s.styles)) }
+        ensures part { IfOk result (λ s. IfSome s.part (AreSameOutside self.old.styles (arc_value s.styles))) }
+        ensures same { self.new ≡ self.old }
+    {
+        let mut styles = self.styles_to_write(alloc)?;
+        let part = write_over(doc, &mut styles, edit, later);
+        let shared = Arc::new(alloc, Computed::new(styles))?;
+        Ok(LaterStyles {
+            styles: shared,
+            part: Some(part),
+        })
+    }
+
+    /// Styles that are equal to those of this table: the spare ones, which are taken out, or a copy.
+    fn styles_to_write(&mut self, alloc: Global) -> Result<Vec<Style>, NoMemory>
+        ensures styles { IfOk result (λ v. v.items ≡ self.old.styles) }
+        ensures same { self.new ≡ self.old }
+    {
+        if let Some(spare) = self.spare.take() {
+            return Ok(spare);
+        }
+        let copy = Vec::from_slice(alloc, self.styles.as_slice())?;
+        Ok(copy)
+    }
+
+    /// Takes a later table in its stead. The styles of this one are kept beside it, where the two are known to be the same outside a part.
+    pub(crate) fn become_edited(&mut self, later: DocumentTable, part: Option<Part>)
+        requires { IfSome part (AreSameOutside self.old.styles later.styles) }
+        ensures { self.new ≡ later }
+    {
+        let was = mem::replace(self, later);
+        self.keep_spare(was, part);
+    }
+
+    /// Takes the styles of an earlier table as spare ones, where these are the same outside a part.
+    fn keep_spare(&mut self, was: DocumentTable, part: Option<Part>)
+        requires { IfSome part (AreSameOutside was.styles self.old.styles) }
+        ensures { self.new ≡ self.old }
+    {
+        let Some(part) = part else {
+            return;
+        };
+        let Some(spare) = styles_of_table(was) else {
+            return;
+        };
+        self.spare = Some(followed(spare, &self.styles, part));
+    }
+
+    /// That of these styles and later contexts. Where these keep all but the styles and texts of their boxes, their cells stand where those
+    /// of this table do.
+    fn with_contexts(
+        &self,
+        alloc: Global,
+        styled: LaterStyles,
+        later: LaterContexts,
+    ) -> Result<EditedTable, NoMemory>
+        requires made { IfSome later.made (λ v. AreRestyled self.now.lists.contexts later.contexts v.items) }
+        ensures styles { IfOk result (λ t. t.table.styles ≡ arc_value styled.styles) }
+        ensures part { IfOk result (λ t. t.part ≡ styled.part) }
+        ensures contexts { IfOk result (λ t. t.table.lists.contexts ≡ later.contexts) }
+        ensures formatting { IfOk result (λ t. AreFormattingContextsOf t.table.lists.contexts t.table.lists.formatting_contexts) }
+        ensures made { IfOk result (λ t. IfSome t.made (λ v. AreRestyled self.now.lists.contexts t.table.lists.contexts v.items)) }
+    {
+        let LaterContexts { contexts, made } = later;
+        let LaterStyles { styles, part } = styled;
+        let cells = match &made {
+            Some(made) => self.cells.restyled(alloc, contexts, made)?,
+            None => CellTable::new(alloc, contexts)?,
+        };
+        let table = DocumentTable::of_cells(alloc, styles, cells)?;
+        Ok(EditedTable { table, made, part })
     }
 
     /// That of a document with these computed styles.
@@ -221,9 +327,22 @@ impl DocumentTable {
         ensures formatting { IfOk result (λ t. AreFormattingContextsOf t.lists.contexts t.lists.formatting_contexts) }
     {
         let cells = CellTable::new(alloc, contexts)?;
+        DocumentTable::of_cells(alloc, styles, cells)
+    }
+
+    /// That of these styles and cells.
+    fn of_cells(
+        alloc: Global,
+        styles: Arc<Computed>,
+        cells: CellTable,
+    ) -> Result<DocumentTable, NoMemory>
+        ensures styles { IfOk result (λ t. t.styles ≡ arc_value styles) }
+        ensures lists { IfOk result (λ t. t.lists ≡ cells) }
+    {
         let measured = measured_contexts(alloc, &cells)?;
         Ok(DocumentTable {
             styles,
+            spare: None,
             cells,
             measured,
         })
@@ -263,10 +382,19 @@ impl DocumentTable {
 }
 
 /// What a table becomes by an edit. Where all but styles and texts of boxes stays, it is known of which contexts these were made anew.
+/// It may be known that just the nodes of a part have other styles.
 #[derive(Drop)]
 pub(crate) struct EditedTable {
     pub(crate) table: DocumentTable,
     pub(crate) made: Option<Vec<bool>>,
+    pub(crate) part: Option<Part>,
+}
+
+/// The computed styles of a later document. It may be known that just the nodes of a part have other ones than before.
+#[derive(Drop)]
+struct LaterStyles {
+    styles: Arc<Computed>,
+    part: Option<Part>,
 }
 
 /// The computed styles of a document, and for each node whether its style was made anew.
@@ -274,6 +402,30 @@ pub(crate) struct EditedTable {
 struct StyledNodes {
     styles: Arc<Computed>,
     made: Vec<bool>,
+}
+
+/// The styles of a table that is done with. None where somebody else has them too.
+fn styles_of_table(table: DocumentTable) -> Option<Vec<Style>>
+    ensures { IfSome result (λ s. s.items ≡ table.styles) }
+{
+    let DocumentTable { styles, spare, .. } = table;
+    if let Some(spare) = spare {
+        return Some(spare);
+    }
+    match Arc::into_inner(styles) {
+        Some(styles) => Some(styles.into_styles()),
+        None => None,
+    }
+}
+
+/// A list of styles, made equal to a later one, which has other styles in this part alone.
+fn followed(styles: Vec<Style>, later: &Computed, part: Part) -> Vec<Style>
+    requires { AreSameOutside styles.items later.now part }
+    ensures { result.items ≡ later.now }
+{
+    let mut styles = styles;
+    follow_part(&mut styles, later.as_slice(), part);
+    styles
 }
 
 /// Whether each of these edits changes a text.

@@ -5,7 +5,7 @@ ghost use Rattle.std.specs.Arc.{arc_value};
 ghost use Rattle.lay_cells.specs.Looks.{Looks};
 ghost use Rattle.lay_cells.specs.Places.{AtPlace};
 ghost use Rattle.lay_cells.specs.declared.answers.Look.TheVariants as look;
-ghost use Rattle.lay_document_cells.specs.Settling.{AreCleanBefore, FinishesWork, GivesBackWork, GivesUpAt};
+ghost use Rattle.lay_document_cells.specs.Settling.{AreCleanBefore, FinishesWork, GivesBackWork, GivesUpAt, IsClaimedFor};
 ghost use Rattle.lay_document_cells.specs.Settling.{SettlesAt, CellsSettleTo, CellsStopAt};
 
 use crate::document_cells::DocumentCells;
@@ -20,19 +20,20 @@ use lay_units::NoMemory;
 use std::sync::Arc;
 
 impl DocumentCells {
-    /// Computes the value of this input, and finishes it under the number of a claim of the key. On an error all is as before.
+    /// Computes the value of this input, and finishes it under the number of a claim of the key for it. On an error all is as before.
     fn finish_claimed(
         &mut self,
         key: CellKey,
         number: u64,
         input: Arc<CellInput>,
     ) -> Result<(), NoMemory>
+        requires claimed { IsClaimedFor self.old key number (arc_value input) }
         ensures ok { OnOk result (FinishesWork self.old key number (arc_value input) self.new) }
         ensures err { OnErr result (self.new ≡ self.old) }
     {
         let value = value_of_cell(self.alloc, &input)?;
         let value = Arc::new(self.alloc, value)?;
-        self.finish(Done::new(key, number, input, value));
+        self.finish_known(Done::new(key, number, input, value));
         Ok(())
     }
 
@@ -43,6 +44,7 @@ impl DocumentCells {
         number: u64,
         input: Arc<CellInput>,
     ) -> Result<(), NoMemory>
+        requires claimed { IsClaimedFor self.old key number (arc_value input) }
         ensures ok { OnOk result (FinishesWork self.old key number (arc_value input) self.new) }
         ensures err { OnErr result (GivesBackWork self.old key number self.new) }
     {

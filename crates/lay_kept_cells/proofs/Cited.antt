@@ -1,4 +1,5 @@
 -- The lemmas of other crates that the proofs of this crate rest on.
+pub use Rattle.lay_after_edits.proofs.ContextsLemmas.KeptLinks.{links-stay, unflagged-stay}
 pub use Rattle.lay_cell_work.proofs.CellLawsLemmas.CleanCells.{all_done, is_same_key, kept_right, key_is}
 pub use Rattle.lay_cell_work.proofs.CellLawsLemmas.EndToEnd.{counted}
 pub use Rattle.lay_cell_work.proofs.CellLawsLemmas.FittingInputs.{same_context}
@@ -17,6 +18,7 @@ pub use Rattle.lay_contexts.proofs.ContextFacts.{in_order, root_of, some_box, va
 pub use Rattle.lay_contexts.proofs.ContextNumbers.{are_contexts}
 pub use Rattle.lay_contexts.proofs.EditedLemmas.NamedPlaces.{place-is, place-reads}
 pub use Rattle.lay_contexts.proofs.EditedLemmas.StayingOutward.{place-there}
+pub use Rattle.lay_contexts.proofs.FollowedLinks.{count_same, first_same}
 pub use Rattle.lay_contexts.proofs.OneStand.{marked-true, within}
 pub use Rattle.lay_contexts.proofs.RootNumbers.{Numbered, first_le, roots_lt}
 pub use Rattle.lay_doc.proofs.EditedDocuments.{edits_leave_documents}
@@ -25,6 +27,7 @@ pub use Rattle.lay_history.proofs.EditsLemmas.Lists.{lists_leave_documents, none
 pub use Rattle.lay_positioned.proofs.OneLevels.{leads_out}
 pub use Rattle.lay_shape.proofs.BuildSteps.{key_apart}
 pub use Rattle.lay_shape.proofs.CellOrder.{cell_in, cell_within}
+pub use Rattle.lay_shape.proofs.KeptShapesLemmas.SameShape.{cells-stay}
 pub use Rattle.lay_shape.proofs.Members.{in_map}
 pub use Rattle.lay_shape.proofs.OwnNodes.{contexts_are_of_own_nodes_lem}
 pub use Rattle.lay_shape.proofs.ShapeLawsLemmas.FirstContexts.{first_node, same_node}

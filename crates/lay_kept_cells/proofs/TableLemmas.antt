@@ -5,3 +5,4 @@ pub mod PlaceSteps
 pub mod RootFlags
 pub mod RootParts
 pub mod RootSteps
+pub mod RestyledTables

@@ -54,6 +54,13 @@ impl Computed {
         style_at(self.as_slice(), place)
     }
 
+    /// The styles, given over without a copy.
+    pub fn into_styles(self) -> Vec<Style>
+        ensures { result.items ≡ self }
+    {
+        self.styles
+    }
+
     /// An equal list.
     pub fn copy(&self, alloc: Global) -> Result<Computed, NoMemory>
         ensures { IfOk result (λ c. c ≡ self.now) }

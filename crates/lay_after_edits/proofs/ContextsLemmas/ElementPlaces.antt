@@ -1,71 +1,24 @@
--- The element of a context has the id of its box in the one around it.
-use Rattle.std.proofs.Common.{◌≡◌, ℕ, zero, suc, ◌+◌, ◌<◌, ◌++◌, List, [], ◌∷◌, length, refl, ap, sym, subst, ◌∙◌, arith, inl, inr, Some, slice_index, slice_index_or}
+-- Where the elements of contexts stand among the nodes of a document.
+use Rattle.std.proofs.Common.{◌≡◌, ℕ, zero, suc, ◌+◌, ◌<◌, ◌++◌, List, [], ◌∷◌, length, ap, sym, subst, ◌∙◌, arith, inl, inr, slice_index, slice_index_or}
 use Rattle.std.proofs.lemmas.Bool.{cases_lt}
 use Rattle.std.proofs.lemmas.Grind.{elements}
-use Rattle.std.proofs.lemmas.List.{get_or-map}
 use Rattle.lay_style.specs.declared.style.Style.{Style}
-use Rattle.lay_style.specs.Places.{place_of}
 use Rattle.lay_doc.specs.declared.node.Node.{Node}
 use Rattle.lay_doc.specs.Document.{Document, IsDocument, ids_of}
-use Rattle.lay_after_edits.proofs.Cited.{context_within, length-ids, place-is}
-use Rattle.lay_box_tree.specs.BoxColumns.{box_at, no_box}
-use Rattle.lay_box_tree.specs.declared.box_tree.BoxNode.{BoxNode}
+use Rattle.lay_after_edits.proofs.Cited.{length-ids, place-is}
 use Rattle.lay_boxgen.specs.Contexts.{IsContextAt}
 use Rattle.lay_boxgen.specs.Listing.{boxes_at, boxes_of}
 use Rattle.lay_contexts.specs.ContextList.{AreContextsOf}
-use Rattle.lay_contexts.specs.Contexts.{AreContexts, Context, boxes_in, context_at}
+use Rattle.lay_contexts.specs.Contexts.{Context, context_at}
 use Rattle.lay_contexts.specs.ContextTree.{boxes_of_place}
-use Rattle.lay_contexts.specs.DocumentContexts.{root_spot, spot_at}
+use Rattle.lay_contexts.specs.DocumentContexts.{spot_at}
 use Rattle.lay_contexts.specs.declared.context_spot.ContextSpot.{ContextSpot}
 use Rattle.lay_contexts.specs.ListedContexts.{AreContextPlaces}
 use Rattle.lay_after_edits.specs.Contexts.Reach.{ArePlacesOf}
 
-same-read : (xs : List BoxNode) (k : ℕ) (x : BoxNode) → k < length xs → x ≡ slice_index_or xs k x → x ≡ box_at xs k
-same-read [] k x lt e = absurd (omega (arith, lt))
-same-read (y ∷ ys) zero x lt e = e
-same-read (y ∷ ys) (suc k) x lt e = same-read ys k x (omega (arith, lt)) e
-
 module _ (d : Document) (styles : List Style) (contexts : List Context) (doc : IsDocument d) (of : AreContextsOf d.nodes styles contexts) where
   spot-place : (i : ℕ) → i < length contexts → (context_at contexts i).place ≡ (spot_at of.spots i).place
   spot-place i lt = ap (λ (s : ContextSpot). s.place) (of.numbered.each i lt).spot
-
-  pub root-place : 0 < length contexts → (context_at contexts 0).place ≡ 0
-  root-place some = spot-place 0 some ∙ ap (λ (s : ContextSpot). s.place) of.are.root
-
-  pub element-place : (i : ℕ) → 0 < i → i < length contexts
-      → place_of (box_at (boxes_in contexts (context_at contexts i).outer) (context_at contexts i).outer_box).node.0 (ids_of d.nodes) ≡ Some (context_at contexts i).place
-  element-place i positive lt =
-      let in-spots : i < length of.spots = omega (arith, lt, of.numbered.count) in
-      let p : ℕ = (spot_at of.spots i).place in
-      let a : ℕ = (spot_at of.spots i).around in
-      let at : ℕ = (spot_at of.spots i).at in
-      let in-list : a < length contexts = (let w = of.are.within i positive in-spots in omega (arith, w, of.numbered.count)) in
-      let s = of.are.stands i positive in-spots in
-      let boxes : boxes_in contexts a ≡ boxes_of_place d.nodes styles (spot_at of.spots a).place =
-      (of.numbered.each a in-list).boxes_are ∙ get_or-map (λ (x : ContextSpot). boxes_of_place d.nodes styles x.place) of.spots a root_spot [] (omega (arith, in-list, of.numbered.count)) in
-      let outer : (context_at contexts i).outer ≡ a = ap (λ (x : ContextSpot). x.around) (of.numbered.each i lt).spot in
-      let outer_box : (context_at contexts i).outer_box ≡ at = ap (λ (x : ContextSpot). x.at) (of.numbered.each i lt).spot in
-      let id : (box_at (boxes_of_place d.nodes styles (spot_at of.spots a).place) at).node.0 ≡ slice_index (ids_of d.nodes) p =
-      sym (get_or-map (λ (b : BoxNode). b.node.0) (boxes_of_place d.nodes styles (spot_at of.spots a).place) at no_box 0 s.within) ∙ s.node in
-      let same : (box_at (boxes_in contexts (context_at contexts i).outer) (context_at contexts i).outer_box).node.0 ≡ slice_index (ids_of d.nodes) p =
-      ap (λ (n : ℕ). (box_at (boxes_in contexts n) (context_at contexts i).outer_box).node.0) outer
-      ∙ (ap (λ (n : ℕ). (box_at (boxes_in contexts a) n).node.0) outer_box
-      ∙ (ap (λ (bs : List BoxNode). (box_at bs at).node.0) boxes ∙ id)) in
-      let here : p < length (ids_of d.nodes) = (let w = context_within d.nodes styles p (of.are.are i in-spots) in omega (arith, w, length-ids d.nodes)) in
-      ap (λ (n : ℕ). place_of n (ids_of d.nodes)) same
-      ∙ (place-is (slice_index (ids_of d.nodes) p) (ids_of d.nodes) (λ j k less in_ids. doc.ids j k less (omega (arith, in_ids, length-ids d.nodes))) p here refl
-      ∙ ap Some (sym (spot-place i lt)))
-
-  -- the same, as it is read
-  pub found-place : AreContexts contexts → (i o b : ℕ) → 0 < i → i < length contexts → o ≡ (context_at contexts i).outer → b ≡ (context_at contexts i).outer_box
-      → (xs : List BoxNode) → xs ≡ boxes_in contexts o → (x : BoxNode) → x ≡ slice_index_or xs b x → place_of x.node.0 (ids_of d.nodes) ≡ Some (context_at contexts i).place
-  found-place are i o b positive lt is-o is-b xs is-xs x e =
-      let there : xs ≡ boxes_in contexts (context_at contexts i).outer = is-xs ∙ ap (boxes_in contexts) is-o in
-      let low = are.outer_box i positive lt in
-      let in-boxes : b < length xs = subst (λ (n : ℕ). n < length xs) (sym is-b) (subst (λ (bs : List BoxNode). (context_at contexts i).outer_box < length bs) (sym there) low) in
-      ap (λ (y : BoxNode). place_of y.node.0 (ids_of d.nodes)) (same-read xs b x in-boxes e)
-      ∙ (ap (λ (bs : List BoxNode). place_of (box_at bs b).node.0 (ids_of d.nodes)) there
-      ∙ (ap (λ (n : ℕ). place_of (box_at (boxes_in contexts (context_at contexts i).outer) n).node.0 (ids_of d.nodes)) is-b ∙ element-place i positive lt))
 
   -- the places of contexts are those of all contexts, in order
   pub context-places : (places : List ℕ) → ArePlacesOf contexts places → AreContextPlaces d.nodes styles places

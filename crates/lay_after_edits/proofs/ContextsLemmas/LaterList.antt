@@ -31,6 +31,10 @@ column f xs ys e = through f xs ∙ (ap (map f) e ∙ sym (through f ys))
 pub same-count : (xs ys : List BoxNode) → all_unstyled xs ≡ all_unstyled ys → length xs ≡ length ys
 same-count xs ys e = sym (length-map xs unstyled) ∙ (ap length e ∙ length-map ys unstyled)
 
+-- a context that is another one but for its boxes is that one with its own boxes
+pub with_own_boxes : (was context : Context) (boxes : List BoxNode) → context ≡ record was { boxes = boxes } → context ≡ record was { boxes = context.boxes }
+with_own_boxes was context boxes is = is ∙ ap (λ (bs : List BoxNode). record was { boxes = bs }) (sym (ap (λ (x : Context). x.boxes) is))
+
 abbrev spot_by : ℕ → ℕ → ℕ → ContextSpot
 spot_by place around at = record { place = place; around = around; at = at }
 

@@ -31,7 +31,7 @@ pub fn contexts_after_all(
 {
     if are_alike_nodes(of, made) {
         let _ = of.doc.nodes();
-        let places = places_of(alloc, of, before)?;
+        let places = places_of(alloc, before)?;
         let reached = reached_contexts(alloc, of, made, &places)?;
         let _ = of.later.nodes();
         if let Some(later) = built(alloc, of, before, &places, reached)? {

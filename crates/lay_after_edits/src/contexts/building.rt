@@ -3,6 +3,7 @@
 ghost use Rattle.std.specs.Prelude.{◌≡◌, ◌<◌, false, IfOk, IfSome, length};
 ghost use Rattle.lay_boxgen.specs.Contexts.{IsContextAt};
 ghost use Rattle.lay_contexts.specs.ContextList.{AreContextsOf};
+ghost use Rattle.lay_contexts.specs.Contexts.{boxes_in, context_at};
 ghost use Rattle.lay_contexts.specs.ContextTree.{boxes_of_place};
 ghost use Rattle.lay_after_edits.specs.Contexts.Links.{AreRestyled};
 ghost use Rattle.lay_after_edits.specs.Contexts.Rebuilt.{AreRebuilt};
@@ -15,6 +16,7 @@ use lay_boxgen::boxes;
 use lay_contexts::{Context, ContextSpot, Contexts};
 use lay_units::NoMemory;
 use std::alloc::Global;
+use std::sync::Arc;
 
 /// The contexts of a document after edits. Where it is known that just some of their boxes were made anew, and that all else of them is
 /// as before, also which.
@@ -45,10 +47,9 @@ pub(crate) fn built(
     let _ = of.later.nodes();
     let mut items = Vec::with_capacity(alloc, before.len())?;
     for i in 0..before.len() {
-        let Some(boxes) = boxes_after(alloc, of, before.at(i), places[i], reached[i])? else {
+        let Some(context) = context_after(alloc, of, before, i, reached[i])? else {
             return Ok(None);
         };
-        let context = context_with(alloc, before.at(i), places[i], boxes)?;
         items.push(context)?;
     }
     Ok(Some(LaterContexts {
@@ -57,25 +58,51 @@ pub(crate) fn built(
     }))
 }
 
-/// The boxes of a context after an edit, whose element is at this place: made anew, or shared.
-/// None where more than styles and texts differ.
+/// What the context with the number i becomes: with boxes that are made anew, or shared. None where more than styles and texts of its
+/// boxes differ.
+fn context_after(
+    alloc: Global,
+    of: &DocPair<'_>,
+    before: &Contexts,
+    i: usize,
+    is_made: bool,
+) -> Result<Option<Arc<Context>>, NoMemory>
+    requires styles { length of.now.styles.now ≡ length of.now.later.now.nodes }
+    requires within { i < length before.now }
+    requires context { IsContextAt of.now.later.now.nodes of.now.styles.now (context_at before.now i).place }
+    requires kept { is_made ≡ false
+        → boxes_in before.now i ≡ boxes_of_place of.now.later.now.nodes of.now.styles.now (context_at before.now i).place }
+    ensures links { IfOk result (λ o. IfSome o (λ c. c.value ≡ record (context_at before.now i) { boxes = c.value.boxes })) }
+    ensures boxes { IfOk result
+        (λ o. IfSome o (λ c. c.value.boxes ≡ boxes_of_place of.now.later.now.nodes of.now.styles.now (context_at before.now i).place)) }
+    ensures unstyled { IfOk result (λ o. IfSome o (λ c. all_unstyled c.value.boxes ≡ all_unstyled (boxes_in before.now i))) }
+{
+    if !is_made {
+        let kept = before.share(i)?;
+        return Ok(Some(kept));
+    }
+    let context = before.at(i);
+    let place = context.place();
+    let Some(boxes) = boxes_after(alloc, of, context, place)? else {
+        return Ok(None);
+    };
+    let later = context_with(alloc, context, boxes)?;
+    let shared = Arc::new(alloc, later)?;
+    Ok(Some(shared))
+}
+
+/// The boxes of a context after an edit, whose element is at this place, made anew. None where more than styles and texts differ.
 fn boxes_after(
     alloc: Global,
     of: &DocPair<'_>,
     context: &Context,
     place: usize,
-    is_made: bool,
 ) -> Result<Option<ContextBoxes>, NoMemory>
     requires styles { length of.now.styles.now ≡ length of.now.later.now.nodes }
     requires context { IsContextAt of.now.later.now.nodes of.now.styles.now place }
-    requires kept { is_made ≡ false → context.now.boxes ≡ boxes_of_place of.now.later.now.nodes of.now.styles.now place }
     ensures boxes { IfOk result (λ o. IfSome o (λ b. b ≡ boxes_of_place of.now.later.now.nodes of.now.styles.now place)) }
     ensures unstyled { IfOk result (λ o. IfSome o (λ b. all_unstyled b ≡ all_unstyled context.now.boxes)) }
 {
-    if !is_made {
-        let shared = context.boxes().share()?;
-        return Ok(Some(shared));
-    }
     let node = of.later.nodes()[place].id;
     let tree = boxes(alloc, of.later, of.styles, node)?;
     let made = ContextBoxes::new(alloc, tree)?;
@@ -85,19 +112,13 @@ fn boxes_after(
     Ok(None)
 }
 
-/// A context that stands where another one does, at this place, with other boxes.
-fn context_with(
-    alloc: Global,
-    context: &Context,
-    place: usize,
-    boxes: ContextBoxes,
-) -> Result<Context, NoMemory>
-    requires { place ≡ context.now.place }
+/// A context that stands where another one does, with other boxes.
+fn context_with(alloc: Global, context: &Context, boxes: ContextBoxes) -> Result<Context, NoMemory>
     ensures { IfOk result (λ c. c ≡ record context.now { boxes = boxes }) }
 {
     let inner = Vec::from_slice(alloc, context.inner())?;
     let spot = ContextSpot {
-        place,
+        place: context.place(),
         around: context.outer(),
         at: context.outer_box(),
     };

@@ -64,7 +64,7 @@ fn restyled_contexts(
         later: of.later,
         styles: of.styles,
     };
-    let places = places_of(alloc, &pair, before)?;
+    let places = places_of(alloc, before)?;
     let reach = reach_of(of, &places, node);
     if !are_alike(
         of.was.as_slice(),

@@ -2,50 +2,30 @@
 
 ghost use Rattle.std.specs.Prelude.{ℕ, ◌≡◌, ◌<◌, ◌≤◌, IfNone, IfOk, IfSome, length, slice_index};
 ghost use Rattle.lay_boxgen.specs.ContextWalk.{Rise};
-ghost use Rattle.lay_contexts.specs.ContextList.{AreContextsOf};
 ghost use Rattle.lay_contexts.specs.Contexts.{context_at};
 ghost use Rattle.lay_after_edits.specs.Contexts.Reach.{ArePlacesOf};
 
-use crate::contexts::doc_pair::DocPair;
 use lay_contexts::Contexts;
 use lay_units::NoMemory;
 use std::alloc::Global;
 
-/// The places of the elements of the contexts before an edit.
-pub(crate) fn places_of(
-    alloc: Global,
-    of: &DocPair<'_>,
-    before: &Contexts,
-) -> Result<Vec<usize>, NoMemory>
-    requires styles { length of.now.was.now ≡ length of.now.doc.now.nodes }
-    requires before { AreContextsOf of.now.doc.now.nodes of.now.was.now before.now }
-    ensures { IfOk result (λ v. ArePlacesOf before.now v.items) }
+/// The places of the elements of these contexts.
+pub(crate) fn places_of(alloc: Global, contexts: &Contexts) -> Result<Vec<usize>, NoMemory>
+    ensures { IfOk result (λ v. ArePlacesOf contexts.now v.items) }
 {
-    let mut places = Vec::with_capacity(alloc, before.len())?;
-    for i in 0..before.len() {
-        places.push(place_of(of, before, i))?;
+    let mut places = Vec::with_capacity(alloc, contexts.len())?;
+    for i in 0..contexts.len() {
+        places.push(place_of(contexts, i))?;
     }
     Ok(places)
 }
 
-/// The place of the element of the context with the number i. Its box stands in the context around it, and has its id.
-fn place_of(of: &DocPair<'_>, before: &Contexts, i: usize) -> usize
-    requires styles { length of.now.was.now ≡ length of.now.doc.now.nodes }
-    requires before { AreContextsOf of.now.doc.now.nodes of.now.was.now before.now }
-    requires within { i < length before.now }
-    ensures { result ≡ (context_at before.now i).place }
+/// The place of the element of the context with the number i.
+fn place_of(contexts: &Contexts, i: usize) -> usize
+    requires { i < length contexts.now }
+    ensures { result ≡ (context_at contexts.now i).place }
 {
-    if i == 0 {
-        return 0;
-    }
-    let context = before.at(i);
-    let around = before.at(context.outer());
-    let element = around.boxes().as_slice()[context.outer_box()].node;
-    let _ = of.doc.nodes();
-    match of.doc.find(element) {
-        Some(place) => place,
-        None => unreachable!(),
-    }
+    contexts.at(i).place()
 }
 
 /// How many of these places stand before another one.

@@ -1,8 +1,9 @@
 //! The laws.
 
-ghost use Rattle.lay_core.specs.CoreLaws.Laws.{CleanCellsAreGiven, GrantedBatchesAreOneByOne, GrantedClaimsHaveOneWork, GrantsArePaidByChanges};
-ghost use Rattle.lay_core.specs.CoreLaws.Laws.{GrantsAreWithin, LayoutsGiveInputs, OneGivenInput, OneListOfChanges, OriginsStay};
-ghost use Rattle.lay_core.specs.CoreLaws.Laws.{ReadyCellsAreGiven, TurnsAreChanges, TurnsAreFew, TurnsAreOfVersions, TurnsAreWithin, VersionsAreDocuments};
+ghost use Rattle.lay_core.specs.CoreLaws.Laws.{CleanCellsAreGiven, GrantedBatchesAreOneByOne, GrantedClaimsHaveOneWork};
+ghost use Rattle.lay_core.specs.CoreLaws.Laws.{GrantsArePaidByChanges, GrantsAreWithin, LayoutsGiveInputs, OneGivenInput};
+ghost use Rattle.lay_core.specs.CoreLaws.Laws.{OneListOfChanges, OriginsStay, ReadyCellsAreGiven, TurnsAreChanges, TurnsAreFew};
+ghost use Rattle.lay_core.specs.CoreLaws.Laws.{TurnsAreOfVersions, TurnsAreWithin, VersionsAreDocuments};
 
 use lay_cell_work::cell_laws::{inputs_are_kept, one_cell_local, present_inputs_lead_inward};
 use lay_cell_work::outcome_laws::{batches_are_one_by_one, one_work};

@@ -7,6 +7,7 @@ ghost use Rattle.lay_context.specs.MeasuredFlags.{AreMeasured};
 ghost use Rattle.lay_context.specs.PlacedContexts.{not_placed};
 ghost use Rattle.lay_context_sizes.specs.ContextSizes.{not_sized};
 ghost use Rattle.lay_context_sizes.specs.MeasuredContexts.{not_measured};
+ghost use Rattle.lay_after_edits.specs.Contexts.Links.{AreRestyled};
 ghost use Rattle.lay_cell_work.specs.PresentInputs.{root_count};
 ghost use Rattle.lay_shape.specs.Dependencies.{in_phase};
 ghost use Rattle.lay_shape.specs.Keys.{AreOfOwnNodes, key_of};
@@ -19,11 +20,14 @@ use crate::table::root_columns::{RootColumns, number_in, root_columns};
 use lay_cells::Shape;
 use lay_context::{Phase, PlacedContext, measured_flags, no_pieces, not_placed, not_sized};
 use lay_context_sizes::{MeasuredContext, SizedContext};
-use lay_contexts::{Contexts, FormattingContexts, formatting_contexts};
+use lay_contexts::{
+    Contexts, FormattingContexts, LaterBoxes, formatting_contexts, later_formatting_contexts,
+};
 use lay_shape::{CellKey, ContextPhase, cells_of, key_of, shape};
 use lay_units::NoMemory;
 use std::alloc::Global;
 use std::marker::Model;
+use std::sync::Arc;
 
 /// The contexts of a document with their formatting contexts. It is known which root each of these is, and where the cells of each
 /// context stand, so that nothing is searched for.
@@ -32,6 +36,14 @@ pub struct CellTable {
     contexts: Contexts,
     formatting_contexts: FormattingContexts,
     measured: Vec<bool>,
+    shared: Arc<SharedColumns>,
+}
+
+/// What the links of contexts say without the styles and texts of their boxes: which root each formatting context is, the cells in
+/// their order, and where those of each context stand. Beside it stands what is read of a cell that keeps nothing. Tables of contexts
+/// with the same links share it.
+#[derive(Drop)]
+struct SharedColumns {
     roots: RootColumns,
     cells: Vec<ContextPhase>,
     places: Vec<CellPlaces>,
@@ -50,13 +62,13 @@ impl Model for CellTable {
 
     ghost invariant = { λ t. AreTableColumns (record { contexts = t.contexts; formatting_contexts = t.formatting_contexts }) (record {
       measured = t.measured.items;
-      roots = t.roots.roots.items;
-      firsts = t.roots.firsts.items;
-      cells = t.cells.items;
-      places = t.places.items;
-      no_widths = t.no_widths;
-      no_sizes = t.no_sizes;
-      no_place = t.no_place;
+      roots = t.shared.value.roots.roots.items;
+      firsts = t.shared.value.roots.firsts.items;
+      cells = t.shared.value.cells.items;
+      places = t.shared.value.places.items;
+      no_widths = t.shared.value.no_widths;
+      no_sizes = t.shared.value.no_sizes;
+      no_place = t.shared.value.no_place;
     }) };
 }
 
@@ -74,16 +86,49 @@ impl CellTable {
         let places = cell_places(alloc, &contexts, &cells)?;
         let no_sizes = not_sized(alloc)?;
         let no_place = not_placed(alloc, &no_pieces(alloc)?)?;
-        Ok(CellTable {
-            contexts,
-            formatting_contexts,
-            measured,
+        let columns = SharedColumns {
             roots,
             cells,
             places,
             no_widths: MeasuredContext::none(),
             no_sizes,
             no_place,
+        };
+        let shared = Arc::new(alloc, columns)?;
+        Ok(CellTable {
+            contexts,
+            formatting_contexts,
+            measured,
+            shared,
+        })
+    }
+
+    /// That of later contexts which keep all of these but the styles and texts of their boxes, so that their cells stand where these do.
+    /// NoMemory is also the answer for more formatting contexts than 16,777,216, which no document has.
+    pub fn restyled(
+        &self,
+        alloc: Global,
+        contexts: Contexts,
+        made: &[bool],
+    ) -> Result<CellTable, NoMemory>
+        requires { AreRestyled self.now.contexts contexts made.now }
+        ensures contexts { IfOk result (λ t. t.contexts ≡ contexts) }
+        ensures are { IfOk result (λ t. AreFormattingContextsOf t.contexts t.formatting_contexts) }
+    {
+        let _ = contexts.len();
+        let of = LaterBoxes {
+            contexts: &self.contexts,
+            all: &self.formatting_contexts,
+            later: &contexts,
+        };
+        let all = later_formatting_contexts(alloc, &of, made)?;
+        let measured = measured_flags(alloc, &all)?;
+        let shared = self.shared.clone()?;
+        Ok(CellTable {
+            contexts,
+            formatting_contexts: all,
+            measured,
+            shared,
         })
     }
 
@@ -123,7 +168,7 @@ impl CellTable {
         requires { c < length self.now.contexts }
         ensures { result ≡ first_number self.now.contexts c }
     {
-        number_in(&self.roots.firsts, c)
+        number_in(&self.shared.roots.firsts, c)
     }
 
     /// How many roots a context has.
@@ -131,7 +176,7 @@ impl CellTable {
         requires { c < length self.now.contexts }
         ensures { result ≡ root_count self.now.contexts c }
     {
-        number_in(&self.roots.firsts, c + 1) - number_in(&self.roots.firsts, c)
+        number_in(&self.shared.roots.firsts, c + 1) - number_in(&self.shared.roots.firsts, c)
     }
 
     /// Which root the formatting context with this number is.
@@ -139,14 +184,14 @@ impl CellTable {
         requires { i < length self.now.formatting_contexts }
         ensures { IsRootOf self.now.contexts result i }
     {
-        self.roots.roots[i]
+        self.shared.roots.roots[i]
     }
 
     /// How many cells there are.
     pub fn len(&self) -> usize
         ensures { result ≡ length (cells_of self.now.contexts) }
     {
-        self.cells.len()
+        self.shared.cells.len()
     }
 
     /// The cell at a place.
@@ -155,7 +200,7 @@ impl CellTable {
         ensures cell { slice_get (cells_of self.now.contexts) place ≡ Some result }
         ensures within { result.context < length self.now.contexts }
     {
-        cell_in(&self.contexts, &self.cells, place)
+        cell_in(&self.contexts, &self.shared.cells, place)
     }
 
     /// The place of the cell of a context for a phase.
@@ -163,7 +208,7 @@ impl CellTable {
         requires { context < length self.now.contexts }
         ensures { slice_get (cells_of self.now.contexts) result ≡ Some (in_phase phase context) }
     {
-        place_in(self.places[context], phase)
+        place_in(self.shared.places[context], phase)
     }
 
     /// The key of the cell at a place.
@@ -194,20 +239,20 @@ impl CellTable {
     pub(crate) fn no_widths(&self) -> &MeasuredContext
         ensures { result.now ≡ not_measured }
     {
-        &self.no_widths
+        &self.shared.no_widths
     }
 
     /// What is read of the sizes of a context that has none.
     pub(crate) fn no_sizes(&self) -> &SizedContext
         ensures { result.now ≡ not_sized }
     {
-        &self.no_sizes
+        &self.shared.no_sizes
     }
 
     /// What is read of the placement of a context that has none.
     pub(crate) fn no_place(&self) -> &PlacedContext
         ensures { result.now ≡ not_placed }
     {
-        &self.no_place
+        &self.shared.no_place
     }
 }

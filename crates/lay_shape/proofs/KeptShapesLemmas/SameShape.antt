@@ -45,7 +45,7 @@ module _ (contexts later : List Context) (made : List Bool) (are : AreRestyled c
   abbrev in_rounds : List ℕ → (ℕ → List ContextPhase) → ℕ → List ContextPhase
   in_rounds numbers round count = map (in_phase Measure) (reverse numbers) ++ flat_map round (range_with_len 0 (count + 1))
 
-  cells-stay : cells_of later ≡ cells_of contexts
+  pub cells-stay : cells_of later ≡ cells_of contexts
   cells-stay =
       ap (λ (ns : List ℕ). in_rounds ns (round_of later) (length later)) numbers-stay
       ∙ (ap (λ (r : ℕ → List ContextPhase). in_rounds (numbers_of contexts) r (length later)) (fun_ext round-stays)

@@ -28,6 +28,6 @@ returns c =
     let part : c.parting_at-parting.result.now.homes ≡ homes_in homes i = ap (λ (p : Parting). p.homes) c.parting_at-parting.ensures ∙ sym (homes_there ps i) in
     let boxes : c.in_ok-boxes.boxes ≡ boxes_of_root (boxes_in contexts i) (homes_in homes i) r = c.in_ok-boxes.ensures {u = tt}
     ∙ ap (λ (bs : List BoxNode). boxes_of_root bs c.parting_at-parting.result.now.homes r) here ∙ ap (λ (hs : List ℕ). boxes_of_root (boxes_in contexts i) hs r) part in
-    let inner = c.in_ok-inner.ensures {u = tt} in
+    let inner : c.in_ok-inner.inner.value.items ≡ inner_numbers contexts homes i r = rw (c.in_ok-inner.ensures {u = tt}).ok (c.in_ok-inner_numbers.ensures {u = tt}) in
     joined (nat_lt 0 r) c.number_at.result (number_at contexts homes (spot_of contexts i r)) c.rank_at.result (rank_at homes (spot_of contexts i r)) c.in_ok-boxes.boxes (boxes_of_root (boxes_in contexts i) (homes_in homes i) r)
-    c.in_ok-inner.inner.items (inner_numbers contexts homes i r) outer outer_box boxes inner
+    c.in_ok-inner.inner.value.items (inner_numbers contexts homes i r) outer outer_box boxes inner

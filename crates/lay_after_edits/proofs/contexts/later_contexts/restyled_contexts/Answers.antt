@@ -68,9 +68,6 @@ built-requires-clause-rebuilt c =
     c.narrowed.result c.narrowed.ensures c.in_ok-reached.reached.items (length c.deref-3.result.now) (ap length c.deref-3.ensures.value)
     (subst (λ (places : List ℕ). AreReachFlags c.narrowed.result places c.in_ok-reached.reached.items (length c.deref-3.result.now)) c.deref-3.ensures.value (c.in_ok-reached.ensures {u = tt})))
 
-pub places_of-requires-clause-styles : goal.places_of-requires-clause-styles
-places_of-requires-clause-styles c = c.requires.edited.before.length_is ∙ length-parents c.args.of.now.doc.now.nodes
-
 pub built-requires-clause-styles : goal.built-requires-clause-styles
 built-requires-clause-styles c = c.requires.edited.before.length_is ∙ length-parents c.args.of.now.doc.now.nodes
 

@@ -3,4 +3,4 @@ use Rattle.lay_contexts.specs.Contexts.{context_at}
 use Rattle.lay_after_edits.proofs.contexts.places.places_of.Given as goal
 
 abbrev pub invariant-loop-i : goal.invariant-loop-i
-invariant-loop-i l = (length l.places.items ≡ l.i) × ((k : ℕ) → k < l.i → slice_index l.places.items k ≡ (context_at l.before k).place)
+invariant-loop-i l = (length l.places.items ≡ l.i) × ((k : ℕ) → k < l.i → slice_index l.places.items k ≡ (context_at l.contexts k).place)

@@ -4,8 +4,8 @@ use Rattle.lay_cells.specs.Sound.{IsSound}
 use Rattle.lay_cell_work.specs.CellLocal.{IsCellLocal}
 use Rattle.lay_document_cells.specs.Settling.{GivesUpAt}
 use Rattle.lay_document_cells.specs.State.{State}
-use Rattle.lay_document_cells.proofs.Answered.{back_as, err_any, key_same, on_err, on_ok, work_as}
-use Rattle.lay_document_cells.proofs.SettledPlaces.{computed_at, granted_up, nothing_claimed, reused_at, taken_up}
+use Rattle.lay_document_cells.proofs.Answered.{back_as, claim_as, err_any, key_same, on_err, on_ok, work_as}
+use Rattle.lay_document_cells.proofs.SettledPlaces.{claimed_for, computed_at, granted_up, nothing_claimed, reused_at, taken_up}
 use Rattle.lay_document_cells.proofs.document_cells.DocumentCells.settle_ready.Goals as goal
 
 pub returns-then-can_reuse-clause-ok : goal.returns-then-can_reuse-clause-ok
@@ -62,3 +62,23 @@ returns-in-Taken-clause-err c =
     (λ same. subst (GivesUpAt c.args.self.now) (sym same)
     (taken_up c.args.self.now (subst (λ (x : State). IsSound IsCellLocal x.cells) c.self.view_is c.sound.ensures) c.args.place h.0 h.1 c.requires.clean
     c.claims_keep_rows.ensures c.claim_input.new.self (arc_value c.in_ok-shared.shared) c.in-Taken.number h.2))
+
+pub finish_granted-requires : goal.finish_granted-requires
+finish_granted-requires c =
+    let h = c.in-Granted.ensures in
+    record {
+      claimed = claim_as c.claim_input.new.self c.key_at-key.result h.0.key c.in-Granted.number (arc_value c.in_ok-input.input) (arc_value c.in_ok-shared.shared)
+          (key_same _ c.args.self.now c.self.view_is c.args.place c.key_at-key.result c.key_at-key.ensures h.0 h.1) c.in_ok-shared.ensures.cases
+          (claimed_for c.args.self.now (subst (λ (x : State). IsSound IsCellLocal x.cells) c.self.view_is c.sound.ensures) c.args.place h.0 h.1 c.requires.clean
+          c.claim_input.new.self (arc_value c.in_ok-shared.shared) _ c.in-Granted.number h.2 refl);
+    }
+
+pub finish_claimed-requires : goal.finish_claimed-requires
+finish_claimed-requires c =
+    let h = c.in-Taken.ensures in
+    record {
+      claimed = claim_as c.claim_input.new.self c.key_at-key.result h.0.key c.in-Taken.number (arc_value c.in_ok-input.input) (arc_value c.in_ok-shared.shared)
+          (key_same _ c.args.self.now c.self.view_is c.args.place c.key_at-key.result c.key_at-key.ensures h.0 h.1) c.in_ok-shared.ensures.cases
+          (claimed_for c.args.self.now (subst (λ (x : State). IsSound IsCellLocal x.cells) c.self.view_is c.sound.ensures) c.args.place h.0 h.1 c.requires.clean
+          c.claim_input.new.self (arc_value c.in_ok-shared.shared) _ c.in-Taken.number h.2 refl);
+    }

@@ -11,13 +11,13 @@ pub index-requires : goal.index-requires
 index-requires c =
     let columns : TableColumns = record {
       measured = c.self.inside.measured.items;
-      roots = c.self.inside.roots.roots.items;
-      firsts = c.self.inside.roots.firsts.items;
-      cells = c.self.inside.cells.items;
-      places = c.self.inside.places.items;
-      no_widths = c.self.inside.no_widths;
-      no_sizes = c.self.inside.no_sizes;
-      no_place = c.self.inside.no_place;
+      roots = c.self.inside.shared.value.roots.roots.items;
+      firsts = c.self.inside.shared.value.roots.firsts.items;
+      cells = c.self.inside.shared.value.cells.items;
+      places = c.self.inside.shared.value.places.items;
+      no_widths = c.self.inside.shared.value.no_widths;
+      no_sizes = c.self.inside.shared.value.no_sizes;
+      no_place = c.self.inside.shared.value.no_place;
     } in
     let are = subst (λ (t : ContextLists). AreTableColumns t columns) c.self.view_is c.self.invariant in
     let low = first_there c.args.self.now.contexts c.args.self.now.formatting_contexts are.are_contexts are.are_formatting_contexts c.args.c c.requires in
@@ -28,13 +28,13 @@ pub returns : goal.returns
 returns c =
     let columns : TableColumns = record {
       measured = c.self.inside.measured.items;
-      roots = c.self.inside.roots.roots.items;
-      firsts = c.self.inside.roots.firsts.items;
-      cells = c.self.inside.cells.items;
-      places = c.self.inside.places.items;
-      no_widths = c.self.inside.no_widths;
-      no_sizes = c.self.inside.no_sizes;
-      no_place = c.self.inside.no_place;
+      roots = c.self.inside.shared.value.roots.roots.items;
+      firsts = c.self.inside.shared.value.roots.firsts.items;
+      cells = c.self.inside.shared.value.cells.items;
+      places = c.self.inside.shared.value.places.items;
+      no_widths = c.self.inside.shared.value.no_widths;
+      no_sizes = c.self.inside.shared.value.no_sizes;
+      no_place = c.self.inside.shared.value.no_place;
     } in
     let are = subst (λ (t : ContextLists). AreTableColumns t columns) c.self.view_is c.self.invariant in
     let low = first_there c.args.self.now.contexts c.args.self.now.formatting_contexts are.are_contexts are.are_formatting_contexts c.args.c c.requires in
