@@ -1,3 +1,4 @@
+pub mod Spans
 pub mod Styled
 pub mod Fields
 pub mod FaceFields
@@ -11,4 +12,5 @@ pub mod RunDocument
 pub mod SheetNames
 pub mod CheckDocuments
 pub mod Reading
+pub mod Pulled
 pub mod Laws

@@ -87,13 +87,35 @@ fn put_node(alloc: Global, doc: &mut Gathered, value: &Value) -> Result<(), Inpu
     put_last(doc, parent, new)
 }
 
-fn put_nodes(alloc: Global, doc: &mut Gathered, values: &[Value]) -> Result<(), InputFault>
+/// Reads further nodes and puts them into the document.
+pub(crate) fn put_nodes(
+    alloc: Global,
+    doc: &mut Gathered,
+    values: &[Value],
+) -> Result<(), InputFault>
     ensures { Changes result doc.new (put_nodes doc.old (items_view values.now)) }
 {
     for value in values {
         put_node(alloc, doc, value)?;
     }
     Ok(())
+}
+
+/// The document of a first node and those after it, to which more may be put.
+pub(crate) fn gathered(
+    alloc: Global,
+    viewport: (u32, u32),
+    first: &Value,
+    rest: &[Value],
+) -> Result<Gathered, InputFault>
+    requires low { (1 ≤ viewport.0) × (1 ≤ viewport.1) }
+    requires high { (viewport.0 ≤ 1000000) × (viewport.1 ≤ 1000000) }
+    ensures { Gives result (document_of viewport (view first.now) (items_view rest.now)) }
+{
+    let (parent, root) = node_at(alloc, 0, first)?;
+    let mut doc = root_of(alloc, viewport, parent, root)?;
+    put_nodes(alloc, &mut doc, rest)?;
+    Ok(doc)
 }
 
 /// The document of a first node and those after it.
@@ -107,8 +129,6 @@ pub(crate) fn document_of(
     requires high { (viewport.0 ≤ 1000000) × (viewport.1 ≤ 1000000) }
     ensures { Gives result (document_of viewport (view first.now) (items_view rest.now)) }
 {
-    let (parent, root) = node_at(alloc, 0, first)?;
-    let mut doc = root_of(alloc, viewport, parent, root)?;
-    put_nodes(alloc, &mut doc, rest)?;
+    let doc = gathered(alloc, viewport, first, rest)?;
     Ok(doc.into_doc(alloc)?)
 }

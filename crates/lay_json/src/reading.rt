@@ -1,6 +1,6 @@
 //! The reading of bytes.
 
-ghost use Rattle.std.specs.Prelude.{◌≢◌, Err};
+ghost use Rattle.std.specs.Prelude.{◌≢◌, ◌≤◌, length, Err};
 ghost use Rattle.serde_json.specs.View.{view};
 ghost use Rattle.lay_json.specs.Fields.{Gives};
 ghost use Rattle.lay_json.specs.SheetNames.{input_of};
@@ -9,9 +9,11 @@ ghost use Rattle.lay_json.specs.Reading.{IsRunReading, IsInput, IsCheck};
 use crate::check::check_of;
 use crate::check_in::CheckIn;
 use crate::fault::InputFault;
+use crate::pulled::pulled_input;
 use crate::run::run_of;
 use crate::sheet_in::SheetIn;
 use crate::sheet_names::sheet_of;
+use crate::spans::Halt;
 use lay_run::RunDoc;
 use serde_json::{Category, Value};
 use std::alloc::Global;
@@ -41,6 +43,18 @@ pub(crate) fn input_of(alloc: Global, value: &Value) -> Result<(RunDoc, SheetIn)
     Ok((run, sheet))
 }
 
+/// What `read_input` answers, of the tree of the bytes.
+fn whole_input(alloc: Global, bytes: &[u8]) -> Result<(RunDoc, SheetIn), InputFault>
+    requires { length bytes.now ≤ 16777216 }
+    ensures { result ≢ Err InputFault.NoMemory → IsInput bytes.now result }
+{
+    match Value::from_slice(alloc, bytes) {
+        Ok(value) => input_of(alloc, &value),
+        Err(fault) if fault.classify() == Category::Memory => Err(InputFault::NoMemory),
+        Err(_) => Err(InputFault::BadJson),
+    }
+}
+
 /// The run that the bytes of a run document say, with its style sheet and what its nodes are called, or their first fault. Faults of
 /// the run come before those of the sheet and the names.
 pub fn read_input(alloc: Global, bytes: &[u8]) -> Result<(RunDoc, SheetIn), InputFault>
@@ -49,10 +63,10 @@ pub fn read_input(alloc: Global, bytes: &[u8]) -> Result<(RunDoc, SheetIn), Inpu
     if bytes.len() > MOST_BYTES {
         return Err(InputFault::TooLong);
     }
-    match Value::from_slice(alloc, bytes) {
-        Ok(value) => input_of(alloc, &value),
-        Err(fault) if fault.classify() == Category::Memory => Err(InputFault::NoMemory),
-        Err(_) => Err(InputFault::BadJson),
+    match pulled_input(alloc, bytes) {
+        Ok(input) => Ok(input),
+        Err(Halt::NoMemory) => Err(InputFault::NoMemory),
+        Err(Halt::Doubt) => whole_input(alloc, bytes),
     }
 }
 

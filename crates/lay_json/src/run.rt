@@ -19,7 +19,7 @@ use std::alloc::Global;
 use std::sync::Arc;
 
 /// The viewport's width and height, in px.
-fn viewport_of(run: &Value) -> Result<(u32, u32), InputFault>
+pub(crate) fn viewport_of(run: &Value) -> Result<(u32, u32), InputFault>
     ensures value { result ≡ viewport_sides (view run.now) }
     ensures low { IfOk result (λ s. (1 ≤ s.0) × (1 ≤ s.1)) }
     ensures high { IfOk result (λ s. (s.0 ≤ 1000000) × (s.1 ≤ 1000000)) }
@@ -50,7 +50,7 @@ fn node_list(run: &Value) -> Result<(&Value, &[Value]), InputFault>
 }
 
 /// A run's editors, none where the field is absent.
-fn editor_list(run: &Value) -> Result<&[Value], InputFault>
+pub(crate) fn editor_list(run: &Value) -> Result<&[Value], InputFault>
     ensures { map_read (λ v. items_view v.now) result ≡ editor_list (view run.now) }
 {
     match value_in(run, Field::Editors) {
@@ -59,7 +59,7 @@ fn editor_list(run: &Value) -> Result<&[Value], InputFault>
     }
 }
 
-fn shared(alloc: Global, face: Face) -> Result<Arc<Face>, NoMemory>
+pub(crate) fn shared(alloc: Global, face: Face) -> Result<Arc<Face>, NoMemory>
     ensures { IfOk result (λ a. a.value ≡ face) }
 {
     let face = Arc::new(alloc, face)?;

@@ -128,14 +128,26 @@ fn add_names(alloc: Global, names: &mut NamesList, node: &Value) -> Result<(), I
     Ok(())
 }
 
+/// Reads what further nodes are called, and adds it.
+pub(crate) fn add_all_names(
+    alloc: Global,
+    names: &mut NamesList,
+    nodes: &[Value],
+) -> Result<(), InputFault>
+    ensures { Changes result names.new (names_from names.old (items_view nodes.now)) }
+{
+    for node in nodes {
+        add_names(alloc, names, node)?;
+    }
+    Ok(())
+}
+
 /// What the nodes are called.
-fn names_in(alloc: Global, nodes: &[Value]) -> Result<NamesList, InputFault>
+pub(crate) fn names_in(alloc: Global, nodes: &[Value]) -> Result<NamesList, InputFault>
     ensures { Gives result (names_from [] (items_view nodes.now)) }
 {
     let mut names = NamesList::new(alloc);
-    for node in nodes {
-        add_names(alloc, &mut names, node)?;
-    }
+    add_all_names(alloc, &mut names, nodes)?;
     Ok(names)
 }
 
@@ -149,7 +161,7 @@ fn nodes_in(run: &Value) -> &[Value]
     }
 }
 
-fn items_in(nodes: &Value) -> &[Value]
+pub(crate) fn items_in(nodes: &Value) -> &[Value]
     ensures { items_view result.now ≡ items_or_none (view nodes.now) }
 {
     match nodes.as_array() {

@@ -1,5 +1,4 @@
-use Rattle.std.proofs.Common.{◌≡◌, ◌∷◌, [], drop, sym, ◌∙◌, append-nil}
-use Rattle.std.proofs.Math.ListN.{drop_of_length-le}
+use Rattle.std.proofs.Common.{◌≡◌, ◌∷◌, arith, rules}
 use Rattle.serde_json.specs.View.{view, items_view}
 use Rattle.lay_doc.specs.Document.{Document}
 use Rattle.lay_json.specs.Listing.{id_in, ids_in}
@@ -8,7 +7,5 @@ use Rattle.lay_json.proofs.listing.listed_in.Goals as goal
 
 pub returns-clause-listed : goal.returns-clause-listed
 returns-clause-listed c =
-    let end : drop c.loop-node.node-index c.args.rest.now ≡ [] = drop_of_length-le c.args.rest.now c.loop-node-test.false in
-    let last = rw end at c.loop-node.invariant in
-    let whole : c.loop-node.listed ≡ id_in (view c.args.first.now) ∷ ids_in (items_view c.args.rest.now) = sym (append-nil c.loop-node.listed) ∙ last in
+    let whole : c.list_nodes.new.listed ≡ id_in (view c.args.first.now) ∷ ids_in (items_view c.args.rest.now) = first_of (search rules, grind arith) in
     λ viewport (d : Document) given. rw whole (document_listed (view c.args.first.now) (items_view c.args.rest.now) viewport d given)

@@ -1,0 +1,4 @@
+pub mod Modes
+pub mod Scans
+pub mod Readings
+pub mod Laws
