@@ -1,8 +1,8 @@
 -- A selector that is read from its first step on, for all nodes at once.
-use Rattle.std.proofs.Common.{◌≡◌, ◌≢◌, ◌∙◌, ◌↔◌, ℕ, zero, suc, ◌+◌, ◌-◌, ◌<◌, ◌≤◌, ◌⊎◌, inl, inr, List, [], ◌∷◌, ◌++◌, Bool, true, false, Option, Some, None, length, take, reverse, refl, sym, ap, subst, arith}
-use Rattle.std.specs.Prelude.{slice_index, slice_index_or}
+use Rattle.std.proofs.Common.{◌≡◌, ◌≢◌, ◌∙◌, ◌↔◌, ℕ, zero, suc, ◌+◌, ◌-◌, ◌<◌, ◌≤◌, ◌⊎◌, inl, inr, List, [], ◌∷◌, ◌++◌, Bool, true, false, Some, None, length, take, reverse, refl, sym, ap, subst, arith}
+use Rattle.std.specs.Prelude.{slice_index, slice_index_or, ◌&&◌}
 use Rattle.std.specs.List.{list_any}
-use Rattle.std.proofs.lemmas.Bool.{false≢true, cases_lt, cases_Bool, or_parts}
+use Rattle.std.proofs.lemmas.Bool.{false≢true, cases_lt, and_parts, and_from, or_parts}
 use Rattle.std.proofs.lemmas.List.{length-append, length-reverse, get_or_append_left, get_or_push, take_all}
 use Rattle.std.proofs.Math.ListN.{get_or-eq_default}
 use Rattle.lay_doc.specs.declared.node.Node.{Node}
@@ -15,7 +15,7 @@ use Rattle.lay_sheet.specs.declared.selector.Simple.{Simple}
 use Rattle.lay_sheet.specs.declared.selector.Step.{Step}
 use Rattle.lay_cascade.specs.NodeNames.{fits_at}
 use Rattle.lay_cascade.specs.Matching.{Matches, Stands, IsMatched, Says, first, next}
-use Rattle.lay_cascade.specs.Columns.{IsColumn, ComeTo, IsReached, ComesNext}
+use Rattle.lay_cascade.specs.Columns.{IsColumn, ComeTo, IsReached, Leads}
 use Rattle.lay_cascade.proofs.Standing.{under_parent, parent_above, above_under}
 use Rattle.lay_cascade.proofs.Climbing.{fits_within}
 use Rattle.lay_cascade.proofs.Leading.{reversed_more, length_take, head_fits, step_back}
@@ -38,10 +38,6 @@ says_of a b Holds e was = subst (λ z. Says z Holds) (sym e) was
 
 pub says_itself : (b c : Bool) → b ≡ c → Says b (c ≡ true)
 says_itself b c e = record { yes = λ t. sym e ∙ t; no = λ f t. absurd (false≢true (sym f ∙ e ∙ t)) }
-
--- where the first of two facts holds, a truth value of the second is one of both
-pub says_both : (b c : Bool) (First : Type 0) → b ≡ c → First → Says b (First × (c ≡ true))
-says_both b c First e h = record { yes = λ t. (h, sym e ∙ t); no = λ f w. absurd (false≢true (sym f ∙ e ∙ w.1)) }
 
 -- the nodes that fit a simple selector
 abbrev pub fitting_node : List Names → Simple → ℕ → Type 0
@@ -158,29 +154,40 @@ module _ (nodes : List Node) (names : List Names) (steps : List Step) where
       let f = head_fits nodes names step (reverse (take (count + 1) steps)) (reverse (take count steps)) k (listed count step inside is) w in
       subst (λ z. k < z) same (fits_within names k step.simple f)
 
-  pub more_come : (count : ℕ) (before step : Step) (ends column : List Bool) → count + 1 < length steps → before ≡ slice_index_or steps count before → step ≡ slice_index_or steps (count + 1) step →
-      length names ≡ length nodes → IsColumn (length nodes) (ComeTo nodes names steps (count + 1)) ends → IsColumn (length nodes) (ComesNext nodes names ends step) column →
-      IsColumn (length nodes) (ComeTo nodes names steps (count + 1 + 1)) column
-  more_come count before step ends column inside was_before is same was more =
-      column_same (length nodes) (ComesNext nodes names ends step) (ComeTo nodes names steps (count + 1 + 1)) column (λ k h w. to k w.0 w.1) (λ k h w. from k w) more
-    where
-      here : count < length steps
-      here = omega (arith, inside)
+  -- a step comes to a node that fits it and is joined to one that the steps before come to
+  pub come_next : (count : ℕ) (step : Step) (b f : Bool) (k : ℕ) → 0 < count → count < length steps → step ≡ slice_index_or steps count step → f ≡ fits_at names k step.simple →
+      Says b (Leads nodes names steps count step.joint k) → Says (f && b) (ComeTo nodes names steps (count + 1) k)
+  come_next count step b f k some inside is fitted leads = record {
+    yes = λ e. let p = and_parts f b e in
+        let w = leads.yes p.1 in
+        subst (λ z. Matches nodes names z k) (sym (listed count step inside is)) (next step (reverse (take count steps)) w.0 k w.1 w.2 (sym fitted ∙ p.0));
+    no = λ e w.
+        let fit = fitted ∙ head_fits nodes names step (reverse (take (count + 1) steps)) (reverse (take count steps)) k (listed count step inside is) w in
+        false≢true (sym e ∙ and_from f b fit (says_yes b (Leads nodes names steps count step.joint k) leads (steps_end count step inside is k some w)));
+  }
 
-      to : (k : ℕ) → IsReached nodes ends step.joint k → fits_at names k step.simple ≡ true → ComeTo nodes names steps (count + 1 + 1) k
-      to k (m, e, s) f =
+  -- what a column of the steps before says of a joint
+  pub column_leads : (count : ℕ) (ends : List Bool) (joint : Joint) (b : Bool) (k : ℕ) → 0 < count → count ≤ length steps → length names ≡ length nodes →
+      IsColumn (length nodes) (ComeTo nodes names steps count) ends → Says b (IsReached nodes ends joint k) → Says b (Leads nodes names steps count joint k)
+  column_leads count ends joint b k some inside same was says = says_same b (IsReached nodes ends joint k) (Leads nodes names steps count joint k) to from says
+    where
+      to : IsReached nodes ends joint k → Leads nodes names steps count joint k
+      to (m, e, s) =
           let l = set_within ends m e in
           let c = was.count in
           let h : m < length nodes = omega (arith, l, c) in
-          subst (λ z. Matches nodes names z k) (sym (listed (count + 1) step inside is)) (next step (reverse (take (count + 1) steps)) m k ((was.each m h).yes e) s f)
+          (m, (was.each m h).yes e, s)
 
-      told : (m : ℕ) → ComeTo nodes names steps (count + 1) m → slice_index_or ends m false ≡ true
-      told m w = says_yes (slice_index_or ends m false) (ComeTo nodes names steps (count + 1) m) (was.each m (come_within count m before here was_before same w)) w
+      -- the steps come to nodes alone
+      within : (m : ℕ) → ComeTo nodes names steps count m → m < length nodes
+      within m w =
+          let l : count - 1 < length steps = omega (arith, some, inside) in
+          let q : (count - 1) + 1 ≡ count = omega (arith, some) in
+          let s = step_in steps (count - 1) l in
+          come_within (count - 1) m s.0 l s.1 same (subst (λ z. ComeTo nodes names steps z m) (sym q) w)
 
-      from : (k : ℕ) → ComeTo nodes names steps (count + 1 + 1) k → ComesNext nodes names ends step k
-      from k w =
-          let b = steps_end (count + 1) step inside is k (omega arith) w in
-          ((b.0, told b.0 b.1, b.2), head_fits nodes names step (reverse (take (count + 1 + 1) steps)) (reverse (take (count + 1) steps)) k (listed (count + 1) step inside is) w)
+      from : Leads nodes names steps count joint k → IsReached nodes ends joint k
+      from (m, w, s) = (m, says_yes (slice_index_or ends m false) (ComeTo nodes names steps count m) (was.each m (within m w)) w, s)
 
   -- where some steps come to a node, fewer come to one
   fewer_come : (d count : ℕ) (k : ℕ) → 0 < count → count + d ≤ length steps → ComeTo nodes names steps (count + d) k → (m : ℕ) × ComeTo nodes names steps count m
@@ -222,17 +229,6 @@ module _ (nodes : List Node) (names : List Names) (steps : List Step) where
       (λ k h w. subst (λ z. Matches nodes names z k) e w) (λ k h w. subst (λ z. Matches nodes names z k) (sym e) w) was
 
   -- the same of the count of steps that are read
-  pub more_come_at : (done : ℕ) (step : Step) (ends column : List Bool) → 0 < done → done < length steps → step ≡ slice_index_or steps done step → length names ≡ length nodes →
-      IsColumn (length nodes) (ComeTo nodes names steps done) ends → IsColumn (length nodes) (ComesNext nodes names ends step) column → IsColumn (length nodes) (ComeTo nodes names steps (done + 1)) column
-  more_come_at zero step ends column some inside is same was more = absurd (omega (arith, some))
-  more_come_at (suc n) step ends column some inside is same was more =
-      let l : n < length steps = omega (arith, inside) in
-      let e : suc n ≡ n + 1 = omega arith in
-      let b = step_in steps n l in
-      let i : n + 1 < length steps = omega (arith, inside) in
-      subst (λ z. IsColumn (length nodes) (ComeTo nodes names steps (z + 1)) column) (sym e)
-      (more_come n b.0 step ends column i b.1 (subst (λ z. step ≡ slice_index_or steps z step) e is) same (subst (λ z. IsColumn (length nodes) (ComeTo nodes names steps z) ends) e was) more)
-
   pub none_come_at : (done : ℕ) (column : List Bool) → 0 < done → done ≤ length steps → length names ≡ length nodes →
       IsColumn (length nodes) (ComeTo nodes names steps done) column → list_any (λ told. told) column ≡ false → IsColumn (length nodes) (IsMatched nodes names steps) column
   none_come_at zero column some inside same was none = absurd (omega (arith, some))

@@ -5,3 +5,6 @@ pub mod Columns
 pub mod ClassSets
 pub mod Standing
 pub mod Adjacent
+pub mod TruthValues
+pub mod Masks
+pub mod Reading

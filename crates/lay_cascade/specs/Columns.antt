@@ -4,7 +4,6 @@ use Rattle.lay_doc.specs.declared.node.Node.{Node}
 use Rattle.lay_cascade.specs.declared.node_names.names.Names.{Names}
 use Rattle.lay_sheet.specs.declared.selector.Joint.{Joint}
 use Rattle.lay_sheet.specs.declared.selector.Step.{Step}
-use Rattle.lay_cascade.specs.NodeNames.{fits_at}
 use Rattle.lay_cascade.specs.Matching.{Stands, Matches, Says}
 
 -- a column says of each of the first n nodes whether something holds of it
@@ -20,6 +19,6 @@ ComeTo nodes names steps count k = Matches nodes names (reverse (take count step
 abbrev pub IsReached : List Node → List Bool → Joint → ℕ → Type 0
 IsReached nodes column joint k = (m : ℕ) × (slice_index_or column m false ≡ true) × Stands nodes joint m k
 
--- the same, and it fits the step
-abbrev pub ComesNext : List Node → List Names → List Bool → Step → ℕ → Type 0
-ComesNext nodes names column step k = IsReached nodes column step.joint k × (fits_at names k step.simple ≡ true)
+-- the node at k stands to one that the first steps come to as a joint says
+abbrev pub Leads : List Node → List Names → List Step → ℕ → Joint → ℕ → Type 0
+Leads nodes names steps count joint k = (m : ℕ) × ComeTo nodes names steps count m × Stands nodes joint m k

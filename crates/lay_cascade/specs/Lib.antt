@@ -6,4 +6,7 @@ pub mod LastChildren
 pub mod Matching
 pub mod Rising
 pub mod Columns
+pub mod Words
+pub mod Windows
+pub mod Reading
 pub mod Specificity

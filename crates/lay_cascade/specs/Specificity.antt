@@ -1,6 +1,5 @@
--- Specificity (CSS 2.2, 6.4.3): how many labels, classes and tags a selector names. More labels count before more
--- classes, and these before more tags.
-use Rattle.std.specs.Prelude.{◌+◌, ◌==◌, List, [], ◌∷◌, Bool, nat_lt, if◌then◌else◌}
+-- Specificity (CSS 2.2, 6.4.3): how many labels, classes and tags a selector names.
+use Rattle.std.specs.Prelude.{◌+◌, List, [], ◌∷◌}
 use Rattle.lay_sheet.specs.declared.selector.Simple.{Simple}
 use Rattle.lay_sheet.specs.declared.selector.Simple.TheVariants.{Universal, Tag, Class, Label}
 use Rattle.lay_sheet.specs.declared.selector.Step.{Step}
@@ -15,9 +14,3 @@ counted (Label name) s = record s { labels = s.labels + 1 }
 abbrev pub specificity_of : List Step → Specificity
 specificity_of [] = record { labels = 0; classes = 0; tags = 0 }
 specificity_of (step ∷ steps) = counted step.simple (specificity_of steps)
-
--- whether the first is the smaller one
-abbrev pub is_less_specific : Specificity → Specificity → Bool
-is_less_specific a b =
-    if a.labels == b.labels then (if a.classes == b.classes then nat_lt a.tags b.tags else nat_lt a.classes b.classes)
-    else nat_lt a.labels b.labels

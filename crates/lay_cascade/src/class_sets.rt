@@ -20,7 +20,7 @@ pub struct ClassSet<'a> {
     places: HashMap<&'a [u8], usize>,
 }
 
-fn bytes_at(classes: &[Text], i: usize) -> &[u8]
+pub(crate) fn bytes_at(classes: &[Text], i: usize) -> &[u8]
     requires { i < length classes.now }
     ensures { result.now ≡ slice_index_or classes.now i result.now }
 {

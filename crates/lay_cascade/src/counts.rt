@@ -1,7 +1,7 @@
 //! Specificity.
 
 ghost use Rattle.std.specs.Prelude.{◌≡◌, ◌+◌, ◌<◌, ◌^◌};
-ghost use Rattle.lay_cascade.specs.Specificity.{counted, specificity_of, is_less_specific};
+ghost use Rattle.lay_cascade.specs.Specificity.{counted, specificity_of};
 
 use lay_sheet::{Selector, Simple};
 
@@ -11,21 +11,6 @@ pub struct Specificity {
     pub labels: usize,
     pub classes: usize,
     pub tags: usize,
-}
-
-impl Specificity {
-    /// Whether the other one counts more.
-    pub fn is_less(self, other: Specificity) -> bool
-        ensures { result ≡ is_less_specific self other }
-    {
-        if self.labels != other.labels {
-            return self.labels < other.labels;
-        }
-        if self.classes != other.classes {
-            return self.classes < other.classes;
-        }
-        self.tags < other.tags
-    }
 }
 
 fn counted(simple: &Simple, before: Specificity) -> Specificity

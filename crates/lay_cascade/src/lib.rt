@@ -10,12 +10,15 @@
 
 mod class_sets;
 mod counts;
+mod fitting;
 mod forward;
 mod matching;
 mod names;
 pub mod node_names;
 mod siblings;
 pub mod styled;
+mod windows;
+mod words;
 
 pub use class_sets::{ClassSet, sets_of};
 pub use counts::{Specificity, specificity_of};

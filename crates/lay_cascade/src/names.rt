@@ -40,7 +40,7 @@ fn has_class(classes: &[Text], set: &ClassSet<'_>, name: &Name) -> bool
 }
 
 /// Whether a node with these names is what a simple selector asks for.
-fn fits(names: &Names, set: &ClassSet<'_>, simple: &Simple) -> bool
+pub(crate) fn fits(names: &Names, set: &ClassSet<'_>, simple: &Simple) -> bool
     requires { MaySetOf names.now.classes set.now }
     ensures { result ≡ fits names.now simple.now }
 {
@@ -61,7 +61,7 @@ pub(crate) fn fits_at(names: &[Names], sets: &[ClassSet<'_>], place: usize, simp
     fits(names_at(names, place), set_at(sets, place), simple)
 }
 
-fn set_at<'a, 'b>(sets: &'a [ClassSet<'b>], place: usize) -> &'a ClassSet<'b>
+pub(crate) fn set_at<'a, 'b>(sets: &'a [ClassSet<'b>], place: usize) -> &'a ClassSet<'b>
     requires { place < length sets.now }
     ensures { result.now ≡ slice_index_or sets.now place result.now }
 {
